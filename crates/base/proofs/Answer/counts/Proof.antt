@@ -1,0 +1,24 @@
+use Prim.Native.Nat.{ℕ, suc, _+_, _-_, _≤_, _<_}
+use mathlib.Core.Path.{_≡_, refl, sym, _∙_, ap}
+use native.Mathlib.Omega.{arith}
+use lib.ListN.{length, getD, set, length-set}
+use borrow.Author.Needs.{needs}
+use Rattle.base.proofs.Answer.counts.Statement.{statement}
+use Rattle.base.proofs.Answer.counts.Tie as tie
+use Rattle.base.proofs.Answer.counts.Reads as reads
+use Rattle.base.proofs.Answer.counts.Lts as lts
+
+enum-known-a : tie.Need-enum-known-a
+enum-known-a c = search needs
+
+enum-told : tie.Need-enum-told
+enum-told c = search needs
+
+returns : tie.Need-returns
+returns c = search needs
+
+returns-2 : tie.Need-returns-2
+returns-2 c = rw (c .enum-told .given .1)
+
+pub counts-spec : {M : Type 1} → statement M
+counts-spec = tie.close (tie.spec enum-known-a enum-told returns returns-2)

@@ -1,0 +1,104 @@
+-- The paper's number, place and counts for each case of an answer. Definitions only.
+use Prim.Native.Nat.{ℕ}
+use Rattle.base.specs.declared.OwnNumber.{OwnNumber}
+use Rattle.base.specs.declared.Place.{Place}
+use Rattle.base.specs.declared.Counts.{Counts}
+use Rattle.base.specs.declared.Refusal.{Refusal}
+use Rattle.base.specs.declared.Refusal.the-variants.{Rows, Lengths, Starts, Column, Order, NotFinite, EmptyRow, Repeated, NullPivot, LowerSlots, UpperSlots, ZeroPivot, Overflow, OtherStructure, BadFactors, FileLength, Block, FileShape}
+use Rattle.base.specs.declared.Found.{Found}
+use Rattle.base.specs.declared.Found.the-variants.{At, Nothing}
+use Rattle.base.specs.declared.Asked.{Asked}
+use Rattle.base.specs.declared.Asked.the-variants.{Pass, Stop}
+use Rattle.base.specs.declared.Answer.{Answer}
+use Rattle.base.specs.declared.Answer.the-variants.{Done, Refused}
+use Rattle.base.specs.declared.Ended.{Ended}
+use Rattle.base.specs.declared.Ended.the-variants.{Complete, Declined}
+use mathlib.Core.Bool.{Bool, true, false}
+
+-- "Questions, in order": the number of each
+abbrev pub numberOf : Refusal → ℕ
+numberOf Rows = 1
+numberOf Lengths = 2
+numberOf (Starts i) = 3
+numberOf (Column p) = 4
+numberOf (Order p) = 5
+numberOf (NotFinite p) = 6
+numberOf (EmptyRow i) = 7
+numberOf (Repeated i) = 8
+numberOf (NullPivot k) = 9
+numberOf (LowerSlots k) = 10
+numberOf (UpperSlots k) = 11
+numberOf (ZeroPivot k) = 12
+numberOf (Overflow k) = 13
+numberOf (OtherStructure k) = 14
+numberOf (BadFactors k) = 15
+numberOf FileLength = 16
+numberOf (Block p) = 17
+numberOf FileShape = 18
+
+-- "and a place (0 where none is named)"
+abbrev pub placeOf : Refusal → ℕ
+placeOf Rows = 0
+placeOf Lengths = 0
+placeOf (Starts i) = i .0
+placeOf (Column p) = p
+placeOf (Order p) = p
+placeOf (NotFinite p) = p
+placeOf (EmptyRow i) = i .0
+placeOf (Repeated i) = i .0
+placeOf (NullPivot k) = k .0
+placeOf (LowerSlots k) = k .0
+placeOf (UpperSlots k) = k .0
+placeOf (ZeroPivot k) = k .0
+placeOf (Overflow k) = k .0
+placeOf (OtherStructure k) = k .0
+placeOf (BadFactors k) = k .0
+placeOf FileLength = 0
+placeOf (Block p) = p
+placeOf FileShape = 0
+
+-- 0 for done
+abbrev pub numberOfAnswer : Answer → ℕ
+numberOfAnswer (Done c) = 0
+numberOfAnswer (Refused q) = numberOf q
+
+abbrev pub placeOfAnswer : Answer → ℕ
+placeOfAnswer (Done c) = 0
+placeOfAnswer (Refused q) = placeOf q
+
+-- "its counts are then 0"
+abbrev pub countsOf : Answer → Counts
+countsOf (Done c) = c
+countsOf (Refused q) = record { lower = 0; upper = 0; products = 0 }
+
+abbrev pub numberOfEnd : Ended → ℕ
+numberOfEnd Complete = 0
+numberOfEnd (Declined q) = numberOf q
+
+abbrev pub placeOfEnd : Ended → ℕ
+placeOfEnd Complete = 0
+placeOfEnd (Declined q) = placeOf q
+
+-- an own number, and an elimination place
+abbrev pub own : ℕ → OwnNumber
+own i = record { 0 = i }
+
+abbrev pub spot : ℕ → Place
+spot k = record { 0 = k }
+
+-- ---- questions one after another
+
+-- a test that must hold
+abbrev pub holds : Bool → Refusal → Asked
+holds true q = Pass
+holds false q = Stop q
+
+-- a fault that must not be found, refused by where it is
+abbrev pub absent : Found → (ℕ → Refusal) → Asked
+absent (At k) f = Stop (f k)
+absent Nothing f = Pass
+
+-- "A 'no' ends the call": the first question, and then the second
+abbrev pub andThen : Asked → Asked → Asked
+andThen (Stop q) next = Stop q
+andThen Pass next = next

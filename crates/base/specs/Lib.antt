@@ -1,0 +1,9 @@
+pub mod Lists
+pub mod First
+pub mod All
+pub mod Answers
+pub mod Tests
+pub mod AscLaws
+pub mod TableLaws
+pub mod ZerosLaws
+pub mod FirstLaws

@@ -1,0 +1,239 @@
+// The words in which every call answers, and the clearing of lent buffers.
+ghost use mathlib.Core.Path.{_≡_};
+ghost use lib.Ieee.Scale.{finite};
+ghost use Rattle.base.specs.Lists.{blank, nought};
+ghost use Rattle.base.specs.Answers.{numberOf, placeOf, numberOfAnswer, placeOfAnswer, countsOf, numberOfEnd, placeOfEnd};
+
+// The first index at which a test holds, or none.
+pub enum Found {
+    At(usize),
+    Nothing,
+}
+
+// A row or a column by its own number in the matrix.
+pub struct OwnNumber(pub u32);
+
+// A place in the elimination's order.
+pub struct Place(pub u32);
+
+// Filled positions below and above the diagonal, and products.
+pub struct Counts {
+    pub lower: u64,
+    pub upper: u64,
+    pub products: u64,
+}
+
+// The two sides of the diagonal.
+pub enum Side {
+    Lower,
+    Upper,
+}
+
+// The three ways to store structure and factors.
+pub enum Form {
+    Plain,
+    Shared,
+    ByRow,
+}
+
+// Row k's sum, reciprocal pivot and y, which go from step to step of its elimination.
+pub struct RowSums {
+    pub sum: f64,
+    pub reciprocal: f64,
+    pub y: f64,
+}
+
+// A question answered with no, in the order of the questions, and where.
+pub enum Refusal {
+    Rows,
+    Lengths,
+    Starts(OwnNumber),
+    Column(u32),
+    Order(u32),
+    NotFinite(u32),
+    EmptyRow(OwnNumber),
+    Repeated(OwnNumber),
+    NullPivot(Place),
+    LowerSlots(Place),
+    UpperSlots(Place),
+    ZeroPivot(Place),
+    Overflow(Place),
+    OtherStructure(Place),
+    BadFactors(Place),
+    FileLength,
+    Block(u32),
+    FileShape,
+}
+
+// What a question, or a run of questions, answers.
+pub enum Asked {
+    Pass,
+    Stop(Refusal),
+}
+
+// How a structure call or a solve ends.
+pub enum Answer {
+    Done(Counts),
+    Refused(Refusal),
+}
+
+// How a call without counts ends.
+pub enum Ended {
+    Complete,
+    Declined(Refusal),
+}
+
+impl Refusal {
+    // The paper's number.
+    pub fn number(self) -> u32
+        ensures { λ r. ⌜ r ≡ numberOf self ⌝ }
+    {
+        let q = self;
+        match q {
+            Refusal::Rows => 1,
+            Refusal::Lengths => 2,
+            Refusal::Starts(_) => 3,
+            Refusal::Column(_) => 4,
+            Refusal::Order(_) => 5,
+            Refusal::NotFinite(_) => 6,
+            Refusal::EmptyRow(_) => 7,
+            Refusal::Repeated(_) => 8,
+            Refusal::NullPivot(_) => 9,
+            Refusal::LowerSlots(_) => 10,
+            Refusal::UpperSlots(_) => 11,
+            Refusal::ZeroPivot(_) => 12,
+            Refusal::Overflow(_) => 13,
+            Refusal::OtherStructure(_) => 14,
+            Refusal::BadFactors(_) => 15,
+            Refusal::FileLength => 16,
+            Refusal::Block(_) => 17,
+            Refusal::FileShape => 18,
+        }
+    }
+
+    // The paper's place, 0 where it names none.
+    pub fn place(self) -> u32
+        ensures { λ r. ⌜ r ≡ placeOf self ⌝ }
+    {
+        let q = self;
+        match q {
+            Refusal::Rows => 0,
+            Refusal::Lengths => 0,
+            Refusal::Starts(i) => i.0,
+            Refusal::Column(p) => p,
+            Refusal::Order(p) => p,
+            Refusal::NotFinite(p) => p,
+            Refusal::EmptyRow(i) => i.0,
+            Refusal::Repeated(i) => i.0,
+            Refusal::NullPivot(k) => k.0,
+            Refusal::LowerSlots(k) => k.0,
+            Refusal::UpperSlots(k) => k.0,
+            Refusal::ZeroPivot(k) => k.0,
+            Refusal::Overflow(k) => k.0,
+            Refusal::OtherStructure(k) => k.0,
+            Refusal::BadFactors(k) => k.0,
+            Refusal::FileLength => 0,
+            Refusal::Block(p) => p,
+            Refusal::FileShape => 0,
+        }
+    }
+}
+
+impl Answer {
+    // 0 for done, else the refusal's number.
+    pub fn number(self) -> u32
+        ensures { λ r. ⌜ r ≡ numberOfAnswer self ⌝ }
+    {
+        let a = self;
+        match a {
+            Answer::Done(_) => 0,
+            Answer::Refused(q) => q.number(),
+        }
+    }
+
+    pub fn place(self) -> u32
+        ensures { λ r. ⌜ r ≡ placeOfAnswer self ⌝ }
+    {
+        let a = self;
+        match a {
+            Answer::Done(_) => 0,
+            Answer::Refused(q) => q.place(),
+        }
+    }
+
+    // The counts, 0 after a refusal.
+    pub fn counts(self) -> Counts
+        ensures { λ r. ⌜ r ≡ countsOf self ⌝ }
+    {
+        let a = self;
+        match a {
+            Answer::Done(c) => c,
+            Answer::Refused(_) => Counts {
+                lower: 0,
+                upper: 0,
+                products: 0,
+            },
+        }
+    }
+}
+
+impl Ended {
+    // 0 for complete, else the refusal's number.
+    pub fn number(self) -> u32
+        ensures { λ r. ⌜ r ≡ numberOfEnd self ⌝ }
+    {
+        let a = self;
+        match a {
+            Ended::Complete => 0,
+            Ended::Declined(q) => q.number(),
+        }
+    }
+
+    pub fn place(self) -> u32
+        ensures { λ r. ⌜ r ≡ placeOfEnd self ⌝ }
+    {
+        let a = self;
+        match a {
+            Ended::Complete => 0,
+            Ended::Declined(q) => q.place(),
+        }
+    }
+}
+
+// Whether x is neither a NaN nor an infinity: the difference of these with themselves is a NaN.
+pub fn is_finite(x: f64) -> bool
+    ensures { λ r. ⌜ r ≡ finite x ⌝ }
+{
+    x - x == 0.0
+}
+
+pub fn clear_u16(s: &mut [u16])
+    ensures { λ _. ⌜ now (s .exit) ≡ blank 0 (now (s .entry)) ⌝ }
+{
+    let mut i = 0;
+    while i < s.len() {
+        s[i] = 0;
+        i += 1;
+    }
+}
+
+pub fn clear_u32(s: &mut [u32])
+    ensures { λ _. ⌜ now (s .exit) ≡ blank 0 (now (s .entry)) ⌝ }
+{
+    let mut i = 0;
+    while i < s.len() {
+        s[i] = 0;
+        i += 1;
+    }
+}
+
+// +0 in every slot.
+pub fn clear_f64(s: &mut [f64])
+    ensures { λ _. ⌜ now (s .exit) ≡ blank nought (now (s .entry)) ⌝ }
+{
+    let mut i = 0;
+    while i < s.len() {
+        s[i] = 0.0;
+        i += 1;
+    }
+}
