@@ -1,0 +1,6 @@
+pub mod Fill
+pub mod Walks
+pub mod RowRule
+pub mod ListLaws
+pub mod Prune
+pub mod Chain
