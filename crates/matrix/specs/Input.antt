@@ -1,0 +1,66 @@
+-- What is lent and only read, and M': M with its rows and columns at their elimination places. Definitions only.
+use Prim.Native.Nat.{ℕ}
+use mathlib.Core.Bool.{Bool}
+use mathlib.Core.List.{List, map}
+use lib.ListN.{getD}
+use lib.Dec.{eqb}
+use lib.Ieee.{Float, nan}
+use Rattle.fill.specs.Fill.{Pattern}
+use Rattle.base.specs.Lists.{has, table, rowOf, pairs}
+use Rattle.base.specs.First.{first}
+use Rattle.base.specs.declared.Found.{Found}
+use Rattle.base.specs.declared.Found.the-variants.{At, Nothing}
+use Rattle.base.specs.declared.OwnNumber.{OwnNumber}
+use Rattle.base.specs.declared.Place.{Place}
+
+-- a matrix, its orders and a right side
+pub record Input : Type 0 where
+  pub n : ℕ
+  pub starts : List ℕ
+  pub columns : List ℕ
+  pub values : List Float
+  pub r : List ℕ
+  pub c : List ℕ
+  pub b : List Float
+
+-- the input as a call is lent it
+abbrev pub inputOf : ℕ → List ℕ → List ℕ → List Float → List ℕ → List ℕ → List Float → Input
+inputOf n s j v r c b = record { n = n; starts = s; columns = j; values = v; r = r; c = c; b = b }
+
+-- "Row order r: place k takes own row r(k)": an own number from a place, by an order
+abbrev pub ownAt : List ℕ → Place → OwnNumber
+ownAt order k = record { 0 = getD order (k .0) 0 }
+
+-- a place from an own number, by the inverse of an order
+abbrev pub placeAt : List ℕ → OwnNumber → Place
+placeAt inverse j = record { 0 = getD inverse (j .0) 0 }
+
+-- the order has v at index j
+unfoldable pub isOf : List ℕ → ℕ → ℕ → Bool
+isOf o v j = eqb (getD o j 0) v
+
+-- an index, and 0 for none
+abbrev pub indexOf : Found → ℕ
+indexOf (At k) = k
+indexOf Nothing = 0
+
+-- "inverse ic: ic(c(k)) = k": the place at which the order has j
+unfoldable pub ic : List ℕ → ℕ → ℕ → ℕ
+ic o n j = indexOf (first (isOf o j) n)
+
+-- "M' is M with entry (k, ic(j)) where M has (r(k), j)": M' has (k, p) where M has (r(k), c(p))
+unfoldable pub stored : Input → Pattern
+stored i k p = has (rowOf (i .starts) (i .columns) (getD (i .r) k 0)) (getD (i .c) p 0)
+
+-- row k of M' in stored order: place and value of each entry
+unfoldable pub entries : Input → ℕ → List (ℕ × Float)
+entries i k =
+    pairs (map (ic (i .c) (i .n)) (rowOf (i .starts) (i .columns) (getD (i .r) k 0))) (rowOf (i .starts) (i .values) (getD (i .r) k 0))
+
+-- b(r(k))
+unfoldable pub rightAt : Input → ℕ → Float
+rightAt i k = getD (i .b) (getD (i .r) k 0) nan
+
+-- "x(c(k)) = t": z by own column
+unfoldable pub ownOrder : List ℕ → ℕ → List Float → List Float
+ownOrder c n z = table (λ j. getD z (ic c n j) nan) n

@@ -1,0 +1,4 @@
+pub mod Limits
+pub mod Input
+pub mod Questions
+pub mod OrderLaws

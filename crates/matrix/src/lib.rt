@@ -1,0 +1,46 @@
+// The matrix type: its limits, and the shape of a matrix within them.
+ghost use mathlib.Core.Path.{_≡_};
+ghost use Rattle.matrix.specs.Limits.{shapeOf, maxRows, maxEntries, maxSlots};
+
+use base::Refusal;
+
+// The shape of a matrix: its rows and its entries.
+pub struct Matrix {
+    pub rows: usize,
+    pub entries: usize,
+}
+
+// A shape within the limits, or why not.
+pub enum Shaped {
+    Shape(Matrix),
+    Unshaped(Refusal),
+}
+
+// The greatest n, e and number of slots of a store.
+pub struct Limits(pub usize, pub usize, pub usize);
+
+impl Matrix {
+    pub const MAX_ROWS: usize = 4096;
+    pub const MAX_ENTRIES: usize = 65536;
+    pub const MAX_SLOTS: usize = 1048576;
+
+    // The shape of n rows and e entries: refusal 1 for n, 2 for e.
+    pub fn new(n: usize, e: usize) -> Shaped
+        ensures { λ r. ⌜ r ≡ shapeOf n e ⌝ }
+    {
+        if (1 <= n) & (n <= Self::MAX_ROWS) {
+            if e <= Self::MAX_ENTRIES {
+                return Shaped::Shape(Matrix { rows: n, entries: e });
+            }
+            return Shaped::Unshaped(Refusal::Lengths);
+        }
+        Shaped::Unshaped(Refusal::Rows)
+    }
+
+    // The constants are those that the definitions name.
+    pub fn limits() -> Limits
+        ensures { λ r. ⌜ (r .0 ≡ maxRows) × (r .1 ≡ maxEntries) × (r .2 ≡ maxSlots) ⌝ }
+    {
+        Limits(Self::MAX_ROWS, Self::MAX_ENTRIES, Self::MAX_SLOTS)
+    }
+}
