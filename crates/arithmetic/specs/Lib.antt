@@ -1,0 +1,6 @@
+pub mod Arith
+pub mod Listing
+pub mod RowEnd
+pub mod ListingLaws
+pub mod Factors
+pub mod Sticky
