@@ -1,4 +1,5 @@
 pub mod Arith
+pub mod Again
 pub mod Listing
 pub mod RowEnd
 pub mod ListingLaws

@@ -1,0 +1,6 @@
+pub mod Forms
+pub mod Buffers
+pub mod Structure
+pub mod Solve
+pub mod Refactor
+pub mod Resolve
