@@ -24,9 +24,9 @@ use Rattle.base.specs.declared.Asked.the-variants.{Pass, Stop}
 use Rattle.base.specs.declared.Ended.{Ended}
 use Rattle.base.specs.declared.Ended.the-variants.{Complete, Declined}
 use Rattle.outcome.specs.Forms.{listsOf, placedTo, valueNeed}
-use Rattle.outcome.specs.Buffers.{SideBuffers, sideBuffers, Buffers, allBuffers, Sizes, sizes, buffersOf, matrixTests, bufferTests, askShape, scratchCleared, Outcome, ended, stop}
+use Rattle.outcome.specs.Buffers.{SideBuffers, sideBuffers, Buffers, allBuffers, Sizes, sizes, buffersOf, scratchCleared, Outcome, ended, stop}
 use Rattle.outcome.specs.Structure.{askPlace}
-use Rattle.outcome.specs.Solve.{listed, faultOf, valuesKept, pivotsKept}
+use Rattle.outcome.specs.Solve.{shape, listed, faultOf, valuesKept, pivotsKept}
 
 -- two lists are equal
 unfoldable pub same : List ℕ → List ℕ → Bool
@@ -83,7 +83,7 @@ refactored f i s (met q) = ended (Declined (faultOf q)) (emptied s)
 -- refactor: 1 to 8, 14, then 12 and 13
 unfoldable pub refactor : Form → Input → Buffers → Outcome Ended
 refactor f i s =
-    stop Declined (askShape (i .n) (matrixTests i ++ bufferTests f (i .n) (sizes s))) s
+    stop Declined (shape f i (sizes s)) s
     (stop Declined (askSolve i) (scratchCleared s)
     (stop Declined (askPresented f (stored i) (i .n) s) (scratchCleared s)
     (refactored f i s (listed i))))

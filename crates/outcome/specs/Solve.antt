@@ -4,7 +4,7 @@ use Prim.Native.Nat.{ℕ}
 use lib.ListN.{getD, replicate}
 use lib.Ieee.{Float, nan}
 use Rattle.base.specs.Lists.{table, joined, nought}
-use Rattle.base.specs.Answers.{spot}
+use Rattle.base.specs.Answers.{spot, andThen}
 use Rattle.fill.specs.Fill.{Pattern, upperRow, lowerRow, flip}
 use Rattle.placement.specs.Placing.{firstAt}
 use Rattle.matrix.specs.Input.{Input, stored, entries, rightAt, ownOrder}
@@ -16,6 +16,7 @@ use Rattle.base.specs.declared.Side.{Side}
 use Rattle.base.specs.declared.Side.the-variants.{Lower, Upper}
 use Rattle.base.specs.declared.Refusal.{Refusal}
 use Rattle.base.specs.declared.Refusal.the-variants.{ZeroPivot, Overflow}
+use Rattle.base.specs.declared.Asked.{Asked}
 use Rattle.base.specs.declared.Answer.{Answer}
 use Rattle.base.specs.declared.Answer.the-variants.{Done, Refused}
 use Rattle.outcome.specs.Buffers.{Buffers, allBuffers, Sizes, sizes, matrixTests, bufferTests, askShape, scratchCleared, cleared, Outcome, ended, stop}
@@ -78,10 +79,18 @@ abbrev pub concluded : Form → Input → Sizes → List Float → Out Result �
 concluded f i z x (ok a) = ended (Done (counts i)) (left f i z a)
 concluded f i z x (met q) = ended (Refused (faultOf q)) (cleared z x)
 
+-- questions 1 and 2
+unfoldable pub shape : Form → Input → Sizes → Asked
+shape f i z = askShape (i .n) (matrixTests i ++ bufferTests f (i .n) z)
+
+-- "Earlier questions are those before 9"
+abbrev pub earlier : Form → Input → Sizes → Asked
+earlier f i z = andThen (shape f i z) (askSolve i)
+
 -- the solve in a form
 unfoldable pub solve : Form → Input → Buffers → Outcome Answer
 solve f i s =
-    stop Refused (askShape (i .n) (matrixTests i ++ bufferTests f (i .n) (sizes s))) s
+    stop Refused (shape f i (sizes s)) s
     (stop Refused (askSolve i) (scratchCleared s)
     (stop Refused (askPlaces f (stored i) (i .n) (sizes s) (i .n)) (cleared (sizes s) (s .x))
     (concluded f i (sizes s) (s .x) (listed i))))

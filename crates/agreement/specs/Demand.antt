@@ -1,0 +1,97 @@
+-- Demand 3 in words, as types: what the three solves owe each other and the paper.
+use mathlib.Core.Path.{_≡_}
+use mathlib.Core.Bool.{true}
+use mathlib.Core.Logic.{_⊎_, _↔_}
+use mathlib.Core.List.{List}
+use Prim.Native.Nat.{ℕ, suc, _≤_, _<_}
+use lib.Ieee.{Float}
+use Rattle.fill.specs.Fill.{Walk}
+use Rattle.base.specs.All.{all}
+use Rattle.base.specs.Answers.{numberOfAnswer, placeOfAnswer, countsOf}
+use Rattle.arithmetic.specs.Arith.{Fault, zeroPivot, overflow, Result}
+use Rattle.arithmetic.specs.Listing.{Event, Meets, wholeRun}
+use Rattle.matrix.specs.Input.{Input, stored, ownOrder}
+use Rattle.outcome.specs.Forms.{indexNeed, valueNeed}
+use Rattle.outcome.specs.Buffers.{Buffers, sizes, sideOf, bufferTests, Outcome}
+use Rattle.outcome.specs.Structure.{counts}
+use Rattle.outcome.specs.Solve.{system, earlier, solve}
+use Rattle.base.specs.declared.Form.{Form}
+use Rattle.base.specs.declared.Side.{Side}
+use Rattle.base.specs.declared.Asked.{Asked}
+use Rattle.base.specs.declared.Asked.the-variants.{Pass, Stop}
+use Rattle.base.specs.declared.Refusal.{Refusal}
+use Rattle.base.specs.declared.Answer.{Answer}
+use Rattle.base.specs.declared.Answer.the-variants.{Refused}
+
+-- "a walk back is one from k to k as under Fill"
+abbrev pub WalkBack : Input → ℕ → Type 0
+WalkBack i k = Walk (stored i) k k k
+
+-- the first place with no walk back to itself
+pub record FirstNull (i : Input) (k : ℕ) : Type 0 where
+  pub below : k < i .n
+  pub none : WalkBack i k → ⊥
+  pub before : (j : ℕ) → j < k → WalkBack i j
+
+-- every place has a walk back to itself
+abbrev pub AllBack : Input → Type 0
+AllBack i = (k : ℕ) → k < i .n → WalkBack i k
+
+-- the listed operations: every rounded operation's result and every pivot asked for, each with its place, in the order listed, back steps included
+unfoldable pub operations : Input → List Event
+operations i = wholeRun (system i) .events
+
+-- the factors and z that they come to
+unfoldable pub result : Input → Result
+result i = wholeRun (system i) .value
+
+-- "all buffers besides matrix, orders and b are of the stated lengths, no store over its limit; store lengths may differ from form to form"
+unfoldable pub Stated : Form → Input → Buffers → Type 0
+Stated f i s = all (bufferTests f (i .n) (sizes s)) ≡ true
+
+-- "its lists of places 0 to k on a side, placed its way, need more slots than that side's index or value store has"
+abbrev pub Lacks : Form → Input → Buffers → Side → ℕ → Type 0
+Lacks f i s side k =
+    (sideOf side (sizes s) .index < indexNeed f side (stored i) (i .n) (suc k))
+    ⊎ (sideOf side (sizes s) .values < valueNeed f side (stored i) (i .n) (suc k))
+
+-- "A form is short of slots exactly when the earlier questions are passed and, for some k with (0, 0) to (k, k) all filled, its lists .."
+pub record Short (f : Form) (i : Input) (s : Buffers) : Type 0 where
+  pub passed : earlier f i (sizes s) ≡ Pass
+  pub k : ℕ
+  pub below : k < i .n
+  pub filled : (j : ℕ) → j ≤ k → WalkBack i j
+  pub side : Side
+  pub lacks : Lacks f i s side k
+
+-- "answer alike: the same solution bits .. with the same three counts, or the same refusal number at the same place"
+pub record Alike (a b : Outcome Answer) : Type 0 where
+  pub same-number : numberOfAnswer (a .answer) ≡ numberOfAnswer (b .answer)
+  pub same-place : placeOfAnswer (a .answer) ≡ placeOfAnswer (b .answer)
+  pub same-counts : countsOf (a .answer) ≡ countsOf (b .answer)
+  pub same-bits : numberOfAnswer (a .answer) ≡ 0 → a .buffers .x ≡ b .buffers .x
+
+-- "Once the paper's earlier questions are passed, the answer is .."
+pub record Told (i : Input) (o : Outcome Answer) : Type 0 where
+  -- ".. null pivot exactly when some place has no such walk back to itself,"
+  pub null : (numberOfAnswer (o .answer) ≡ 9) ↔ ((k : ℕ) × (k < i .n) × (WalkBack i k → ⊥))
+  -- "at the first such place;"
+  pub null-first : numberOfAnswer (o .answer) ≡ 9 → FirstNull i (placeOfAnswer (o .answer))
+  -- "failing that, zero pivot or overflow exactly when the listed operations meet one, whichever they meet first and at the place where they do;"
+  pub zero : (k : ℕ) → ((numberOfAnswer (o .answer) ≡ 12) × (placeOfAnswer (o .answer) ≡ k)) ↔ (AllBack i × Meets (operations i) (zeroPivot k))
+  pub over : (k : ℕ) → ((numberOfAnswer (o .answer) ≡ 13) × (placeOfAnswer (o .answer) ≡ k)) ↔ (AllBack i × Meets (operations i) (overflow k))
+  -- "and failing that, a solution."
+  pub solution : (numberOfAnswer (o .answer) ≡ 0) ↔ (AllBack i × ((q : Fault) → Meets (operations i) q → ⊥))
+  -- "the same solution bits, those of demand 2, with the same three counts, .. those the paper defines"
+  pub bits : numberOfAnswer (o .answer) ≡ 0 → o .buffers .x ≡ ownOrder (i .c) (i .n) (result i .z)
+  pub counted : numberOfAnswer (o .answer) ≡ 0 → countsOf (o .answer) ≡ counts i
+
+-- Demand 3, of a matrix with its orders and right side, and of the buffers lent to each form
+pub record Demand3 (i : Input) (s : Form → Buffers) : Type 0 where
+  -- "the solves in the plain, shared and row-at-a-time forms .. answer alike"
+  pub alike : (f g : Form) → Alike (solve f i (s f)) (solve g i (s g))
+  -- an earlier question that is answered no is the answer; the forms put the same ones
+  pub early : (f : Form) (q : Refusal) → earlier f i (sizes (s f)) ≡ Stop q → solve f i (s f) .answer ≡ Refused q
+  pub asked : (f g : Form) → earlier f i (sizes (s f)) ≡ earlier g i (sizes (s g))
+  -- "Once the paper's earlier questions are passed, .."
+  pub told : (f : Form) → earlier f i (sizes (s f)) ≡ Pass → Told i (solve f i (s f))

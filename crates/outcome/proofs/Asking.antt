@@ -1,0 +1,95 @@
+-- Laws of questions: what a pass and a stop tell, and the numbers that a run of questions can give.
+use mathlib.Core.Path.{_≡_, refl, sym, ap, _∙_}
+use mathlib.Core.Bool.{Bool, true, false, _&&_}
+use mathlib.Core.List.{List, [], _∷_, _++_}
+use Prim.Native.Nat.{ℕ, zero, suc, _+_, _≤_, _<_}
+use native.Mathlib.Omega.{arith}
+use Rattle.base.specs.Answers.{numberOf, holds, absent, andThen}
+use Rattle.base.specs.All.{all, allWith}
+use Rattle.base.specs.declared.Found.{Found}
+use Rattle.base.specs.declared.Found.the-variants.{At, Nothing}
+use Rattle.base.specs.declared.Refusal.{Refusal}
+use Rattle.base.specs.declared.Refusal.the-variants.{Rows, Lengths, Starts, Column, Order, NotFinite, EmptyRow, Repeated, NullPivot, LowerSlots, UpperSlots, ZeroPivot, Overflow, OtherStructure, BadFactors, FileLength, Block, FileShape}
+use Rattle.base.specs.declared.Asked.{Asked}
+use Rattle.base.specs.declared.Asked.the-variants.{Pass, Stop}
+
+pub stop-pass : (q : Refusal) → Stop q ≡ Pass → ⊥
+stop-pass q e = let z : _≡_ {A = ℕ} 0 1 = cc in omega arith
+
+pub stop-inj : (q r : Refusal) → Stop q ≡ Stop r → q ≡ r
+stop-inj q r e = cc
+
+pub holds-pass : (b : Bool) (q : Refusal) → holds b q ≡ Pass → b ≡ true
+holds-pass true q e = refl
+holds-pass false q e = absurd (stop-pass q e)
+
+pub then-pass : (a b : Asked) → andThen a b ≡ Pass → (a ≡ Pass) × (b ≡ Pass)
+then-pass (Stop q) b e = absurd (stop-pass q e)
+then-pass Pass b e = (refl, e)
+
+-- no refusal has the number 0
+pub number-some : (q : Refusal) → numberOf q ≡ 0 → ⊥
+number-some Rows e = omega arith
+number-some Lengths e = omega arith
+number-some (Starts i) e = omega arith
+number-some (Column i) e = omega arith
+number-some (Order i) e = omega arith
+number-some (NotFinite i) e = omega arith
+number-some (EmptyRow i) e = omega arith
+number-some (Repeated i) e = omega arith
+number-some (NullPivot i) e = omega arith
+number-some (LowerSlots i) e = omega arith
+number-some (UpperSlots i) e = omega arith
+number-some (ZeroPivot i) e = omega arith
+number-some (Overflow i) e = omega arith
+number-some (OtherStructure i) e = omega arith
+number-some (BadFactors i) e = omega arith
+number-some FileLength e = omega arith
+number-some (Block i) e = omega arith
+number-some FileShape e = omega arith
+
+-- every refusal's number is between lo and hi
+unfoldable pub Within : ℕ → ℕ → Asked → Type 0
+Within lo hi a = (q : Refusal) → a ≡ Stop q → (lo ≤ numberOf q) × (numberOf q ≤ hi)
+
+pub within-wide : (lo hi lo′ hi′ : ℕ) (a : Asked) → lo′ ≤ lo → hi ≤ hi′ → Within lo hi a → Within lo′ hi′ a
+unfolding Within
+within-wide lo hi lo′ hi′ a l h w q e = let b = w q e in (omega arith, omega arith)
+
+module _ (lo hi : ℕ) where
+  pub within-pass : Within lo hi Pass
+  unfolding Within
+  within-pass q e = absurd (stop-pass q (sym e))
+
+  pub within-stop : (r : Refusal) → lo ≤ numberOf r → numberOf r ≤ hi → Within lo hi (Stop r)
+  unfolding Within
+  within-stop r l h q e = rw (← stop-inj r q e) (l, h)
+
+  pub within-holds : (b : Bool) (r : Refusal) → lo ≤ numberOf r → numberOf r ≤ hi → Within lo hi (holds b r)
+  within-holds true r l h = within-pass
+  within-holds false r l h = within-stop r l h
+
+  pub within-absent : (o : Found) (f : ℕ → Refusal) → ((k : ℕ) → lo ≤ numberOf (f k)) → ((k : ℕ) → numberOf (f k) ≤ hi) → Within lo hi (absent o f)
+  within-absent (At k) f l h = within-stop (f k) (l k) (h k)
+  within-absent Nothing f l h = within-pass
+
+  pub within-then : (a b : Asked) → Within lo hi a → Within lo hi b → Within lo hi (andThen a b)
+  within-then (Stop q) b h g = h
+  within-then Pass b h g = g
+
+-- ---- tests that hold drop out of a list of tests
+
+with-append : (t : Bool) (a b : List Bool) → allWith t (a ++ b) ≡ allWith (allWith t a) b
+with-append t [] b = refl
+with-append t (x ∷ a) b = with-append (t && x) a b
+
+with-false : (b : List Bool) → allWith false b ≡ false
+with-false [] = refl
+with-false (x ∷ b) = with-false b
+
+with-true : (t : Bool) (b : List Bool) → all b ≡ true → allWith t b ≡ t
+with-true true b e = e
+with-true false b e = with-false b
+
+pub all-append : (a b : List Bool) → all b ≡ true → all (a ++ b) ≡ all a
+all-append a b e = with-append true a b ∙ with-true (all a) b e
