@@ -8,13 +8,13 @@ use native.Mathlib.Omega.{arith}
 use native.Mathlib.Decide.{decLt}
 use lib.ListN.{length, drop, length-append, length-drop}
 use lib.Dec.{leb}
+use Rattle.base.specs.declared.Side.the-variants.{Lower, Upper}
 use borrow.Author.Tests.{le-leb}
 use Rattle.fill.specs.Fill.{Pattern, flip, upperRow, lowerRow, lowerColumn, upper}
 use Rattle.base.specs.Lists.{sum}
 use Rattle.base.specs.AscLaws.{sum-ext}
 use Rattle.fill.specs.ListLaws.{lower-is-upper, lower-rows-columns}
-use Rattle.placement.specs.Placing.{Way, plain, shared, appendAll, State, placed, startOf, planAt}
-use Rattle.arithmetic.specs.Sticky.{after}
+use Rattle.placement.specs.Placing.{Way, plain, shared, appendAll, State, placed, startOf, planAt, after}
 use Rattle.matrix.specs.Input.{Input, stored}
 use Rattle.outcome.specs.Structure.{counts, fits}
 use Rattle.base.specs.declared.Form.{Form}
