@@ -1,0 +1,4 @@
+pub mod Boundary
+pub mod Vectors
+pub mod Limits
+pub mod Witness
