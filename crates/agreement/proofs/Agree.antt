@@ -54,7 +54,7 @@ null-found i k e =
     record {
       below = h .0;
       none = λ w. true≢false (sym (back→ i k w) ∙ not-false (filled (stored i) k k) (h .1));
-      before = λ j l. →back i j (not-true (filled (stored i) j j) (first-none (null (stored i)) k (h .2) j l))
+      before = λ j l. →back i j (not-true (filled (stored i) j j) (first-none (null (stored i)) k (h .2) j l));
     }
 
 null-none : (i : Input) → nulls i ≡ Nothing → AllBack i
@@ -77,6 +77,7 @@ answer-is f i s h room = solve-answer f i s ∙ go (earlier f i (sizes s)) refl
   where
     same : earlier f i (sizes s) ≡ ofMatrix i
     same = earlier-stated f i (sizes s) h
+
     go : (a : Asked) → earlier f i (sizes s) ≡ a → verdict (earlier f i (sizes s)) (askPlaces f (stored i) (i .n) (sizes s) (i .n)) (listed i) (counts i) ≡ expected i
     go (Stop q) e = rw (← same, e)
     go Pass e = rw (← same, e, only-null f (stored i) (i .n) (sizes s) (i .n) (fits-unless f i s room e))
@@ -96,7 +97,7 @@ alike f g i s t h k p q =
       same-bits = λ z.
           let a = solve-x f i s z in
           let b = solve-x g i t (ap numberOfAnswer (sym e) ∙ z) in
-          a .2 ∙ ap (λ (r : Result). ownOrder (i .c) (i .n) (r .z)) (ok-same (listed i) (a .0) (b .0) (a .1) (b .1)) ∙ sym (b .2)
+          a .2 ∙ ap (λ (r : Result). ownOrder (i .c) (i .n) (r .z)) (ok-same (listed i) (a .0) (b .0) (a .1) (b .1)) ∙ sym (b .2);
     }
 
 -- ---- what is told
@@ -136,7 +137,7 @@ module _ (i : Input) (o : Outcome Answer) where
         zero = λ j. (λ h. absurd (omega (arith, ap numberOfAnswer e, h .0)), λ h. absurd (n .none (h .0 k (n .below))));
         over = λ j. (λ h. absurd (omega (arith, ap numberOfAnswer e, h .0)), λ h. absurd (n .none (h .0 k (n .below))));
         solution = (λ h. absurd (omega (arith, ap numberOfAnswer e, h)), λ h. absurd (n .none (h .0 k (n .below))));
-        bits = λ h. absurd (omega (arith, ap numberOfAnswer e, h))
+        bits = λ h. absurd (omega (arith, ap numberOfAnswer e, h));
       }
 
   told-zero : (k : ℕ) → AllBack i → listed i ≡ met (zeroPivot k) → o .answer ≡ Refused (faultOf (zeroPivot k)) → Heard i o
@@ -147,7 +148,7 @@ module _ (i : Input) (o : Outcome Answer) where
         zero = λ j. (λ h. (all, l ∙ ap (λ (m : ℕ). met (zeroPivot m)) (sym (ap placeOfAnswer e) ∙ h .1)), λ h. (ap numberOfAnswer e, ap placeOfAnswer e ∙ met-zero k j (sym l ∙ h .1)));
         over = λ j. (λ h. absurd (omega (arith, ap numberOfAnswer e, h .0)), λ h. absurd (zero-over k j (sym l ∙ h .1)));
         solution = (λ h. absurd (omega (arith, ap numberOfAnswer e, h)), λ h. absurd (h .1 (zeroPivot k) l));
-        bits = λ h. absurd (omega (arith, ap numberOfAnswer e, h))
+        bits = λ h. absurd (omega (arith, ap numberOfAnswer e, h));
       }
 
   told-over : (k : ℕ) → AllBack i → listed i ≡ met (overflow k) → o .answer ≡ Refused (faultOf (overflow k)) → Heard i o
@@ -158,7 +159,7 @@ module _ (i : Input) (o : Outcome Answer) where
         zero = λ j. (λ h. absurd (omega (arith, ap numberOfAnswer e, h .0)), λ h. absurd (zero-over j k (sym (h .1) ∙ l)));
         over = λ j. (λ h. (all, l ∙ ap (λ (m : ℕ). met (overflow m)) (sym (ap placeOfAnswer e) ∙ h .1)), λ h. (ap numberOfAnswer e, ap placeOfAnswer e ∙ met-over k j (sym l ∙ h .1)));
         solution = (λ h. absurd (omega (arith, ap numberOfAnswer e, h)), λ h. absurd (h .1 (overflow k) l));
-        bits = λ h. absurd (omega (arith, ap numberOfAnswer e, h))
+        bits = λ h. absurd (omega (arith, ap numberOfAnswer e, h));
       }
 
   told-done : (a : Result) → AllBack i → listed i ≡ ok a → o .answer ≡ Done (counts i) → Held → Heard i o
@@ -169,7 +170,7 @@ module _ (i : Input) (o : Outcome Answer) where
         zero = λ j. (λ h. absurd (omega (arith, ap numberOfAnswer e, h .0)), λ h. absurd (ok-met a (zeroPivot j) (sym l ∙ h .1)));
         over = λ j. (λ h. absurd (omega (arith, ap numberOfAnswer e, h .0)), λ h. absurd (ok-met a (overflow j) (sym l ∙ h .1)));
         solution = (λ h. (all, λ q m. ok-met a q (sym l ∙ m)), λ h. ap numberOfAnswer e);
-        bits = λ h. (x h .0, x h .1, x h .2, ap countsOf e)
+        bits = λ h. (x h .0, x h .1, x h .2, ap countsOf e);
       }
 
   told-by : (f : Found) (l : Out Result) → nulls i ≡ f → listed i ≡ l → o .answer ≡ verdict Pass (absent f nullAt) l (counts i) → Held → Heard i o
@@ -201,15 +202,15 @@ heard-told i o h =
       over = λ k. join (h .over k) (and-both (listed-meets i (overflow k)));
       solution = join (h .solution) (and-both (λ n q m. n q (listed-meets i q .1 m), λ n q m. n q (listed-meets i q .0 m)));
       bits = λ e. let b = h .bits e in b .2 ∙ ap (λ (a : Result). ownOrder (i .c) (i .n) (a .z)) (sym (listed-result i (b .0) (b .1)));
-      counted = λ e. h .bits e .3
+      counted = λ e. h .bits e .3;
     }
 
 pub told : (f : Form) (i : Input) (s : Buffers) → Stated f i s → (Short f i s → ⊥) → earlier f i (sizes s) ≡ Pass → Told i (solve f i s)
 unfolding Stated
 told f i s h room p =
     heard-told i (solve f i s) (told-by i (solve f i s) (nulls i) (listed i) refl refl
-      (answer-is f i s h room ∙ ap (λ (a : Asked). verdict a (absent (nulls i) nullAt) (listed i) (counts i)) (sym (earlier-stated f i (sizes s) h) ∙ p))
-      (solve-x f i s))
+    (answer-is f i s h room ∙ ap (λ (a : Asked). verdict a (absent (nulls i) nullAt) (listed i) (counts i)) (sym (earlier-stated f i (sizes s) h) ∙ p))
+    (solve-x f i s))
 
 -- ---- short of slots
 
@@ -250,19 +251,25 @@ short-told f i s = (from, to)
   where
     is : Slots (solve f i s .answer) → Slots (verdict (earlier f i (sizes s)) (askPlaces f (stored i) (i .n) (sizes s) (i .n)) (listed i) (counts i))
     is h = subst Slots (solve-answer f i s) h
+
     short : earlier f i (sizes s) ≡ Pass → (q : Refusal) → ((numberOf q ≡ 10) ⊎ (numberOf q ≡ 11)) → (k : ℕ) → k < i .n → askPlaces f (stored i) (i .n) (sizes s) k ≡ Pass → Fails f (stored i) (i .n) (sizes s) k q → Short f i s
     short p q m k l g (unfilled u v) = absurd (number-null q k v m)
     short p q m k l g (lack u side v w) =
         record {
-          passed = p; k = k; below = l;
+          passed = p;
+          k = k;
+          below = l;
           filled = λ j a. elim (decLt j k) [ yes b ↦ →back i j (places-pass f (stored i) (i .n) (sizes s) k g j b .filled) | no b ↦ (let r : j ≡ k = omega arith in rw r (→back i k u)) ];
-          side = side; lacks = wants f (stored i) (i .n) (sizes s) side k v
+          side = side;
+          lacks = wants f (stored i) (i .n) (sizes s) side k v;
         }
+
     from : Slots (solve f i s .answer) → Short f i s
     from h =
         let a = slots-from (earlier f i (sizes s)) (askPlaces f (stored i) (i .n) (sizes s) (i .n)) (listed i) (counts i) (earlier-early f i (sizes s)) (is h) in
         let b = places-stop f (stored i) (i .n) (sizes s) (i .n) (a .1) (a .2) in
         short (a .0) (a .1) (a .3) (b .0) (b .1) (b .2) (b .3)
+
     to : Short f i s → Slots (solve f i s .answer)
     to h =
         let a = lack-stops f (stored i) (i .n) (sizes s) (i .n) (h .k) (h .below) (λ j l. back→ i j (h .filled j l)) (h .side) (wanting f (stored i) (i .n) (sizes s) (h .side) (h .k) (h .lacks)) in
@@ -281,7 +288,7 @@ demand-3 i s h room =
       alike = λ f g. alike f g i (s f) (s g) (h f) (h g) (room f) (room g);
       early = λ f q e. solve-answer f i (s f) ∙ early-told _ (askPlaces f (stored i) (i .n) (sizes (s f)) (i .n)) (listed i) (counts i) q e;
       asked = λ f g. earlier-stated f i (sizes (s f)) (h f) ∙ sym (earlier-stated g i (sizes (s g)) (h g));
-      told = λ f. told f i (s f) (h f) (room f)
+      told = λ f. told f i (s f) (h f) (room f);
     }
 
 -- ---- what the buffers held before does not count, only their lengths
@@ -289,9 +296,10 @@ demand-3 i s h room =
 pub forgets : (f : Form) (i : Input) (s t : Buffers) → sizes s ≡ sizes t
     → (solve f i s .answer ≡ solve f i t .answer) × (numberOfAnswer (solve f i s .answer) ≡ 0 → solve f i s .buffers ≡ solve f i t .buffers)
 forgets f i s t e =
-    let same = solve-answer f i s ∙ ap (λ (z : Sizes). verdict (earlier f i z) (askPlaces f (stored i) (i .n) z (i .n)) (listed i) (counts i)) e ∙ sym (solve-answer f i t) in
-    (same,
-     λ h.
-       let a = solve-left f i s h in
-       let b = solve-left f i t (ap numberOfAnswer (sym same) ∙ h) in
-       a .2 ∙ ap₂ (left f i) e (ok-same (listed i) (a .0) (b .0) (a .1) (b .1)) ∙ sym (b .2))
+    let same = solve-answer f i s ∙ ap (λ (z : Sizes). verdict (earlier f i z) (askPlaces f (stored i) (i .n) z (i .n)) (listed i) (counts i)) e ∙ sym (solve-answer f i t) in (
+      same,
+      λ h.
+          let a = solve-left f i s h in
+          let b = solve-left f i t (ap numberOfAnswer (sym same) ∙ h) in
+          a .2 ∙ ap₂ (left f i) e (ok-same (listed i) (a .0) (b .0) (a .1) (b .1)) ∙ sym (b .2),
+    )

@@ -76,8 +76,8 @@ module _ (P : Pattern) (n : ℕ) where
   unfolding fits
   row-fits z k =
       ap₂ (λ a b. a && b)
-        (le-leb (indexNeed ByRow Lower P n (suc k)) (z .lower .index) (omega (arith, index-le ByRow Lower (suc k), row-values (suc k))))
-        (le-leb (valueNeed ByRow Lower P n (suc k)) (z .lower .values) (omega (arith, row-values (suc k))))
+      (le-leb (indexNeed ByRow Lower P n (suc k)) (z .lower .index) (omega (arith, index-le ByRow Lower (suc k), row-values (suc k))))
+      (le-leb (valueNeed ByRow Lower P n (suc k)) (z .lower .values) (omega (arith, row-values (suc k))))
 
 -- the counts are what the value stores hold
 module _ (i : Input) where

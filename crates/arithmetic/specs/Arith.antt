@@ -11,7 +11,6 @@ use lib.Ieee.Scale.{finite}
 
 -- ---- an answer: a value, or what the operations met first, and the place at work
 infixl 20 _>>=_
-
 -- questions 12 and 13, the two that the arithmetic puts
 pub data Fault : Type 0 where
   zeroPivot : ℕ → Fault
@@ -56,10 +55,10 @@ less c v a b = c (mul binary64 a b) >>= λ p. c (sub binary64 v p)
 -- ---- the structure and the values, by elimination place
 pub record System : Type 0 where
   pub n : ℕ
-  pub lower : ℕ → List ℕ                -- lower row k
-  pub upper : ℕ → List ℕ                -- T(k)
-  pub entries : ℕ → List (ℕ × Float)    -- row k of M'
-  pub rhs : ℕ → Float                   -- b(r(k))
+  pub lower : ℕ → List ℕ  -- lower row k
+  pub upper : ℕ → List ℕ  -- T(k)
+  pub entries : ℕ → List (ℕ × Float)  -- row k of M'
+  pub rhs : ℕ → Float  -- b(r(k))
 
 -- what is kept of row k: L along lower row k, u along T(k)
 pub record Row : Type 0 where

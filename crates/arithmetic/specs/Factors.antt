@@ -71,10 +71,12 @@ LongTo S k rows = (length rows ≡ k) × ((j : ℕ) → j < k → Long S j (getD
 
 long-more : (S : System) (k : ℕ) (rows : List Row) (r : Row) → LongTo S k rows → Long S k r → LongTo S (suc k) (rows ++ (r ∷ []))
 long-more S k rows r h g = (
-    omega (arith, length-append rows (r ∷ []), h .0),
-    λ j l. elim (decLt j k) [
-      yes q ↦ rw (List·getD-append rows (r ∷ []) none j (omega (arith, h .0))) (h .1 j q)
-    | no q ↦ (let e : j ≡ k = omega arith in rw (e, getD-at rows r [] none k (h .0)) g) ])
+  omega (arith, length-append rows (r ∷ []), h .0),
+  λ j l. elim (decLt j k) [
+    | yes q ↦ rw (List·getD-append rows (r ∷ []) none j (omega (arith, h .0))) (h .1 j q)
+    | no q ↦ (let e : j ≡ k = omega arith in rw (e, getD-at rows r [] none k (h .0)) g)
+  ],
+)
 
 forward-length : (S : System) (f k : ℕ) (rows out : List Row) → forward S f k rows ≡ ok out → LongTo S k rows → LongTo S (k + f) out
 unfolding forward
@@ -93,4 +95,4 @@ solved-length S a e =
     let u = bind-ok (forward S (S .n) 0 []) (λ rows. back (given S rows) (S .n) (replicate (S .n) nought) >>= λ z. ok (record { rows = rows; z = z })) a e in
     let v = bind-ok (back (given S (u .0)) (S .n) (replicate (S .n) nought)) (λ z. ok (record { rows = u .0; z = z })) a (u .2) in
     long-cast S (0 + S .n) (S .n) (u .0) (a .rows) (omega arith) (ap (λ (b : Result). b .rows) (ok-inj _ _ (v .2)))
-      (forward-length S (S .n) 0 [] (u .0) (u .1) (refl, λ j l. absurd (omega arith)))
+    (forward-length S (S .n) 0 [] (u .0) (u .1) (refl, λ j l. absurd (omega arith)))

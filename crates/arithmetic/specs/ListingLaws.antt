@@ -54,17 +54,17 @@ judge-subtract k m [] us w = refl
 judge-subtract k m (j ∷ js) [] w = refl
 judge-subtract k m (j ∷ js) (u ∷ us) w =
     judge-then (lessRun k (getD w j nan) m u) (λ v. subtractRun k m js us (set w j v)) (less (at k) (getD w j nan) m u) (λ v. subtract (at k) m js us (set w j v))
-      (judge-less k (getD w j nan) m u) (λ v. judge-subtract k m js us (set w j v))
+    (judge-less k (getD w j nan) m u) (λ v. judge-subtract k m js us (set w j v))
 
 judge-step : (k : ℕ) (G : Given) (i : ℕ) (a : Work) → judge (stepRun k G i a) ≡ stepAt (at k) G i a
 unfolding stepRun stepAt
 judge-step k G i a =
     let m = getD (a .w) i nan in
     judge-then (lessRun k (a .s) m (G .y i)) (λ s. then (subtractRun k m (G .upper i) (G .u i) (a .w)) (λ w. give (record { l = a .l ++ (m ∷ []); w = w; s = s })))
-      (less (at k) (a .s) m (G .y i)) (λ s. subtract (at k) m (G .upper i) (G .u i) (a .w) >>= λ w. ok (record { l = a .l ++ (m ∷ []); w = w; s = s }))
-      (judge-less k (a .s) m (G .y i))
-      (λ s. judge-then (subtractRun k m (G .upper i) (G .u i) (a .w)) (λ w. give (record { l = a .l ++ (m ∷ []); w = w; s = s }))
-        (subtract (at k) m (G .upper i) (G .u i) (a .w)) (λ w. ok (record { l = a .l ++ (m ∷ []); w = w; s = s })) (judge-subtract k m (G .upper i) (G .u i) (a .w)) (λ w. refl))
+    (less (at k) (a .s) m (G .y i)) (λ s. subtract (at k) m (G .upper i) (G .u i) (a .w) >>= λ w. ok (record { l = a .l ++ (m ∷ []); w = w; s = s }))
+    (judge-less k (a .s) m (G .y i))
+    (λ s. judge-then (subtractRun k m (G .upper i) (G .u i) (a .w)) (λ w. give (record { l = a .l ++ (m ∷ []); w = w; s = s }))
+    (subtract (at k) m (G .upper i) (G .u i) (a .w)) (λ w. ok (record { l = a .l ++ (m ∷ []); w = w; s = s })) (judge-subtract k m (G .upper i) (G .u i) (a .w)) (λ w. refl))
 
 judge-steps : (k : ℕ) (G : Given) (is : List ℕ) (a : Work) → judge (stepsRun k G is a) ≡ steps (at k) G is a
 unfolding stepsRun steps
@@ -76,19 +76,19 @@ unfolding scaledRun scaled
 judge-scaled k d w [] = refl
 judge-scaled k d w (j ∷ js) =
     judge-then (op k (mul binary64 (getD w j nan) d)) (λ u. then (scaledRun k d w js) (λ us. give (u ∷ us))) (at k (mul binary64 (getD w j nan) d)) (λ u. scaled (at k) d w js >>= λ us. ok (u ∷ us))
-      (judge-op k (mul binary64 (getD w j nan) d)) (λ u. judge-then (scaledRun k d w js) (λ us. give (u ∷ us)) (scaled (at k) d w js) (λ us. ok (u ∷ us)) (judge-scaled k d w js) (λ us. refl))
+    (judge-op k (mul binary64 (getD w j nan) d)) (λ u. judge-then (scaledRun k d w js) (λ us. give (u ∷ us)) (scaled (at k) d w js) (λ us. ok (u ∷ us)) (judge-scaled k d w js) (λ us. refl))
 
 judge-finish : (k : ℕ) (above : List ℕ) (a : Work) → judge (finishRun k above a) ≡ finish (at k) k above a
 unfolding finishRun finish
 judge-finish k above a =
     judge-then (asked k (getD (a .w) k nan)) (λ p. then (op k (div binary64 one p)) (λ d. then (op k (mul binary64 (a .s) d)) (λ y. then (scaledRun k d (a .w) above) (λ u. give (record { l = a .l; d = d; y = y; u = u })))))
-      (pivot k (getD (a .w) k nan)) (λ p. at k (div binary64 one p) >>= λ d. at k (mul binary64 (a .s) d) >>= λ y. scaled (at k) d (a .w) above >>= λ u. ok (record { l = a .l; d = d; y = y; u = u })) refl
+    (pivot k (getD (a .w) k nan)) (λ p. at k (div binary64 one p) >>= λ d. at k (mul binary64 (a .s) d) >>= λ y. scaled (at k) d (a .w) above >>= λ u. ok (record { l = a .l; d = d; y = y; u = u })) refl
     (λ p. judge-then (op k (div binary64 one p)) (λ d. then (op k (mul binary64 (a .s) d)) (λ y. then (scaledRun k d (a .w) above) (λ u. give (record { l = a .l; d = d; y = y; u = u }))))
-      (at k (div binary64 one p)) (λ d. at k (mul binary64 (a .s) d) >>= λ y. scaled (at k) d (a .w) above >>= λ u. ok (record { l = a .l; d = d; y = y; u = u })) (judge-op k (div binary64 one p))
+    (at k (div binary64 one p)) (λ d. at k (mul binary64 (a .s) d) >>= λ y. scaled (at k) d (a .w) above >>= λ u. ok (record { l = a .l; d = d; y = y; u = u })) (judge-op k (div binary64 one p))
     (λ d. judge-then (op k (mul binary64 (a .s) d)) (λ y. then (scaledRun k d (a .w) above) (λ u. give (record { l = a .l; d = d; y = y; u = u })))
-      (at k (mul binary64 (a .s) d)) (λ y. scaled (at k) d (a .w) above >>= λ u. ok (record { l = a .l; d = d; y = y; u = u })) (judge-op k (mul binary64 (a .s) d))
+    (at k (mul binary64 (a .s) d)) (λ y. scaled (at k) d (a .w) above >>= λ u. ok (record { l = a .l; d = d; y = y; u = u })) (judge-op k (mul binary64 (a .s) d))
     (λ y. judge-then (scaledRun k d (a .w) above) (λ u. give (record { l = a .l; d = d; y = y; u = u }))
-      (scaled (at k) d (a .w) above) (λ u. ok (record { l = a .l; d = d; y = y; u = u })) (judge-scaled k d (a .w) above) (λ u. refl))))
+    (scaled (at k) d (a .w) above) (λ u. ok (record { l = a .l; d = d; y = y; u = u })) (judge-scaled k d (a .w) above) (λ u. refl))))
 
 load-is : (k : ℕ) (es : List (ℕ × Float)) (w : List Float) → load (at k) es w ≡ ok (loaded es w)
 unfolding load
@@ -99,8 +99,8 @@ judge-row : (S : System) (rows : List Row) (k : ℕ) → judge (rowRun S rows k)
 unfolding rowRun row start
 judge-row S rows k =
     judge-then (stepsRun k (given S rows) (S .lower k) (record { l = []; w = loaded (S .entries k) (replicate (S .n) nought); s = S .rhs k })) (finishRun k (S .upper k))
-      (steps (at k) (given S rows) (S .lower k) (record { l = []; w = loaded (S .entries k) (replicate (S .n) nought); s = S .rhs k })) (finish (at k) k (S .upper k))
-      (judge-steps k (given S rows) (S .lower k) (record { l = []; w = loaded (S .entries k) (replicate (S .n) nought); s = S .rhs k })) (λ a. judge-finish k (S .upper k) a)
+    (steps (at k) (given S rows) (S .lower k) (record { l = []; w = loaded (S .entries k) (replicate (S .n) nought); s = S .rhs k })) (finish (at k) k (S .upper k))
+    (judge-steps k (given S rows) (S .lower k) (record { l = []; w = loaded (S .entries k) (replicate (S .n) nought); s = S .rhs k })) (λ a. judge-finish k (S .upper k) a)
     ∙ sym (ap (λ o. o >>= (λ w. ok (record { l = []; w = w; s = S .rhs k })) >>= λ a. steps (at k) (given S rows) (S .lower k) a >>= finish (at k) k (S .upper k)) (load-is k (S .entries k) (replicate (S .n) nought)))
 
 judge-forward : (S : System) (f k : ℕ) (rows : List Row) → judge (forwardRun S f k rows) ≡ forward S f k rows
@@ -121,16 +121,16 @@ unfolding backRun back
 judge-back G zero z = refl
 judge-back G (suc k) z =
     judge-then (restRun k (G .y k) (G .upper k) (G .u k) z) (λ t. backRun G k (set z k t)) (rest (at k) (G .y k) (G .upper k) (G .u k) z) (λ t. back G k (set z k t))
-      (judge-rest k (G .y k) (G .upper k) (G .u k) z) (λ t. judge-back G k (set z k t))
+    (judge-rest k (G .y k) (G .upper k) (G .u k) z) (λ t. judge-back G k (set z k t))
 
 pub judge-whole : (S : System) → judge (wholeRun S) ≡ solved S
 unfolding wholeRun solved
 judge-whole S =
     judge-then (forwardRun S (S .n) 0 []) (λ rows. then (backRun (given S rows) (S .n) (replicate (S .n) nought)) (λ z. give (record { rows = rows; z = z })))
-      (forward S (S .n) 0 []) (λ rows. back (given S rows) (S .n) (replicate (S .n) nought) >>= λ z. ok (record { rows = rows; z = z }))
-      (judge-forward S (S .n) 0 [])
-      (λ rows. judge-then (backRun (given S rows) (S .n) (replicate (S .n) nought)) (λ z. give (record { rows = rows; z = z }))
-        (back (given S rows) (S .n) (replicate (S .n) nought)) (λ z. ok (record { rows = rows; z = z })) (judge-back (given S rows) (S .n) (replicate (S .n) nought)) (λ z. refl))
+    (forward S (S .n) 0 []) (λ rows. back (given S rows) (S .n) (replicate (S .n) nought) >>= λ z. ok (record { rows = rows; z = z }))
+    (judge-forward S (S .n) 0 [])
+    (λ rows. judge-then (backRun (given S rows) (S .n) (replicate (S .n) nought)) (λ z. give (record { rows = rows; z = z }))
+    (back (given S rows) (S .n) (replicate (S .n) nought)) (λ z. ok (record { rows = rows; z = z })) (judge-back (given S rows) (S .n) (replicate (S .n) nought)) (λ z. refl))
 
 -- ---- the first fault
 

@@ -24,7 +24,6 @@ abbrev pub products : Float → List Float → List ℕ → List Float
 products d w [] = []
 products d w (j ∷ js) = mul binary64 (getD w j nan) d ∷ products d w js
 
-
 -- a row from the end of step 2 on: one test of its filled places, and step 3
 abbrev pub rowEnd : ℕ → List ℕ → List ℕ → Work → Out Row
 rowEnd k lower above a = quiet k (lower ++ k ∷ above) a >>= finish (at k) k above

@@ -88,6 +88,7 @@ set-cases w j i v = go (ℕ-discrete i j)
     in-range : i ≡ j → Dec (j < length w) → (getD (set w j v) i nan ≡ getD w i nan) ⊎ ((i ≡ j) × (getD (set w j v) i nan ≡ v))
     in-range e (yes h) = inr (e, rw (e, getD-set-same w j v nan h))
     in-range e (no h) = inl (rw (set-out w j v (omega arith)))
+
     go : Dec (i ≡ j) → (getD (set w j v) i nan ≡ getD w i nan) ⊎ ((i ≡ j) × (getD (set w j v) i nan ≡ v))
     go (yes e) = in-range e (decLt j (length w))
     go (no ne) = inl (getD-set-other w j i v nan ne)
@@ -126,13 +127,16 @@ subtract-at k m (j ∷ js) (u ∷ us) w X e r =
   where
     v : Float
     v = sub binary64 (getD w j nan) (mul binary64 m u)
+
     go : (t : Bool) → finite v ≡ t → Passed k (subtract (at k) m js us (set w j v)) js (set w j v) X
         → Passed k (subtract (at k) m (j ∷ js) (u ∷ us) w) (j ∷ js) w X
     go true f (inl ih) = inl (rw (less-at k (getD w j nan) m u, f) (ih .0), λ i h. ih .1 i (store-finite w j i v f h))
     go true f (inr ih) = inr (rw (less-at k (getD w j nan) m u, f) (ih .0), (ih .1 .0, List·Memᴰ·tail (ih .1 .1), ih .1 .2))
     go false f ih =
-        inr (rw (less-at k (getD w j nan) m u, f),
-          (j, List·Memᴰ·head refl, subtract-stays m js us (set w j v) X e j (ap finite (getD-set-same w j v nan (r j (List·Memᴰ·head refl))) ∙ f)))
+        inr (
+          rw (less-at k (getD w j nan) m u, f),
+          (j, List·Memᴰ·head refl, subtract-stays m js us (set w j v) X e j (ap finite (getD-set-same w j v nan (r j (List·Memᴰ·head refl))) ∙ f)),
+        )
 
 -- ---- step 2, every i of lower row k
 
@@ -201,14 +205,19 @@ steps-at k G P (i ∷ is) a F e within range fs fw =
   where
     m : Float
     m = getD (a .w) i nan
+
     s′ : Float
     s′ = sub binary64 (a .s) (mul binary64 m (G .y i))
+
     r : (X : List Float) × (subtract any m (G .upper i) (G .u i) (a .w) ≡ ok X) × (length X ≡ length (a .w))
     r = subtract-any m (G .upper i) (G .u i) (a .w)
+
     e′ : steps any G is (after G i a (r .0)) ≡ ok F
     e′ = sym (step-any G i is a (r .0) (r .1)) ∙ e
+
     stay : (finite s′ ≡ false → finite (F .s) ≡ false) × ((j : ℕ) → finite (getD (r .0) j nan) ≡ false → finite (getD (F .w) j nan) ≡ false)
     stay = steps-stay G is (after G i a (r .0)) F e′
+
     go : (t : Bool) → finite s′ ≡ t → Passed k (subtract (at k) m (G .upper i) (G .u i) (a .w)) (G .upper i) (a .w) (r .0)
         → (finite s′ ≡ true → finiteOn P (r .0) ≡ true → steps (at k) G is (after G i a (r .0)) ≡ quiet k P F)
         → steps (at k) G (i ∷ is) a ≡ quiet k P F
@@ -240,8 +249,10 @@ scaled-at k d w (j ∷ js) = go (finite u) refl (finiteAll us) refl (scaled-at k
   where
     u : Float
     u = mul binary64 (getD w j nan) d
+
     us : List Float
     us = products d w js
+
     go : (t : Bool) → finite u ≡ t → (b : Bool) → finiteAll us ≡ b → scaled (at k) d w js ≡ cond (finiteAll us) (ok us) (met (overflow k))
         → scaled (at k) d w (j ∷ js) ≡ cond (finite u && finiteAll us) (ok (u ∷ us)) (met (overflow k))
     go true f true g ih = rw (f, ih, g)
@@ -264,6 +275,7 @@ rest-at k t (j ∷ js) (u ∷ us) z r f e = go (finite v) refl (λ g. rest-at k 
   where
     v : Float
     v = sub binary64 t (mul binary64 u (getD z j nan))
+
     go : (b : Bool) → finite v ≡ b → (finite v ≡ true → rest (at k) v js us z ≡ at k r) → rest (at k) t (j ∷ js) (u ∷ us) z ≡ at k r
     go true g ih = rw (less-at k t u (getD z j nan), g) (ih g)
     go false g ih = rw (less-at k t u (getD z j nan), g, rest-stays v js us z r e g)

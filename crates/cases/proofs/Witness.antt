@@ -39,28 +39,28 @@ pub owed-solution : Demand3 two (λ f. dirty f 2 (slots 1 1 1 1))
 unfolding Stated two graph boundary outcomeOf seen
 owed-solution =
     owed two (λ f. dirty f 2 (slots 1 1 1 1)) 0 (by-form _ refl refl refl)
-      (by-form (λ (f : Form). numberOfAnswer (solve f two (dirty f 2 (slots 1 1 1 1)) .answer) ≡ 0) (ap (numberAt 0) holds) (ap (numberAt 1) holds) (ap (numberAt 2) holds)) (λ e. omega arith) (λ e. omega arith)
+    (by-form (λ (f : Form). numberOfAnswer (solve f two (dirty f 2 (slots 1 1 1 1)) .answer) ≡ 0) (ap (numberAt 0) holds) (ap (numberAt 1) holds) (ap (numberAt 2) holds)) (λ e. omega arith) (λ e. omega arith)
 
 -- a zero pivot
 pub owed-zero : Demand3 (single 0x8000000000000000) (λ f. dirty f 1 (slots 0 0 0 0))
 unfolding Stated single graph boundary outcomeOf seen
 owed-zero =
     owed (single 0x8000000000000000) (λ f. dirty f 1 (slots 0 0 0 0)) 12 (by-form _ refl refl refl)
-      (by-form (λ (f : Form). numberOfAnswer (solve f (single 0x8000000000000000) (dirty f 1 (slots 0 0 0 0)) .answer) ≡ 12) (ap (numberAt 3) holds) (ap (numberAt 4) holds) (ap (numberAt 5) holds)) (λ e. omega arith) (λ e. omega arith)
+    (by-form (λ (f : Form). numberOfAnswer (solve f (single 0x8000000000000000) (dirty f 1 (slots 0 0 0 0)) .answer) ≡ 12) (ap (numberAt 3) holds) (ap (numberAt 4) holds) (ap (numberAt 5) holds)) (λ e. omega arith) (λ e. omega arith)
 
 -- an overflow
 pub owed-over : Demand3 (single 0x0004000000000000) (λ f. dirty f 1 (slots 0 0 0 0))
 unfolding Stated single graph boundary outcomeOf seen
 owed-over =
     owed (single 0x0004000000000000) (λ f. dirty f 1 (slots 0 0 0 0)) 13 (by-form _ refl refl refl)
-      (by-form (λ (f : Form). numberOfAnswer (solve f (single 0x0004000000000000) (dirty f 1 (slots 0 0 0 0)) .answer) ≡ 13) (ap (numberAt 9) holds) (ap (numberAt 10) holds) (ap (numberAt 11) holds)) (λ e. omega arith) (λ e. omega arith)
+    (by-form (λ (f : Form). numberOfAnswer (solve f (single 0x0004000000000000) (dirty f 1 (slots 0 0 0 0)) .answer) ≡ 13) (ap (numberAt 9) holds) (ap (numberAt 10) holds) (ap (numberAt 11) holds)) (λ e. omega arith) (λ e. omega arith)
 
 -- a null pivot
 pub owed-null : Demand3 (swapped (0 ∷ 1 ∷ [])) (λ f. dirty f 2 (slots 1 1 1 1))
 unfolding Stated swapped graph boundary outcomeOf seen
 owed-null =
     owed (swapped (0 ∷ 1 ∷ [])) (λ f. dirty f 2 (slots 1 1 1 1)) 9 (by-form _ refl refl refl)
-      (by-form (λ (f : Form). numberOfAnswer (solve f (swapped (0 ∷ 1 ∷ [])) (dirty f 2 (slots 1 1 1 1)) .answer) ≡ 9) (ap (numberAt 12) holds) (ap (numberAt 13) holds) (ap (numberAt 14) holds)) (λ e. omega arith) (λ e. omega arith)
+    (by-form (λ (f : Form). numberOfAnswer (solve f (swapped (0 ∷ 1 ∷ [])) (dirty f 2 (slots 1 1 1 1)) .answer) ≡ 9) (ap (numberAt 12) holds) (ap (numberAt 13) holds) (ap (numberAt 14) holds)) (λ e. omega arith) (λ e. omega arith)
 
 -- the plain form is short of an upper index slot, the shared form with as few is not
 pub short-plain : Short Plain arrow (dirty Plain 3 (slots 3 3 2 3))

@@ -55,7 +55,7 @@ seen o =
       x = map (toBits binary64) (o .buffers .x);
       d = map (toBits binary64) (o .buffers .d);
       lower = o .buffers .lower .index;
-      upper = o .buffers .upper .index
+      upper = o .buffers .upper .index;
     }
 
 -- a refusal after the questions before 9: x as it was, all else zero
@@ -124,15 +124,17 @@ ones = graph 2 (0 ∷ 2 ∷ 4 ∷ []) (0 ∷ 1 ∷ 0 ∷ 1 ∷ []) (0x3ff0000000
 unfoldable pub arrow : Input
 arrow =
     graph 3 (0 ∷ 3 ∷ 5 ∷ 7 ∷ []) (0 ∷ 1 ∷ 2 ∷ 0 ∷ 1 ∷ 0 ∷ 2 ∷ [])
-      (0x4000000000000000 ∷ 0x3ff0000000000000 ∷ 0x3ff0000000000000 ∷ 0x3ff0000000000000 ∷ 0x4000000000000000 ∷ 0x3ff0000000000000 ∷ 0x4000000000000000 ∷ [])
-      (0 ∷ 1 ∷ 2 ∷ []) (0 ∷ 1 ∷ 2 ∷ []) (0x4000000000000000 ∷ 0x3ff0000000000000 ∷ 0x3ff0000000000000 ∷ [])
+    (0x4000000000000000 ∷ 0x3ff0000000000000 ∷ 0x3ff0000000000000 ∷ 0x3ff0000000000000 ∷ 0x4000000000000000 ∷ 0x3ff0000000000000 ∷ 0x4000000000000000 ∷ [])
+    (0 ∷ 1 ∷ 2 ∷ []) (0 ∷ 1 ∷ 2 ∷ []) (0x4000000000000000 ∷ 0x3ff0000000000000 ∷ 0x3ff0000000000000 ∷ [])
 
 -- what the arrow comes to: d = 1/2, 2/3, 3/4 rounded, x = (1, 0, 0)
 abbrev pub arrowSolved : Form → Slots → List ℕ → List ℕ → Case
 arrowSolved f z l u =
     record {
-      form = f; input = arrow; stores = z;
-      expected = solvedAs f 3 z (3 ∷ 3 ∷ 5 ∷ []) (0x3ff0000000000000 ∷ 0 ∷ 0 ∷ []) (0x3fe0000000000000 ∷ 0x3fe5555555555555 ∷ 0x3fe8000000000000 ∷ []) l u
+      form = f;
+      input = arrow;
+      stores = z;
+      expected = solvedAs f 3 z (3 ∷ 3 ∷ 5 ∷ []) (0x3ff0000000000000 ∷ 0 ∷ 0 ∷ []) (0x3fe0000000000000 ∷ 0x3fe5555555555555 ∷ 0x3fe8000000000000 ∷ []) l u;
     }
 
 abbrev pub arrowRefused : Form → Slots → ℕ → ℕ → Case
@@ -150,11 +152,11 @@ boundary =
     ++ solutions cornerless (slots 1 1 1 1) (1 ∷ 1 ∷ 1 ∷ []) (0x3ff0000000000000 ∷ 0x4000000000000000 ∷ []) (0x3ff0000000000000 ∷ 0xbff0000000000000 ∷ []) (0 ∷ []) (1 ∷ []) (1 ∷ [])
     ++ refusals ones (slots 1 1 1 1) 12 1
     ++ (arrowSolved Plain (slots 3 3 3 3) (0 ∷ 0 ∷ 1 ∷ []) (1 ∷ 2 ∷ 2 ∷ [])
-      ∷ arrowSolved Shared (slots 2 3 2 3) (1 ∷ 2 ∷ []) (1 ∷ 2 ∷ [])
-      ∷ arrowSolved ByRow (slots 0 0 2 3) [] []
-      ∷ arrowRefused Plain (slots 3 3 2 3) 11 1
-      ∷ arrowRefused Plain (slots 2 3 3 3) 10 2
-      ∷ arrowRefused Shared (slots 2 3 1 3) 11 0
-      ∷ arrowRefused Shared (slots 3 2 3 3) 10 1
-      ∷ arrowRefused ByRow (slots 0 0 3 2) 11 1
-      ∷ [])
+    ∷ arrowSolved Shared (slots 2 3 2 3) (1 ∷ 2 ∷ []) (1 ∷ 2 ∷ [])
+    ∷ arrowSolved ByRow (slots 0 0 2 3) [] []
+    ∷ arrowRefused Plain (slots 3 3 2 3) 11 1
+    ∷ arrowRefused Plain (slots 2 3 3 3) 10 2
+    ∷ arrowRefused Shared (slots 2 3 1 3) 11 0
+    ∷ arrowRefused Shared (slots 3 2 3 3) 10 1
+    ∷ arrowRefused ByRow (slots 0 0 3 2) 11 1
+    ∷ [])

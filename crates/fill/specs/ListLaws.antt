@@ -49,7 +49,7 @@ module _ (stored : Pattern) (n : ℕ) where
   unfolding upperRow
   tail-same i k l h f e =
       let c : count (λ j. ltb k j && filled stored i j) n ≡ count (upper stored k) n
-            = sym (length-asc _ n) ∙ ap length (sym (tail-is i k l h)) ∙ e ∙ length-asc (upper stored k) n in
+      = sym (length-asc _ n) ∙ ap length (sym (tail-is i k l h)) ∙ e ∙ length-asc (upper stored k) n in
       tail-is i k l h ∙ asc-ext _ _ n (count-same (λ j. ltb k j && filled stored i j) (upper stored k) n (λ j q. tail-in i k l f j) c)
 
   -- What row by row elimination counts: for each i in lower row k, the length of T(i).
@@ -79,8 +79,8 @@ module _ (stored : Pattern) (n : ℕ) where
   unfolding lowerRow lowerColumn count
   lower-rows-columns =
       sum-ext n _ _ (λ k l.
-        length-asc (filled stored k) k
-        ∙ sum-ext k (λ i. bit (filled stored k i)) (λ i. bit (ltb i k && filled stored k i)) (λ i q. rw (lt-ltb i k q))
-        ∙ sym (sum-part (λ i. bit (ltb i k && filled stored k i)) k n (omega arith) (λ i q. rw (le-ltb i k q))))
+      length-asc (filled stored k) k
+      ∙ sum-ext k (λ i. bit (filled stored k i)) (λ i. bit (ltb i k && filled stored k i)) (λ i q. rw (lt-ltb i k q))
+      ∙ sym (sum-part (λ i. bit (ltb i k && filled stored k i)) k n (omega arith) (λ i q. rw (le-ltb i k q))))
       ∙ sum-swap n n (λ k i. bit (ltb i k && filled stored k i))
       ∙ sym (sum-ext n _ _ (λ k l. length-asc (λ i. ltb k i && filled stored i k) n))

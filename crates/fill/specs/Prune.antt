@@ -36,8 +36,9 @@ module _ (stored : Pattern) where
     pub pruned-more : (k m m′ j : ℕ) → m ≤ m′ → pruned k m j ≡ true → pruned k m′ j ≡ true
     pruned-more k m zero j l h = let e : m ≡ zero = omega arith in rw e at h
     pruned-more k m (suc m′) j l h = elim (decLt m′ m) [
-        yes q ↦ (let e : m ≡ suc m′ = omega arith in rw e at h)
-      | no q ↦ pruned-suc k m′ j (pruned-more k m m′ j (omega arith) h) ]
+      | yes q ↦ (let e : m ≡ suc m′ = omega arith in rw e at h)
+      | no q ↦ pruned-suc k m′ j (pruned-more k m m′ j (omega arith) h)
+    ]
 
     pruned-base : (k j : ℕ) → stored k j ≡ true → pruned k zero j ≡ true
     unfolding pruned
@@ -50,8 +51,9 @@ module _ (stored : Pattern) where
     pruned-cases : (k i j : ℕ) → pruned k (suc i) j ≡ true → (pruned k i j ≡ true) ⊎ ((pruned k i i ≡ true) × (upper stored i j ≡ true))
     unfolding pruned
     pruned-cases k i j h = elim (or-cases (pruned k i j) _ h) [
-        inl a ↦ inl a
-      | inr b ↦ (let q = and-cases (pruned k i i) (upper stored i j && part i j) b in inr (q .0, and-cases (upper stored i j) (part i j) (q .1) .0)) ]
+      | inl a ↦ inl a
+      | inr b ↦ (let q = and-cases (pruned k i i) (upper stored i j && part i j) b in inr (q .0, and-cases (upper stored i j) (part i j) (q .1) .0))
+    ]
 
     up : (i j : ℕ) → i < j → filled stored i j ≡ true → upper stored i j ≡ true
     unfolding upper
@@ -66,8 +68,9 @@ module _ (stored : Pattern) where
     unfolding pruned
     pruned-sub k zero j l h = filled-stored stored k j h
     pruned-sub k (suc i) j l h = elim (pruned-cases k i j h) [
-        inl a ↦ pruned-sub k i j (omega arith) a
-      | inr b ↦ (let u = up→ i j (b .1) in filled-through stored k i j l (u .0) (pruned-sub k i i (omega arith) (b .0)) (u .1)) ]
+      | inl a ↦ pruned-sub k i j (omega arith) a
+      | inr b ↦ (let u = up→ i j (b .1) in filled-through stored k i j l (u .0) (pruned-sub k i i (omega arith) (b .0)) (u .1))
+    ]
 
     module _ (k : ℕ) (cuts : (i : ℕ) → i < k → Cut k i (part i)) where
       -- Row k meets i and i meets j; every member before j is known to be in. Each turn goes to a larger i.
@@ -75,17 +78,20 @@ module _ (stored : Pattern) where
           → min k j ≤ fuel + i → i < k → i < j → filled stored k i ≡ true → filled stored i j ≡ true → pruned k (min k j) j ≡ true
       via zero i j ih l hk hj f g = absurd (omega arith)
       via (suc fuel) i j ih l hk hj f g = elim (cuts i hk) [
-          entire w ↦ pruned-more k (suc i) (min k j) j (omega arith) (pruned-via k i j (ih i hj hk f) (up i j hj g) (w j (up i j hj g)))
+        | entire w ↦ pruned-more k (suc i) (min k j) j (omega arith) (pruned-via k i j (ih i hj hk f) (up i j hj g) (w j (up i j hj g)))
         | short p q r w ↦ elim (decLt p j) [
-            yes b ↦ via fuel p j ih (omega (arith, r .after)) q b (filled-through stored k i p hk (r .after) f (r .right)) (filled-through stored p i j (r .after) hj (r .left) g)
-          | no b ↦ pruned-more k (suc i) (min k j) j (omega arith) (pruned-via k i j (ih i hj hk f) (up i j hj g) (w j (omega arith) (up i j hj g))) ] ]
+          | yes b ↦ via fuel p j ih (omega (arith, r .after)) q b (filled-through stored k i p hk (r .after) f (r .right)) (filled-through stored p i j (r .after) hj (r .left) g)
+          | no b ↦ pruned-more k (suc i) (min k j) j (omega arith) (pruned-via k i j (ih i hj hk f) (up i j hj g) (w j (omega arith) (up i j hj g)))
+        ]
+      ]
 
       -- All of the fill, by induction on a bound of the column.
       pruned-all : (bound j : ℕ) → j < bound → filled stored k j ≡ true → pruned k (min k j) j ≡ true
       pruned-all zero j l h = absurd (omega arith)
       pruned-all (suc bound) j l h = elim (filled-cases stored k j h) [
-          inl a ↦ pruned-more k zero (min k j) j (omega arith) (pruned-base k j a)
-        | inr b ↦ via (min k j) (b .0) j (λ q x y z. let e : min k q ≡ q = omega arith in rw e at (pruned-all bound q (omega arith) z)) (omega arith) (b .1) (b .2) (b .3 .0) (b .3 .1) ]
+        | inl a ↦ pruned-more k zero (min k j) j (omega arith) (pruned-base k j a)
+        | inr b ↦ via (min k j) (b .0) j (λ q x y z. let e : min k q ≡ q = omega arith in rw e at (pruned-all bound q (omega arith) z)) (omega arith) (b .1) (b .2) (b .3 .0) (b .3 .1)
+      ]
 
       -- The pruned merge gives row k of the fill.
       pub pruned-filled : (j : ℕ) → pruned k k j ≡ filled stored k j
@@ -127,8 +133,9 @@ module _ (stored : Pattern) where
   unfolding someBelow
   first test zero = inl refl
   first test (suc m) = elim (first test m) [
-      inr r ↦ inr (r .0, omega arith, r .2, r .3)
-    | inl a ↦ by-test (test m) (λ h. inr (m, omega arith, h, a)) (λ h. inl (rw (a, h))) ]
+    | inr r ↦ inr (r .0, omega arith, r .2, r .3)
+    | inl a ↦ by-test (test m) (λ h. inr (m, omega arith, h, a)) (λ h. inl (rw (a, h)))
+  ]
 
   some-less : (test : ℕ → Bool) (m m′ : ℕ) → m ≤ m′ → someBelow m′ test ≡ false → someBelow m test ≡ false
   some-less test m m′ l h = by-test (someBelow m test)
@@ -138,8 +145,9 @@ module _ (stored : Pattern) where
   first-cut : (k i : ℕ) → Cut k i (firstPart k i)
   unfolding firstPart past
   first-cut k i = elim (first (pair i) k) [
-      inl a ↦ entire (λ j h. rw (some-less (pair i) (min k j) k (omega arith) a))
-    | inr r ↦ short (r .0) (r .1) (pair→ i (r .0) (r .2)) (λ j l h. rw (some-less (pair i) (min k j) (r .0) (omega arith) (r .3))) ]
+    | inl a ↦ entire (λ j h. rw (some-less (pair i) (min k j) k (omega arith) a))
+    | inr r ↦ short (r .0) (r .1) (pair→ i (r .0) (r .2)) (λ j l h. rw (some-less (pair i) (min k j) (r .0) (omega arith) (r .3)))
+  ]
 
   -- The claim: with each T(i) cut behind its first place p, i < p < k, that has both (i, p) and (p, i), row k comes out the same.
   pub first-pruned : (k j : ℕ) → pruned (firstPart k) k k j ≡ filled stored k j

@@ -50,8 +50,9 @@ module _ (stored : Pattern) where
   pub filled-cases : (k j : ℕ) → filled stored k j ≡ true
       → (stored k j ≡ true) ⊎ ((i : ℕ) × (i < k) × (i < j) × ((filled stored k i ≡ true) × (filled stored i j ≡ true)))
   filled-cases k j h = elim (or-cases (stored k j) (someBelow (min k j) (λ i. filled stored k i && filled stored i j)) (sym (filled-rule k j) ∙ h)) [
-      inl a ↦ inl a
-    | inr b ↦ inr (let r = some→ _ _ b in (r .0, omega arith, omega arith, and-cases (filled stored k (r .0)) (filled stored (r .0) j) (r .2))) ]
+    | inl a ↦ inl a
+    | inr b ↦ inr (let r = some→ _ _ b in (r .0, omega arith, omega arith, and-cases (filled stored k (r .0)) (filled stored (r .0) j) (r .2)))
+  ]
 
   pub filled-stored : (k j : ℕ) → stored k j ≡ true → filled stored k j ≡ true
   filled-stored k j h = rw (filled-rule k j, h)
@@ -75,10 +76,11 @@ module _ (stored : Pattern) where
   unfolding merged reach upper filled
   merged-reach k zero j l = let e : min zero j ≡ zero = omega arith in rw e
   merged-reach k (suc m) j l = elim (decLt m j) [
-      yes q ↦ (let e : min (suc m) j ≡ suc m = omega arith in let e′ : min m j ≡ m = omega arith in let e″ : min m m ≡ m = omega arith in
-         rw (merged-reach k m j (omega arith), merged-reach k m m (omega arith), e, e′, e″, lt-ltb m j q))
+    | yes q ↦ (let e : min (suc m) j ≡ suc m = omega arith in let e′ : min m j ≡ m = omega arith in let e″ : min m m ≡ m = omega arith in
+        rw (merged-reach k m j (omega arith), merged-reach k m m (omega arith), e, e′, e″, lt-ltb m j q))
     | no q ↦ (let e : min (suc m) j ≡ j = omega arith in let e′ : min m j ≡ j = omega arith in
-         rw (merged-reach k m j (omega arith), le-ltb m j (omega arith), e, e′, and-false) (or-false _)) ]
+        rw (merged-reach k m j (omega arith), le-ltb m j (omega arith), e, e′, and-false) (or-false _))
+  ]
 
   pub merged-filled : (k j : ℕ) → merged k k j ≡ filled stored k j
   unfolding filled
@@ -89,15 +91,17 @@ module _ (stored : Pattern) where
   unfolding upper
   filled-union k j =
       true-ext _ _
-        (λ h. elim (filled-cases k j h) [
-          inl a ↦ rw a
-        | inr b ↦ or-right (stored k j) _ (→some k (λ i. filled stored k i && (ltb i j && filled stored i j)) (b .0) (b .1) (rw (b .3 .0, lt-ltb (b .0) j (b .2), b .3 .1))) ])
-        (λ h. elim (or-cases (stored k j) (someBelow k (λ i. filled stored k i && (ltb i j && filled stored i j))) h) [
-          inl a ↦ filled-stored k j a
+      (λ h. elim (filled-cases k j h) [
+        | inl a ↦ rw a
+        | inr b ↦ or-right (stored k j) _ (→some k (λ i. filled stored k i && (ltb i j && filled stored i j)) (b .0) (b .1) (rw (b .3 .0, lt-ltb (b .0) j (b .2), b .3 .1)))
+      ])
+      (λ h. elim (or-cases (stored k j) (someBelow k (λ i. filled stored k i && (ltb i j && filled stored i j))) h) [
+        | inl a ↦ filled-stored k j a
         | inr b ↦ (let r = some→ k (λ i. filled stored k i && (ltb i j && filled stored i j)) b in
             let q = and-cases (filled stored k (r .0)) (ltb (r .0) j && filled stored (r .0) j) (r .2) in
             let u = and-cases (ltb (r .0) j) (filled stored (r .0) j) (q .1) in
-            filled-through k (r .0) j (r .1) (ltb-true (r .0) j (u .0)) (q .0) (u .1)) ])
+            filled-through k (r .0) j (r .1) (ltb-true (r .0) j (u .0)) (q .0) (u .1))
+      ])
 
 reach-flip : (stored : Pattern) (m i j : ℕ) → reach (flip stored) m i j ≡ reach stored m j i
 unfolding reach

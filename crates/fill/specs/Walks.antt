@@ -41,14 +41,18 @@ module _ (stored : Pattern) where
   reach-join zero i k j l h g = absurd (omega arith)
   reach-join (suc m) i k j l h g =
       elim (eq-or-lt-of-le (le-of-suc-le-suc l)) [
-        inl e ↦ reach-via m i j (reach-to m i (rw e at h)) (reach-from m j (rw e at g))
-      | inr q ↦ elim (reach-step m i k h) [
-          inl a ↦ elim (reach-step m k j g) [
-            inl b ↦ reach-up m i j (reach-join m i k j q a b)
-          | inr b ↦ reach-via m i j (reach-join m i k m q a (b .0)) (b .1) ]
-        | inr a ↦ elim (reach-step m k j g) [
-            inl b ↦ reach-via m i j (a .0) (reach-join m m k j q (a .1) b)
-          | inr b ↦ reach-via m i j (a .0) (b .1) ] ] ]
+        | inl e ↦ reach-via m i j (reach-to m i (rw e at h)) (reach-from m j (rw e at g))
+        | inr q ↦ elim (reach-step m i k h) [
+          | inl a ↦ elim (reach-step m k j g) [
+            | inl b ↦ reach-up m i j (reach-join m i k j q a b)
+            | inr b ↦ reach-via m i j (reach-join m i k m q a (b .0)) (b .1)
+          ]
+          | inr a ↦ elim (reach-step m k j g) [
+            | inl b ↦ reach-via m i j (a .0) (reach-join m m k j q (a .1) b)
+            | inr b ↦ reach-via m i j (a .0) (b .1)
+          ]
+        ]
+      ]
 
   pub walk→reach : (m : ℕ) {i j : ℕ} → Walk stored m i j → reach stored m i j ≡ true
   walk→reach m {i} {j} (one h) = reach-base m i j h
@@ -67,8 +71,9 @@ module _ (stored : Pattern) where
   reach→walk zero i j h = one h
   reach→walk (suc m) i j h =
       elim (reach-step m i j h) [
-        inl a ↦ walk-up m (reach→walk m i j a)
-      | inr b ↦ walk-join (suc m) (omega arith) (walk-up m (reach→walk m i m (b .0))) (walk-up m (reach→walk m m j (b .1))) ]
+        | inl a ↦ walk-up m (reach→walk m i j a)
+        | inr b ↦ walk-join (suc m) (omega arith) (walk-up m (reach→walk m i m (b .0))) (walk-up m (reach→walk m m j (b .1)))
+      ]
 
   -- A position is filled exactly if a walk along stored entries joins its row to its column through places smaller than both.
   pub filled-walk : (i j : ℕ) → (filled stored i j ≡ true) ↔ Walk stored (min i j) i j

@@ -62,9 +62,10 @@ unfolding skip
 skip-high a x l = rw (le-ltb x a l)
 
 skip-below : (a x m : ℕ) → x ≢ a → x < suc m → a < suc m → skip a x < m
-skip-below a x m q h k = elim (decLt x a)
-    [ yes l ↦ rw (skip-low a x l) (omega arith)
-    | no l ↦ rw (skip-high a x (omega arith)) (omega arith) ]
+skip-below a x m q h k = elim (decLt x a) [
+  | yes l ↦ rw (skip-low a x l) (omega arith)
+  | no l ↦ rw (skip-high a x (omega arith)) (omega arith)
+]
 
 skip-inj : (a x y : ℕ) → x ≢ a → y ≢ a → skip a x ≡ skip a y → x ≡ y
 skip-inj a x y p q e = go (decLt x a) (decLt y a)
@@ -81,8 +82,8 @@ pigeon zero m f b d = omega arith
 pigeon (suc n) zero f b d = absurd (not-suc-le-zero (b n (omega arith)))
 pigeon (suc n) (suc m) f b d =
     let h = pigeon n m (λ i. skip (f n) (f i))
-            (λ i l. skip-below (f n) (f i) m (d i n l (omega arith)) (b i (omega arith)) (b n (omega arith)))
-            (λ i k l h e. d i k l (omega arith) (skip-inj (f n) (f i) (f k) (d i n (omega arith) (omega arith)) (d k n h (omega arith)) e)) in
+    (λ i l. skip-below (f n) (f i) m (d i n l (omega arith)) (b i (omega arith)) (b n (omega arith)))
+    (λ i k l h e. d i k l (omega arith) (skip-inj (f n) (f i) (f k) (d i n (omega arith) (omega arith)) (d k n h (omega arith)) e)) in
     omega arith
 
 module _ (o : List ℕ) (n : ℕ) (order : IsOrder o n) where
@@ -91,8 +92,8 @@ module _ (o : List ℕ) (n : ℕ) (order : IsOrder o n) where
   missed j l h =
       let off : (i : ℕ) → i < n → getD o i 0 ≢ j = λ i b. eqb-false (getD o i 0) j (first-none (isOf o j) n h i b) in
       let p = pigeon n (n - 1) (λ i. skip j (getD o i 0))
-              (λ i b. skip-below j (getD o i 0) (n - 1) (off i b) (omega (arith, order-below o n order i b)) (omega arith))
-              (λ i k a b e. order-inj o n order i k a b (skip-inj j (getD o i 0) (getD o k 0) (off i (omega arith)) (off k b) e)) in
+      (λ i b. skip-below j (getD o i 0) (n - 1) (off i b) (omega (arith, order-below o n order i b)) (omega arith))
+      (λ i k a b e. order-inj o n order i k a b (skip-inj j (getD o i 0) (getD o k 0) (off i (omega arith)) (off k b) e)) in
       omega arith
 
   -- every number below n stands at its place

@@ -1,7 +1,6 @@
 // The matrix type: its limits, and the shape of a matrix within them.
 ghost use mathlib.Core.Path.{_≡_};
 ghost use Rattle.matrix.specs.Limits.{shapeOf, maxRows, maxEntries, maxSlots};
-
 use base::Refusal;
 
 // The shape of a matrix: its rows and its entries.
@@ -21,7 +20,9 @@ pub struct Limits(pub usize, pub usize, pub usize);
 
 impl Matrix {
     pub const MAX_ROWS: usize = 4096;
+
     pub const MAX_ENTRIES: usize = 65536;
+
     pub const MAX_SLOTS: usize = 1048576;
 
     // The shape of n rows and e entries: refusal 1 for n, 2 for e.
@@ -30,7 +31,10 @@ impl Matrix {
     {
         if (1 <= n) & (n <= Self::MAX_ROWS) {
             if e <= Self::MAX_ENTRIES {
-                return Shaped::Shape(Matrix { rows: n, entries: e });
+                return Shaped::Shape(Matrix {
+                    rows: n,
+                    entries: e,
+                });
             }
             return Shaped::Unshaped(Refusal::Lengths);
         }

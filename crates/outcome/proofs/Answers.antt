@@ -91,7 +91,7 @@ pub ask-shape-within : (n : ℕ) (tests : List Bool) → Within 1 2 (askShape n 
 unfolding askShape
 ask-shape-within n tests =
     within-then 1 2 (holds (rowsWithin n) Rows) (holds (all tests) Lengths)
-      (within-holds 1 2 (rowsWithin n) Rows (omega arith) (omega arith)) (within-holds 1 2 (all tests) Lengths (omega arith) (omega arith))
+    (within-holds 1 2 (rowsWithin n) Rows (omega arith) (omega arith)) (within-holds 1 2 (all tests) Lengths (omega arith) (omega arith))
 
 pub shape-within : (f : Form) (i : Input) (z : Sizes) → Within 1 2 (shape f i z)
 unfolding shape
@@ -101,8 +101,8 @@ ask5-within : (n : ℕ) (r c : List ℕ) → Within 5 5 (ask5 n r c)
 unfolding ask5
 ask5-within n r c =
     within-then 5 5 (absent (first (badIndex r n) n) Order) (absent (first (badIndex c n) n) (λ k. Order (k + n)))
-      (within-absent 5 5 (first (badIndex r n) n) Order (λ k. omega arith) (λ k. omega arith))
-      (within-absent 5 5 (first (badIndex c n) n) (λ k. Order (k + n)) (λ k. omega arith) (λ k. omega arith))
+    (within-absent 5 5 (first (badIndex r n) n) Order (λ k. omega arith) (λ k. omega arith))
+    (within-absent 5 5 (first (badIndex c n) n) (λ k. Order (k + n)) (λ k. omega arith) (λ k. omega arith))
 
 finite-within : (v : List Float) (from : ℕ) → Within 6 6 (askFinite v from)
 unfolding askFinite
@@ -112,17 +112,17 @@ pattern-within : (i : Input) → Within 3 5 (askPattern i)
 unfolding askPattern ask3 ask4
 pattern-within i =
     within-then 3 5 (ask3 (i .n) (length (i .columns)) (i .starts)) (andThen (ask4 (i .n) (i .columns)) (ask5 (i .n) (i .r) (i .c)))
-      (within-absent 3 5 (first (badStart (i .starts) (i .n) (length (i .columns))) (i .n)) (λ k. Starts (own k)) (λ k. omega arith) (λ k. omega arith))
-      (within-then 3 5 (ask4 (i .n) (i .columns)) (ask5 (i .n) (i .r) (i .c))
-        (within-absent 3 5 (first (badColumn (i .columns) (i .n)) (length (i .columns))) Column (λ k. omega arith) (λ k. omega arith))
-        (within-wide 5 5 3 5 _ (omega arith) (omega arith) (ask5-within (i .n) (i .r) (i .c))))
+    (within-absent 3 5 (first (badStart (i .starts) (i .n) (length (i .columns))) (i .n)) (λ k. Starts (own k)) (λ k. omega arith) (λ k. omega arith))
+    (within-then 3 5 (ask4 (i .n) (i .columns)) (ask5 (i .n) (i .r) (i .c))
+    (within-absent 3 5 (first (badColumn (i .columns) (i .n)) (length (i .columns))) Column (λ k. omega arith) (λ k. omega arith))
+    (within-wide 5 5 3 5 _ (omega arith) (omega arith) (ask5-within (i .n) (i .r) (i .c))))
 
 rows-within : (i : Input) → Within 7 8 (askRows i)
 unfolding askRows ask7 ask8
 rows-within i =
     within-then 7 8 (ask7 (i .n) (i .starts) (i .r)) (ask8 (i .n) (i .starts) (i .columns) (i .r))
-      (within-absent 7 8 (first (emptyRow (i .starts) (i .r)) (i .n)) (λ k. EmptyRow (own (getD (i .r) k 0))) (λ k. omega arith) (λ k. omega arith))
-      (within-absent 7 8 (first (repeatRow (i .starts) (i .columns) (i .r)) (i .n)) (λ k. Repeated (own (getD (i .r) k 0))) (λ k. omega arith) (λ k. omega arith))
+    (within-absent 7 8 (first (emptyRow (i .starts) (i .r)) (i .n)) (λ k. EmptyRow (own (getD (i .r) k 0))) (λ k. omega arith) (λ k. omega arith))
+    (within-absent 7 8 (first (repeatRow (i .starts) (i .columns) (i .r)) (i .n)) (λ k. Repeated (own (getD (i .r) k 0))) (λ k. omega arith) (λ k. omega arith))
 
 pub structure-within : (i : Input) → Within 3 8 (askStructure i)
 unfolding askStructure
@@ -133,9 +133,9 @@ pub solve-within : (i : Input) → Within 3 8 (askSolve i)
 unfolding askSolve ask6
 solve-within i =
     within-then 3 8 (askPattern i) (andThen (ask6 (i .values) (i .b)) (askRows i)) (within-wide 3 5 3 8 _ (omega arith) (omega arith) (pattern-within i))
-      (within-then 3 8 (ask6 (i .values) (i .b)) (askRows i)
-        (within-wide 6 6 3 8 _ (omega arith) (omega arith) (within-then 6 6 (askFinite (i .values) 0) (askFinite (i .b) (length (i .values))) (finite-within (i .values) 0) (finite-within (i .b) (length (i .values)))))
-        (within-wide 7 8 3 8 _ (omega arith) (omega arith) (rows-within i)))
+    (within-then 3 8 (ask6 (i .values) (i .b)) (askRows i)
+    (within-wide 6 6 3 8 _ (omega arith) (omega arith) (within-then 6 6 (askFinite (i .values) 0) (askFinite (i .b) (length (i .values))) (finite-within (i .values) 0) (finite-within (i .b) (length (i .values)))))
+    (within-wide 7 8 3 8 _ (omega arith) (omega arith) (rows-within i)))
 
 pub right-within : (n : ℕ) (r c : List ℕ) (b : List Float) → Within 5 6 (askRight n r c b)
 unfolding askRight
@@ -148,16 +148,16 @@ Early a = Within 1 8 a
 pub earlier-early : (f : Form) (i : Input) (z : Sizes) → Early (earlier f i z)
 earlier-early f i z =
     within-then 1 8 (shape f i z) (askSolve i) (within-wide 1 2 1 8 (shape f i z) (omega arith) (omega arith) (shape-within f i z))
-      (within-wide 3 8 1 8 (askSolve i) (omega arith) (omega arith) (solve-within i))
+    (within-wide 3 8 1 8 (askSolve i) (omega arith) (omega arith) (solve-within i))
 
 pub places-within : (f : Form) (P : Pattern) (n : ℕ) (z : Sizes) (k : ℕ) → Within 9 11 (askPlaces f P n z k)
 unfolding askPlaces askPlace
 places-within f P n z zero = within-pass 9 11
 places-within f P n z (suc k) =
     within-then 9 11 (askPlaces f P n z k) (askPlace f P n z k) (places-within f P n z k)
-      (within-then 9 11 (holds (filled P k k) (NullPivot (spot k))) _ (within-holds 9 11 (filled P k k) (NullPivot (spot k)) (omega arith) (omega arith))
-      (within-then 9 11 (holds (fits f Lower P n z k) (LowerSlots (spot k))) _ (within-holds 9 11 (fits f Lower P n z k) (LowerSlots (spot k)) (omega arith) (omega arith))
-      (within-holds 9 11 (fits f Upper P n z k) (UpperSlots (spot k)) (omega arith) (omega arith))))
+    (within-then 9 11 (holds (filled P k k) (NullPivot (spot k))) _ (within-holds 9 11 (filled P k k) (NullPivot (spot k)) (omega arith) (omega arith))
+    (within-then 9 11 (holds (fits f Lower P n z k) (LowerSlots (spot k))) _ (within-holds 9 11 (fits f Lower P n z k) (LowerSlots (spot k)) (omega arith) (omega arith))
+    (within-holds 9 11 (fits f Upper P n z k) (UpperSlots (spot k)) (omega arith) (omega arith))))
 
 -- ---- the stated lengths leave question 2 to the matrix
 

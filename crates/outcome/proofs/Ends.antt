@@ -107,7 +107,7 @@ module _ (f : Form) (i : Input) (s : Buffers) where
   concluded-ends (ok a) = done numberOfAnswer Refused answer-told s (cleared (sizes s) (s .x)) refl (Done (counts i)) (left f i (sizes s) a) refl
   concluded-ends (met q) =
       stop-all numberOfAnswer Refused answer-told s (cleared (sizes s) (s .x)) refl (Stop (faultOf q)) (ended (Done (counts i)) s) (fault-within q)
-        (done numberOfAnswer Refused answer-told s (cleared (sizes s) (s .x)) refl (Done (counts i)) s refl)
+      (done numberOfAnswer Refused answer-told s (cleared (sizes s) (s .x)) refl (Done (counts i)) s refl)
 
   pub solve-ends : Ends numberOfAnswer s (cleared (sizes s) (s .x)) (solve f i s)
   unfolding solve cleared

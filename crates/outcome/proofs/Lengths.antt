@@ -78,8 +78,8 @@ side-kept : (f : Form) (side : Side) (P : Pattern) (n : ℕ) (z : SideSizes) (va
 unfolding sidePlaced indexNeed valueNeed
 side-kept f side P n z values h g =
     side-is z _ _ _ _ (length-table (valueNeed f side P n) (n + 1) ∙ sym (h .starts)) (h .runs)
-      (padded-length 0 (z .index) (placedTo f side P n n .slots) (h .index))
-      (padded-length nought (z .values) values g)
+    (padded-length 0 (z .index) (placedTo f side P n n .slots) (h .index))
+    (padded-length nought (z .values) values g)
 
 values-fit : (f : Form) (side : Side) (P : Pattern) (n : ℕ) (rows : List Row) (z : SideSizes) → Fitting f side P n z
     → ((k : ℕ) → k < n → length (valuesOf f side P n rows k) ≡ length (listsOf f side P n k)) → length (valuesKept f side P n rows) ≤ z .values
@@ -134,7 +134,7 @@ unfolding kept pivotsKept ownOrder
 kept-same f i z a u v d x h =
     rw (length-replicate (z .work) nought, length-replicate {A = ℕ} (z .marks) 0)
     (sizes-is z _ _ _ _ (side-kept f Lower (stored i) (i .n) (z .lower) _ u (values-fit f Lower (stored i) (i .n) (a .rows) (z .lower) u (values-long i z f Lower (a .rows) h))) (side-kept f Upper (stored i) (i .n) (z .upper) _ v (values-fit f Upper (stored i) (i .n) (a .rows) (z .upper) v (values-long i z f Upper (a .rows) h)))
-      (length-table (λ k. getD (a .rows) k none .d) (i .n) ∙ sym d) (length-table _ (i .n) ∙ sym x))
+    (length-table (λ k. getD (a .rows) k none .d) (i .n) ∙ sym d) (length-table _ (i .n) ∙ sym x))
 
 long-listed : (i : Input) (a : Result) → listed i ≡ ok a → LongTo (system i) (i .n) (a .rows)
 unfolding listed system
@@ -175,5 +175,6 @@ empty-is (x ∷ l) e = absurd (omega arith)
 -- a buffer that a form is not lent, [] at entry, is [] at exit: here the plain form's run starts
 pub runs-unlent : (f : Form) (i : Input) (s : Buffers) → s .lower .runs ≡ [] → s .upper .runs ≡ [] → (solve f i s .buffers .lower .runs ≡ []) × (solve f i s .buffers .upper .runs ≡ [])
 runs-unlent f i s a b = (
-    empty-is _ (ap (λ (z : Sizes). z .lower .runs) (lengths-kept f i s) ∙ ap length a),
-    empty-is _ (ap (λ (z : Sizes). z .upper .runs) (lengths-kept f i s) ∙ ap length b))
+  empty-is _ (ap (λ (z : Sizes). z .lower .runs) (lengths-kept f i s) ∙ ap length a),
+  empty-is _ (ap (λ (z : Sizes). z .upper .runs) (lengths-kept f i s) ∙ ap length b),
+)

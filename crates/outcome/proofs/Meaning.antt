@@ -48,6 +48,6 @@ pub stored-is : (i : Input) (k p : ℕ) → IsOrder (i .c) (i .n) → first (bad
 unfolding stored
 stored-is i k p o h l =
     has-map (ic (i .c) (i .n)) (getD (i .c) p 0) p (rowOf (i .starts) (i .columns) (getD (i .r) k 0)) (place-of (i .c) (i .n) o p l)
-      (λ t b e.
-        let u = row-below (i .n) (getD (i .r) k 0) (i .starts) (i .columns) h t b in
-        sym (place-hits (i .c) (i .n) o (getD (rowOf (i .starts) (i .columns) (getD (i .r) k 0)) t 0) u .1) ∙ ap (λ (m : ℕ). getD (i .c) m 0) e)
+    (λ t b e.
+    let u = row-below (i .n) (getD (i .r) k 0) (i .starts) (i .columns) h t b in
+    sym (place-hits (i .c) (i .n) o (getD (rowOf (i .starts) (i .columns) (getD (i .r) k 0)) t 0) u .1) ∙ ap (λ (m : ℕ). getD (i .c) m 0) e)

@@ -81,6 +81,7 @@ module _ (f : Form) (P : Pattern) (n : ℕ) (z : Sizes) where
       both : fits f Lower P n z k ≡ true → fits f Upper P n z k ≡ true → (side : Side) → fits f side P n z k ≡ true
       both g l Lower = g
       both g l Upper = l
+
       go : (a : Bool) → filled P k k ≡ a → (b : Bool) → fits f Lower P n z k ≡ b → (c : Bool) → fits f Upper P n z k ≡ c
           → andThen (holds a (nullAt k)) (andThen (holds b (LowerSlots (spot k))) (holds c (UpperSlots (spot k)))) ≡ Pass → Passes k
       go false h b g c l e = absurd (stop-pass _ e)
@@ -116,10 +117,12 @@ module _ (f : Form) (P : Pattern) (n : ℕ) (z : Sizes) where
     where
       never : Passes k → ⊥
       never p = true≢false (sym (p .fit side) ∙ e)
+
       fails : (q : Refusal) (j : ℕ) → askPlaces f P n z j ≡ Pass → Fails j q → (numberOf q ≡ 10) ⊎ (numberOf q ≡ 11)
       fails q j h (unfilled u v) =
           elim (decLt k j) [ yes a ↦ absurd (never (places-pass j h k a)) | no a ↦ absurd (true≢false (sym (full j (omega arith)) ∙ u)) ]
       fails q j h (lack u s v w) = w
+
       go : (a : Asked) → askPlaces f P n z m ≡ a → (q : Refusal) × (askPlaces f P n z m ≡ Stop q) × ((numberOf q ≡ 10) ⊎ (numberOf q ≡ 11))
       go Pass h = absurd (never (places-pass m h k l))
       go (Stop q) h = let p = places-stop m q h in (q, h, fails q (p .0) (p .2) (p .3))
@@ -131,10 +134,12 @@ module _ (f : Form) (P : Pattern) (n : ℕ) (z : Sizes) where
     where
       pass : (k : ℕ) → askPlaces f P n z k ≡ Pass → first (null P) k ≡ Nothing
       pass k h = first-all (null P) k (λ j l. ap not (places-pass k h j l .filled))
+
       fails : (q : Refusal) (k : ℕ) → k < m → askPlaces f P n z k ≡ Pass → Fails k q → Stop q ≡ absent (first (null P) m) nullAt
       fails q k l h (unfilled u v) = rw (first-at (null P) k m l (pass k h) (ap not u), v)
       fails q k l h (lack u side v w) =
           absurd (true≢false (sym (room k l (λ j a. elim (decLt j k) [ yes b ↦ places-pass k h j b .filled | no b ↦ (let r : j ≡ k = omega arith in rw r u) ]) side) ∙ v))
+
       go : (a : Asked) → askPlaces f P n z m ≡ a → askPlaces f P n z m ≡ absent (first (null P) m) nullAt
       go Pass h = rw (h, pass m h)
       go (Stop q) h = let p = places-stop m q h in h ∙ fails q (p .0) (p .1) (p .2) (p .3)

@@ -61,7 +61,7 @@ sizes s =
       d = length (s .d);
       x = length (s .x);
       work = length (s .work);
-      marks = length (s .marks)
+      marks = length (s .marks);
     }
 
 abbrev pub sideOf : Side → Sizes → SideSizes

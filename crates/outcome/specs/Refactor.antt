@@ -68,13 +68,13 @@ revalued b values = sideBuffers (b .starts) (b .runs) (b .index) (padded nought 
 unfoldable pub refilled : Form → Pattern → ℕ → Buffers → List Row → List Float → List Float → Buffers
 refilled f P n s rows d x =
     allBuffers (revalued (s .lower) (valuesKept f Lower P n rows)) (revalued (s .upper) (valuesKept f Upper P n rows)) d x
-      (replicate (length (s .work)) nought) (replicate (length (s .marks)) 0)
+    (replicate (length (s .work)) nought) (replicate (length (s .marks)) 0)
 
 -- after 12 and 13
 unfoldable pub emptied : Buffers → Buffers
 emptied s =
     allBuffers (revalued (s .lower) []) (revalued (s .upper) []) (replicate (length (s .d)) nought) (s .x)
-      (replicate (length (s .work)) nought) (replicate (length (s .marks)) 0)
+    (replicate (length (s .work)) nought) (replicate (length (s .marks)) 0)
 
 abbrev pub refactored : Form → Input → Buffers → Out Result → Outcome Ended
 refactored f i s (ok a) = ended Complete (refilled f (stored i) (i .n) s (a .rows) (pivotsKept (i .n) (a .rows)) (ownOrder (i .c) (i .n) (a .z)))

@@ -89,7 +89,7 @@ factorsOf f i s =
       d = λ k. getD (s .d) k nan;
       upper = givenList f (s .upper);
       u = givenValues (s .upper);
-      rhs = rightAt i
+      rhs = rightAt i;
     }
 
 -- it writes x and the scratch only

@@ -30,7 +30,7 @@ system i =
       lower = lowerRow (stored i);
       upper = upperRow (stored i) (i .n);
       entries = entries i;
-      rhs = rightAt i
+      rhs = rightAt i;
     }
 
 -- the listed operations up to the first fault: 12 or 13 at the place at work, or factors and z
@@ -64,9 +64,9 @@ pivotsKept n rows = table (λ k. getD rows k none .d) n
 unfoldable pub kept : Form → Input → Sizes → Result → Buffers
 kept f i z a =
     allBuffers
-      (sidePlaced f Lower (stored i) (i .n) (z .lower) (valuesKept f Lower (stored i) (i .n) (a .rows)))
-      (sidePlaced f Upper (stored i) (i .n) (z .upper) (valuesKept f Upper (stored i) (i .n) (a .rows)))
-      (pivotsKept (i .n) (a .rows)) (ownOrder (i .c) (i .n) (a .z)) (replicate (z .work) nought) (replicate (z .marks) 0)
+    (sidePlaced f Lower (stored i) (i .n) (z .lower) (valuesKept f Lower (stored i) (i .n) (a .rows)))
+    (sidePlaced f Upper (stored i) (i .n) (z .upper) (valuesKept f Upper (stored i) (i .n) (a .rows)))
+    (pivotsKept (i .n) (a .rows)) (ownOrder (i .c) (i .n) (a .z)) (replicate (z .work) nought) (replicate (z .marks) 0)
 
 -- "the row form zeroes all that it writes but x"
 abbrev pub left : Form → Input → Sizes → Result → Buffers

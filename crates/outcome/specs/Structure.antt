@@ -48,7 +48,7 @@ counts i =
     record {
       lower = sum (i .n) (λ k. length (lowerRow (stored i) k));
       upper = sum (i .n) (λ k. length (upperRow (stored i) (i .n) k));
-      products = products (stored i) (i .n)
+      products = products (stored i) (i .n);
     }
 
 -- run starts, where the form has them
@@ -66,7 +66,7 @@ sidePlaced f side P n z values =
 unfoldable pub structured : Form → Input → Sizes → Buffers
 structured f i z =
     allBuffers (sidePlaced f Lower (stored i) (i .n) (z .lower) []) (sidePlaced f Upper (stored i) (i .n) (z .upper) [])
-      (replicate (z .d) nought) (replicate (z .x) nought) (replicate (z .work) nought) (replicate (z .marks) 0)
+    (replicate (z .d) nought) (replicate (z .x) nought) (replicate (z .work) nought) (replicate (z .marks) 0)
 
 -- the structure call in the plain or the shared form: "takes no values and no b, skips 6 and stops before 12"
 unfoldable pub structure : Form → Input → Buffers → Outcome Answer

@@ -43,13 +43,13 @@ among-asc m (y ∷ ys) [] a b s = (omega arith, λ e. absurd (omega arith))
 among-asc m (y ∷ ys) (x ∷ xs) a b s =
     ⊎-elim
     (λ e.
-      let a′ : Ascends (suc y) xs = asc-weaken (suc x) (suc y) xs (omega arith) (a .1) in
-      let r = among-asc (suc y) ys xs a′ (b .1) (among-tail y xs ys a′ (λ z d. s z (List·Memᴰ·tail d))) in
-      (omega arith, λ l. ap₂ (λ u v. u ∷ v) e (r .1 (omega arith))))
+    let a′ : Ascends (suc y) xs = asc-weaken (suc x) (suc y) xs (omega arith) (a .1) in
+    let r = among-asc (suc y) ys xs a′ (b .1) (among-tail y xs ys a′ (λ z d. s z (List·Memᴰ·tail d))) in
+    (omega arith, λ l. ap₂ (λ u v. u ∷ v) e (r .1 (omega arith))))
     (λ t.
-      let a′ : Ascends (suc y) (x ∷ xs) = (asc-least (suc y) x ys (b .1) t, a .1) in
-      let r = among-asc (suc y) ys (x ∷ xs) a′ (b .1) (among-tail y (x ∷ xs) ys a′ s) in
-      (omega arith, λ l. absurd (omega arith)))
+    let a′ : Ascends (suc y) (x ∷ xs) = (asc-least (suc y) x ys (b .1) t, a .1) in
+    let r = among-asc (suc y) ys (x ∷ xs) a′ (b .1) (among-tail y (x ∷ xs) ys a′ s) in
+    (omega arith, λ l. absurd (omega arith)))
     (List·Memᴰ·cases-cons (s x (List·Memᴰ·head refl)))
 
 pub among-drop : (n : ℕ) (xs : List ℕ) → Among (drop n xs) xs
@@ -76,11 +76,11 @@ count-tail k m [] a = tt
 count-tail k m (x ∷ xs) a =
     by-test (ltb k x)
     (λ e.
-      rw (e, count-all k (suc x) xs (omega (arith, ltb-true k x e)) (a .1), suc-sub-suc, sub-self)
-      (omega (arith, ltb-true k x e), a .1))
+    rw (e, count-all k (suc x) xs (omega (arith, ltb-true k x e)) (a .1), suc-sub-suc, sub-self)
+    (omega (arith, ltb-true k x e), a .1))
     (λ e.
-      let h : suc (length xs) - countAbove k xs ≡ suc (length xs - countAbove k xs) = omega (arith, count-le k xs) in
-      rw (e, h) (count-tail k (suc x) xs (a .1)))
+    let h : suc (length xs) - countAbove k xs ≡ suc (length xs - countAbove k xs) = omega (arith, count-le k xs) in
+    rw (e, h) (count-tail k (suc x) xs (a .1)))
 
 -- ---- parts
 

@@ -104,7 +104,7 @@ after s list p =
     record {
       slots = s .slots ++ drop (p .have) list;
       runs = s .runs ++ (p .start ∷ []);
-      last = cond (ltb (p .have) (length list)) (p .start) (s .last)
+      last = cond (ltb (p .have) (length list)) (p .start) (s .last);
     }
 
 module _ (way : Way) (T R : ℕ → List ℕ) where

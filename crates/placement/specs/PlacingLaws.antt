@@ -31,7 +31,7 @@ pub holds-append : (slots more : List ℕ) (r : ℕ) (list : List ℕ) → Holds
 holds-append slots more r list h =
     record {
       inside = simp length-append (omega arith);
-      reads = part-append r (length list) slots more (h .inside) ∙ h .reads
+      reads = part-append r (length list) slots more (h .inside) ∙ h .reads;
     }
 
 -- once what is lacking is appended the list stands at the plan's start
@@ -39,21 +39,21 @@ pub sound-holds : (slots list : List ℕ) (p : Plan) → Sound slots list p → 
 sound-holds slots list p s =
     by-test (ltb (p .have) (length list))
     (λ t.
-      let q : p .start + p .have ≡ length slots = s .ends (ltb-true _ _ t) in
-      let i : p .start ≤ length slots = omega arith in
-      let short : length (drop (p .start) slots) ≤ p .have = simp length-drop (omega arith) in
-      let d : drop (p .start) slots ≡ take (p .have) list = sym (take-all (p .have) (drop (p .start) slots) short) ∙ s .stands in
-      record {
-        inside = simp (length-append, length-drop) (omega (arith, s .part));
-        reads = rw (drop-append-le (p .start) slots (drop (p .have) list) i, d, take-append-drop (p .have) list, take-length list)
-      })
+    let q : p .start + p .have ≡ length slots = s .ends (ltb-true _ _ t) in
+    let i : p .start ≤ length slots = omega arith in
+    let short : length (drop (p .start) slots) ≤ p .have = simp length-drop (omega arith) in
+    let d : drop (p .start) slots ≡ take (p .have) list = sym (take-all (p .have) (drop (p .start) slots) short) ∙ s .stands in
+    record {
+      inside = simp (length-append, length-drop) (omega (arith, s .part));
+      reads = rw (drop-append-le (p .start) slots (drop (p .have) list) i, d, take-append-drop (p .have) list, take-length list);
+    })
     (λ t.
-      let e : p .have ≡ length list = omega (arith, ltb-false (p .have) (length list) t, s .part) in
-      let i : p .start + length list ≤ length slots = omega (arith, s .within) in
-      record {
-        inside = simp (length-append, length-drop) (omega arith);
-        reads = part-append (p .start) (length list) slots (drop (p .have) list) i ∙ (rw e at s .stands) ∙ take-length list
-      })
+    let e : p .have ≡ length list = omega (arith, ltb-false (p .have) (length list) t, s .part) in
+    let i : p .start + length list ≤ length slots = omega (arith, s .within) in
+    record {
+      inside = simp (length-append, length-drop) (omega arith);
+      reads = part-append (p .start) (length list) slots (drop (p .have) list) i ∙ (rw e at s .stands) ∙ take-length list;
+    })
 
 append-sound : (slots list : List ℕ) → Sound slots list (appendAll slots)
 unfolding appendAll
@@ -68,17 +68,17 @@ unfolding overlap
 overlap-sound slots last list =
     by-test (ltb (meets slots last list) (length slots))
     (λ e.
-      by-test (agree (drop (meets slots last list) slots) list)
-      (λ f.
-        rw (e, f)
-        (let h : meets slots last list < length slots = ltb-true _ _ e in
-          record {
-            within = omega arith;
-            part = omega arith;
-            stands = agree-take (min (length list) (length slots - meets slots last list)) (drop (meets slots last list) slots) list (simp length-drop (omega arith)) (omega arith) f;
-            ends = λ g. omega arith
-          }))
-      (λ f. rw (e, f) (fresh-sound slots list)))
+    by-test (agree (drop (meets slots last list) slots) list)
+    (λ f.
+    rw (e, f)
+    (let h : meets slots last list < length slots = ltb-true _ _ e in
+    record {
+      within = omega arith;
+      part = omega arith;
+      stands = agree-take (min (length list) (length slots - meets slots last list)) (drop (meets slots last list) slots) list (simp length-drop (omega arith)) (omega arith) f;
+      ends = λ g. omega arith;
+    }))
+    (λ f. rw (e, f) (fresh-sound slots list)))
     (λ e. rw e (fresh-sound slots list))
 
 -- ---- the best tail
@@ -90,8 +90,8 @@ best-in f j (l ∷ row) =
     by-test (ltb (f j) (f l))
     (λ e. rw e (List·Memᴰ·tail (best-in f l row .0), best-in f l row .1))
     (λ e.
-      rw e
-      (⊎-elim (λ p. List·Memᴰ·head p) (λ q. List·Memᴰ·tail (List·Memᴰ·tail q)) (List·Memᴰ·cases-cons (best-in f j row .0)), best-in f j row .1))
+    rw e
+    (⊎-elim (λ p. List·Memᴰ·head p) (λ q. List·Memᴰ·tail (List·Memᴰ·tail q)) (List·Memᴰ·cases-cons (best-in f j row .0)), best-in f j row .1))
 
 -- unless f is 0 throughout, the best place is one of the row, and f is there what it says
 pub best-at : (f : ℕ → ℕ) (row : List ℕ) → 0 < best f row .most → List·Memᴰ (best f row .at) row × (f (best f row .at) ≡ best f row .most)
@@ -153,7 +153,7 @@ tail-sound slots r c xs ys h k e d =
       within = omega (arith, h .inside);
       part = omega arith;
       stands = rw (← drop-drop a r slots, take-drop a (length ys) (drop r slots), n, h .reads, d, take-length ys);
-      ends = λ g. absurd (omega arith)
+      ends = λ g. absurd (omega arith);
     }
 
 pub shared-sound : (T : ℕ → List ℕ) (run : ℕ → ℕ) (slots : List ℕ) (last k : ℕ) (row : List ℕ)
@@ -163,19 +163,19 @@ shared-sound T run slots last k row f =
     by-test (eqb (length (T k)) 0)
     (λ e. rw e (record { within = omega arith; part = omega arith; stands = refl; ends = λ g. omega arith }))
     (λ e.
-      rw e
-      (by-test (eqb (b .most) (length (T k)))
-      (λ t.
-        rw t
-        (let q : b .most ≡ length (T k) = eqb-true (b .most) (length (T k)) t in
-          let pos : 0 < b .most = omega (arith, eqb-false (length (T k)) 0 e) in
-          let m = best-at (tails T k) row pos in
-          let c : countAbove k (T (b .at)) ≡ b .most = m .1 in
-          tail-sound slots (run (b .at)) (b .most) (T (b .at)) (T k) (f .held (b .at) (m .0))
-          (omega (arith, count-le k (T (b .at))))
-          (sym q)
-          (rw (← c) (tail-is k (suc (b .at)) (T (b .at)) (T k) (f .asc (b .at) (m .0)) (f .own) (f .nested (b .at) (m .0)) (c ∙ q)))))
-      (λ t. rw t (overlap-sound slots last (T k)))))
+    rw e
+    (by-test (eqb (b .most) (length (T k)))
+    (λ t.
+    rw t
+    (let q : b .most ≡ length (T k) = eqb-true (b .most) (length (T k)) t in
+    let pos : 0 < b .most = omega (arith, eqb-false (length (T k)) 0 e) in
+    let m = best-at (tails T k) row pos in
+    let c : countAbove k (T (b .at)) ≡ b .most = m .1 in
+    tail-sound slots (run (b .at)) (b .most) (T (b .at)) (T k) (f .held (b .at) (m .0))
+    (omega (arith, count-le k (T (b .at))))
+    (sym q)
+    (rw (← c) (tail-is k (suc (b .at)) (T (b .at)) (T k) (f .asc (b .at) (m .0)) (f .own) (f .nested (b .at) (m .0)) (c ∙ q)))))
+    (λ t. rw t (overlap-sound slots last (T k)))))
   where
     b : Tail
     b = best (tails T k) row
@@ -201,18 +201,18 @@ after-kept T s k p h q =
     record {
       count = simp length-append (omega (arith, h .count));
       all = λ i l.
-        by-test (ltb i k)
-        (λ t.
+          by-test (ltb i k)
+          (λ t.
           let e : getD (s .runs ++ (p .start ∷ [])) i 0 ≡ getD (s .runs) i 0 = List·getD-append (s .runs) (p .start ∷ []) 0 i (omega (arith, ltb-true i k t, h .count)) in
           rw e (holds-append (s .slots) (drop (p .have) (T k)) (runOf s i) (T i) (h .all i (ltb-true i k t))))
-        (λ t.
+          (λ t.
           let e : i ≡ k = omega (arith, ltb-false i k t) in
           rw (e, getD-at (s .runs) (p .start) [] 0 k (h .count)) (sound-holds (s .slots) (T k) p q));
       used = simp (length-append, length-drop) (omega (arith, h .used));
       ended =
-        by-test (ltb (p .have) (length (T k)))
-        (λ t. rw t (simp length-append (omega (arith, q .within))))
-        (λ t. rw t (simp length-append (omega (arith, h .ended))))
+          by-test (ltb (p .have) (length (T k)))
+          (λ t. rw t (simp length-append (omega (arith, q .within))))
+          (λ t. rw t (simp length-append (omega (arith, h .ended))));
     }
 
 -- a way of placing is sound if its plan is, wherever the lists before place k stand
@@ -226,7 +226,7 @@ shared-way T R n h k l s q =
       held = λ i d. q .all i (h .lower k l i d);
       asc = λ i d. h .asc i (omega (arith, h .lower k l i d));
       own = h .asc k l;
-      nested = h .above k l
+      nested = h .above k l;
     })
 
 pub plain-way : (T R : ℕ → List ℕ) (n : ℕ) → SoundWay plain T R n
@@ -270,12 +270,12 @@ after-length s list p = simp (length-append, length-drop)
 
 -- the first number at which a test fails
 pub first-no : (t : ℕ → Bool) (k : ℕ) → t k ≡ false → (j : ℕ) × (j ≤ k) × (t j ≡ false) × ((i : ℕ) → i < j → t i ≡ true)
-first-no t k e = go k (λ i l. absurd (omega arith)) 
+first-no t k e = go k (λ i l. absurd (omega arith))
   where
     go : (d : ℕ) → ((i : ℕ) → i < k - d → t i ≡ true) → (j : ℕ) × (j ≤ k) × (t j ≡ false) × ((i : ℕ) → i < j → t i ≡ true)
     go zero h = (k, omega arith, e, λ i l. h i (omega arith))
     go (suc d) h =
-        by-test (t (k - suc d)) 
+        by-test (t (k - suc d))
         (λ y. go d (λ i l. by-test (ltb i (k - suc d)) (λ z. h i (ltb-true i (k - suc d) z)) (λ z. let q : i ≡ k - suc d = omega (arith, ltb-false i (k - suc d) z) in rw q y)))
         (λ y. (k - suc d, omega arith, y, h))
 
@@ -315,13 +315,14 @@ unfolding placed after plain appendAll startOf
 plain-starts T R zero = (refl, refl, λ i h. absurd (omega arith))
 plain-starts T R (suc k) =
     let r = plain-starts T R k in
-    let s = placed plain T R k in
-    (simp length-append (omega (arith, r .0)),
+    let s = placed plain T R k in (
+      simp length-append (omega (arith, r .0)),
       simp length-append (ap (λ m. m + length (T k)) (r .1)),
       λ i h.
-        by-test (ltb i k)
-        (λ t. List·getD-append (s .runs) (length (s .slots) ∷ []) 0 i (omega (arith, ltb-true i k t, r .0)) ∙ r .2 i (ltb-true i k t))
-        (λ t. let e : i ≡ k = omega (arith, ltb-false i k t) in rw e (getD-at (s .runs) (length (s .slots)) [] 0 k (r .0) ∙ r .1)))
+          by-test (ltb i k)
+          (λ t. List·getD-append (s .runs) (length (s .slots) ∷ []) 0 i (omega (arith, ltb-true i k t, r .0)) ∙ r .2 i (ltb-true i k t))
+          (λ t. let e : i ≡ k = omega (arith, ltb-false i k t) in rw e (getD-at (s .runs) (length (s .slots)) [] 0 k (r .0) ∙ r .1)),
+    )
 
 -- ---- the first of the best
 
@@ -341,7 +342,7 @@ best-first f i m x [] post = λ e h. let t = lt-ltb m (f x) h in rw t (List·Mem
 best-first f i m x (y ∷ pre) post =
     by-test (ltb m (f y))
     (λ t. rw t (λ e h.
-      by-test (ltb (f y) (f x))
-      (λ u. List·Memᴰ·tail (best-first f y (f y) x pre post e (ltb-true (f y) (f x) u)))
-      (λ u. List·Memᴰ·head (best-stays f y (f y) (pre ++ x ∷ post) (omega (arith, ltb-false (f y) (f x) u, best-least f y (f y) (pre ++ x ∷ post)))))))
+    by-test (ltb (f y) (f x))
+    (λ u. List·Memᴰ·tail (best-first f y (f y) x pre post e (ltb-true (f y) (f x) u)))
+    (λ u. List·Memᴰ·head (best-stays f y (f y) (pre ++ x ∷ post) (omega (arith, ltb-false (f y) (f x) u, best-least f y (f y) (pre ++ x ∷ post)))))))
     (λ t. rw t (λ e h. List·Memᴰ·tail (best-first f i m x pre post e h)))
