@@ -1,0 +1,51 @@
+use Rattle.printing.specs.Written.{then-written}
+use Rattle.printing.specs.Print.{digits, labelled, hexadecimal, bitsEnd, countsLine, valueLine, refusedLine, tooLargeLine}
+use Rattle.printing.proofs.Laws.{digits-length}
+use Prim.Native.Nat.{_+_, _≤_}
+use native.Mathlib.Omega.{arith}
+use borrow.Author.Needs.{needs}
+use Rattle.printing.proofs.put_refused.Statement.{statement}
+use Rattle.printing.proofs.put_refused.Tie as tie
+use Rattle.printing.proofs.put_refused.Reads as reads
+use Rattle.printing.proofs.put_refused.Lts as lts
+use Rattle.printing.proofs.put_labelled.Reads as put-labelled-reads
+use Rattle.printing.proofs.put_text.Reads as put-text-reads
+
+slice-aggregate-put-labelled : tie.Need-slice-aggregate-put-labelled
+slice-aggregate-put-labelled c = search needs
+
+put-labelled-requires : tie.Need-put-labelled-requires
+put-labelled-requires c κs = search needs
+
+slice-aggregate-put-labelled-2 : tie.Need-slice-aggregate-put-labelled-2
+slice-aggregate-put-labelled-2 c = search needs
+
+put-labelled-requires-2 : tie.Need-put-labelled-requires-2
+put-labelled-requires-2 c κs = search needs
+
+slice-aggregate-put-text : tie.Need-slice-aggregate-put-text
+slice-aggregate-put-text c = search needs
+
+put-text-requires : tie.Need-put-text-requires
+put-text-requires c κs = search needs
+
+same-length : tie.Need-same-length
+same-length c = search needs
+
+returns : tie.Need-returns
+unfolding refusedLine
+returns c =
+    then-written _ _ _ _ _ _ _ _ (then-written _ _ _ _ _ _ _ _ (c .before .before .before .before .before .before .before .before .before .before .before .before .put-labelled .ensures .0) (c .before .before .before .before .before .before .before .put-labelled2 .ensures .0)) (c .before .before .put-text .ensures)
+
+pub put-refused-spec : {M : Type 1} → statement M
+put-refused-spec =
+    tie.close
+    (tie.spec
+    slice-aggregate-put-labelled
+    put-labelled-requires
+    slice-aggregate-put-labelled-2
+    put-labelled-requires-2
+    slice-aggregate-put-text
+    put-text-requires
+    same-length
+    returns)

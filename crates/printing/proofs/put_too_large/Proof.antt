@@ -1,0 +1,29 @@
+use Rattle.printing.specs.Written.{then-written}
+use Rattle.printing.specs.Print.{digits, labelled, hexadecimal, bitsEnd, countsLine, valueLine, refusedLine, tooLargeLine}
+use Rattle.printing.proofs.Laws.{digits-length}
+use Prim.Native.Nat.{_+_, _≤_}
+use native.Mathlib.Omega.{arith}
+use borrow.Author.Needs.{needs}
+use Rattle.printing.proofs.put_too_large.Statement.{statement}
+use Rattle.printing.proofs.put_too_large.Tie as tie
+use Rattle.printing.proofs.put_too_large.Reads as reads
+use Rattle.printing.proofs.put_too_large.Lts as lts
+use Rattle.printing.proofs.put_text.Reads as put-text-reads
+
+slice-aggregate-put-text : tie.Need-slice-aggregate-put-text
+slice-aggregate-put-text c = search needs
+
+put-text-requires : tie.Need-put-text-requires
+put-text-requires c κs = search needs
+
+same-length : tie.Need-same-length
+same-length c = search needs
+
+returns : tie.Need-returns
+unfolding tooLargeLine
+returns c =
+    c .before .before .put-text .ensures
+
+pub put-too-large-spec : {M : Type 1} → statement M
+put-too-large-spec =
+    tie.close (tie.spec slice-aggregate-put-text put-text-requires same-length returns)
