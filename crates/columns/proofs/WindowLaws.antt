@@ -1,0 +1,288 @@
+-- Laws of the counts, of opening and filling a window, and of handing out a column.
+use mathlib.Core.Path.{_≡_, refl, sym, ap, _∙_}
+use mathlib.Core.List.{List, [], _∷_}
+use Prim.Native.Nat.{ℕ, zero, suc, _+_, _-_, _*_, _<_, _≤_}
+use native.Mathlib.Omega.{arith}
+use native.Mathlib.Decide.{ℕ-discrete}
+use lib.ListN.{length, getD, take, set}
+use lib.Seq.{getD-set-other, getD-set-same}
+use Rattle.base.specs.Lists.{sum}
+use Rattle.base.specs.AscLaws.{sum-ext}
+use Rattle.columns.specs.Marks.{Below, stamped}
+use Rattle.columns.specs.Columns.{Space, orderOf, Kept, Steady, rowsOf, hits, bare, column, Counts, Countable, Counted, Tally, Started, Chain, none, HasChain, lengthAt, held, Listed, Roomy, Offered, headAt, Emptied, Filled, Ready, Windowed, Loaded}
+use Rattle.columns.proofs.Keeps.{same, then, stored, order-kept, kept-wider, steady-unmarked, unmarked-stamped, both-stamped}
+use Rattle.columns.proofs.ColumnLaws.{hits-here, hits-there, hits-more, hits-part, grown-start, grown-more, grown-end, column-zero, column-more, column-part, bare-length, below-column, held-at-most}
+use Rattle.columns.proofs.ListLaws.{lists-frame}
+
+-- ---- counting
+
+-- a head written
+pub head-kept : (n lo hi j v : ℕ) (s : List ℕ) → lo ≤ j → j < hi → hi ≤ n → Kept n lo hi s (set s (4 * n + j) v)
+head-kept n lo hi j v s a b h = stored s (4 * n + j) v (λ y p q e. omega (arith, p (omega arith)))
+
+pub record Clearing (n i : ℕ) (s₀ s : List ℕ) : Type 0 where
+  pub kept : Kept n 0 n s₀ s
+  pub zero : (j : ℕ) → j < i → getD s (4 * n + j) 0 ≡ 0
+
+pub clear-start : (n : ℕ) (s : List ℕ) → Clearing n 0 s s
+clear-start n s = record { kept = same s; zero = λ j h. absurd (omega arith) }
+
+pub clear-more : {n i : ℕ} {s₀ s : List ℕ} → Space n s₀ → i < n → Clearing n i s₀ s → Clearing n (i + 1) s₀ (set s (4 * n + i) 0)
+clear-more {n} {i} {s₀} {s} sp h c = record {
+  kept = then (c .kept) (head-kept n 0 n i 0 s (omega arith) h (omega arith));
+  zero = λ j g. elim (ℕ-discrete j i) [
+    | yes e ↦ rw e (getD-set-same s (4 * n + i) 0 0 (omega (arith, sp .fits, c .kept .size)))
+    | no e ↦ getD-set-other s (4 * n + i) (4 * n + j) 0 0 (omega arith) ∙ c .zero j (omega arith)
+  ];
+}
+
+pub clear-end : {n i : ℕ} {s₀ s : List ℕ} → n ≤ i → Clearing n i s₀ s → Tally n bare s₀ s
+clear-end h c = record { kept = c .kept; counts = record { slot = λ j a b. c .zero j (omega arith) ∙ sym (bare-length j) } }
+
+-- one entry counted
+pub one-counted : {n j : ℕ} {s u : List ℕ} → Space n s → j < n → u ≡ set s (4 * n + j) (getD s (4 * n + j) 0 + 1) → Counted n (j ∷ []) s u
+one-counted {n} {j} {s} sp h e = rw e (record {
+  kept = head-kept n 0 n j (getD s (4 * n + j) 0 + 1) s (omega arith) h (omega arith);
+  grown = λ i. record {
+    grow = λ f c. record {
+      slot = λ x a b. elim (ℕ-discrete x j) [
+        | yes q ↦ rw q (getD-set-same s (4 * n + j) (getD s (4 * n + j) 0 + 1) 0 (omega (arith, sp .fits)) ∙ omega (arith, c .slot j (omega arith) h, hits-here i j f))
+        | no q ↦ getD-set-other s (4 * n + j) (4 * n + x) (getD s (4 * n + j) 0 + 1) 0 (omega arith) ∙ c .slot x a b ∙ ap length (sym (hits-there i j f x (λ v. q (sym v))))
+      ];
+    };
+  };
+})
+
+pub count-start : (n : ℕ) (s : List ℕ) → Counted n [] s s
+count-start n s = record { kept = same s; grown = grown-start (Counts n 0 s) }
+
+pub count-more : {n j : ℕ} {s₀ s u : List ℕ} (q : ℕ) (xs : List ℕ) → q < length xs → j ≡ getD xs q 0 → Counted n (take q xs) s₀ s → Counted n (j ∷ []) s u
+    → Counted n (take (q + 1) xs) s₀ u
+count-more q xs h e a b = record { kept = then (a .kept) (b .kept); grown = λ i. grown-more q xs h e (a .grown i) (b .grown i) }
+
+pub count-end : {n : ℕ} {s₀ s : List ℕ} (q : ℕ) (xs : List ℕ) → length xs ≡ q → Counted n (take q xs) s₀ s → Counted n xs s₀ s
+count-end q xs e a = record { kept = a .kept; grown = λ i. grown-end q xs e (a .grown i) }
+
+pub count-room : {n j : ℕ} {s₀ s : List ℕ} (q : ℕ) (xs : List ℕ) → q < length xs → j ≡ getD xs q 0 → j < n → Countable n xs s₀ → Counted n (take q xs) s₀ s
+    → getD s (4 * n + j) 0 < n
+count-room {n} {j} q xs h e hj r a =
+    let g = hits (r .row) (take q xs) (r .f) in
+    let v : length (hits (r .row) (j ∷ []) g j) ≤ length (hits (r .row) xs (r .f) j)
+    = rw (e, ← hits-more (r .row) q xs (r .f) h) (hits-part (r .row) (q + 1) xs (r .f) (getD xs q 0)) in
+    omega (arith, a .grown (r .row) .grow (r .f) (r .counts) .slot j (omega arith) hj, v, r .few j, hits-here (r .row) j g)
+
+pub tally-start : {n : ℕ} (R : ℕ → List ℕ) {s : List ℕ} → Counts n 0 s bare → Tally n (column R 0) s s
+tally-start R {s} c = record { kept = same s; counts = rw (column-zero R) c }
+
+pub tally-room : (n k : ℕ) (R : ℕ → List ℕ) {xs s₀ s : List ℕ} → k < n → ((j : ℕ) → length (column R n j) ≤ n) → xs ≡ R k → Tally n (column R k) s₀ s → Countable n xs s
+tally-room n k R h few e t = record {
+  row = k;
+  f = column R k;
+  counts = t .counts;
+  few = λ j. rw (e, ← column-more R k) (omega (arith, few j, column-part R (k + 1) n j (omega arith)));
+}
+
+pub tally-more : (n k : ℕ) (R : ℕ → List ℕ) {xs s₀ s u : List ℕ} → xs ≡ R k → Tally n (column R k) s₀ s → Counted n xs s u → Tally n (column R (k + 1)) s₀ u
+tally-more n k R e t c = record {
+  kept = then (t .kept) (c .kept);
+  counts = rw (column-more R k, ← e) (c .grown k .grow (column R k) (t .counts));
+}
+
+pub tally-end : (n k : ℕ) (R : ℕ → List ℕ) {s₀ s : List ℕ} → k ≡ n → Tally n (column R k) s₀ s → Tally n (column R n) s₀ s
+tally-end n k R e t = rw e at t
+
+pub started : (n : ℕ) (columns starts r : List ℕ) {s₀ s u : List ℕ} → Tally n bare s₀ s → Tally n (column (rowsOf (orderOf n s) columns starts r) n) s u
+    → Started n (rowsOf (orderOf n s₀) columns starts r) s₀ u
+started n columns starts r a b = rw (← order-kept n 0 n (a .kept)) (record {
+  kept = then (a .kept) (b .kept);
+  ready = record {
+    least = omega arith;
+    most = omega arith;
+    lists = record { chain = λ j x y. absurd (omega arith); heads = λ j x y. absurd (omega arith) };
+    counts = b .counts;
+  };
+})
+
+-- ---- the window's opening
+
+sum-next : (m : ℕ) (f : ℕ → ℕ) → sum (suc m) f ≡ sum m f + f m
+unfolding sum
+sum-next m f = refl
+
+sum-none : (f : ℕ → ℕ) → sum 0 f ≡ 0
+unfolding sum
+sum-none f = refl
+
+head-is : (n lo m j : ℕ) (s : List ℕ) → lo + m ≡ j → headAt n s lo m ≡ getD s (4 * n + j) 0
+unfolding headAt
+head-is n lo m j s e = rw e
+
+pub record Opening (n lo hi left : ℕ) (s₀ s : List ℕ) : Type 0 where
+  pub kept : Kept n lo hi s₀ s
+  pub least : lo ≤ hi
+  pub most : hi ≤ n
+  pub zero : (j : ℕ) → lo ≤ j → j < hi → getD s (4 * n + j) 0 ≡ 0
+  pub total : left + sum (hi - lo) (headAt n s₀ lo) ≡ n
+
+pub open-start : (n lo : ℕ) (s : List ℕ) → lo ≤ n → Opening n lo lo n s s
+open-start n lo s h =
+    let e : lo - lo ≡ 0 = omega arith in
+    record { kept = same s; least = omega arith; most = h; zero = λ j a b. absurd (omega arith); total = rw e (omega (arith, sum-none (headAt n s lo))) }
+
+pub open-more : {n lo hi left c : ℕ} {s₀ s : List ℕ} → Space n s₀ → hi < n → c ≡ getD s (4 * n + hi) 0 → c ≤ left
+    → Opening n lo hi left s₀ s → Opening n lo (hi + 1) (left - c) s₀ (set s (4 * n + hi) 0)
+open-more {n} {lo} {hi} {left} {c} {s₀} {s} sp h ec hc m =
+    let l = m .least in
+    let d : hi + 1 - lo ≡ suc (hi - lo) = omega arith in
+    let v : headAt n s₀ lo (hi - lo) ≡ c
+    = head-is n lo (hi - lo) hi s₀ (omega arith) ∙ sym (m .kept .slots (4 * n + hi) (λ g. omega arith) (λ g. omega arith)) ∙ sym ec in
+    record {
+      kept = then (kept-wider n lo hi lo (hi + 1) (omega arith) (omega arith) (m .kept)) (head-kept n lo (hi + 1) hi 0 s l (omega arith) (omega arith));
+      least = omega arith;
+      most = omega arith;
+      zero = λ j a b. elim (ℕ-discrete j hi) [
+        | yes e ↦ rw e (getD-set-same s (4 * n + hi) 0 0 (omega (arith, sp .fits, m .kept .size)))
+        | no e ↦ getD-set-other s (4 * n + hi) (4 * n + j) 0 0 (omega arith) ∙ m .zero j a (omega arith)
+      ];
+      total = rw d (omega (arith, sum-next (hi - lo) (headAt n s₀ lo), v, m .total));
+    }
+
+pub open-stop : {n lo hi left c : ℕ} {s₀ s : List ℕ} → hi < n → c ≡ getD s (4 * n + hi) 0 → left < c → Opening n lo hi left s₀ s → Emptied n lo hi s₀ s
+open-stop {n} {lo} {hi} {left} {c} {s₀} {s} h ec hc m = record {
+  kept = m .kept;
+  least = m .least;
+  most = m .most;
+  zero = m .zero;
+  total = omega (arith, m .total);
+  some = λ a b. go b (ℕ-discrete lo hi);
+}
+  where
+    go : getD s₀ (4 * n + lo) 0 ≤ n → Dec (lo ≡ hi) → lo < hi
+    go b (no q) = omega (arith, m .least)
+    go b (yes q) =
+        let d : hi - lo ≡ 0 = omega arith in
+        let t : left + sum 0 (headAt n s₀ lo) ≡ n = rw d at (m .total) in
+        let v : c ≡ getD s₀ (4 * n + lo) 0 = rw q (ec ∙ m .kept .slots (4 * n + hi) (λ g. omega arith) (λ g. omega arith)) in
+        absurd (omega (arith, t, v, sum-none (headAt n s₀ lo)))
+
+pub open-end : {n lo hi left : ℕ} {s₀ s : List ℕ} → n ≤ hi → Opening n lo hi left s₀ s → Emptied n lo hi s₀ s
+open-end h m = record { kept = m .kept; least = m .least; most = m .most; zero = m .zero; total = omega (arith, m .total); some = λ a b. omega arith }
+
+-- ---- the window's filling
+
+pub record Filling (n lo hi k : ℕ) (R : ℕ → List ℕ) (s₀ s : List ℕ) (p : ℕ) : Type 0 where
+  pub kept : Kept n lo hi s₀ s
+  pub listed : Listed n lo hi s p (column R k)
+
+held-bare : (lo m : ℕ) → sum m (lengthAt bare lo) ≡ 0
+unfolding sum lengthAt bare
+held-bare lo zero = refl
+held-bare lo (suc m) = omega (arith, held-bare lo m)
+
+bare-chain : (n : ℕ) (s : List ℕ) (j : ℕ) → Chain n s 0 (bare j)
+unfolding bare
+bare-chain n s j = none
+
+pub fill-start : (n lo hi : ℕ) (R : ℕ → List ℕ) (s : List ℕ) → ((j : ℕ) → lo ≤ j → j < hi → getD s (4 * n + j) 0 ≡ 0) → Filling n lo hi 0 R s s 0
+unfolding held column
+fill-start n lo hi R s z = record {
+  kept = same s;
+  listed = record {
+    lists = record {
+      chain = λ j a b. rw (z j a b) (bare-chain n s j);
+      heads = λ j a b. omega (arith, z j a b);
+    };
+    count = sym (held-bare lo (hi - lo));
+  };
+}
+
+pub fill-room : {n lo hi k : ℕ} {R : ℕ → List ℕ} {xs s₀ s : List ℕ} {p : ℕ} → k < n → held lo hi (column R n) ≤ n → xs ≡ R k → Filling n lo hi k R s₀ s p
+    → Roomy n lo hi k xs s p
+fill-room {n} {lo} {hi} {k} {R} h r e a = record {
+  f = column R k;
+  listed = a .listed;
+  room = rw (e, ← column-more R k) (omega (arith, r, held-at-most lo hi (column R (k + 1)) (column R n) (λ j. column-part R (k + 1) n j (omega arith))));
+}
+
+pub fill-more : {n lo hi k : ℕ} {R : ℕ → List ℕ} {xs s₀ s u : List ℕ} {p p′ : ℕ} → xs ≡ R k → Filling n lo hi k R s₀ s p → Offered n lo hi k xs s u p p′
+    → Filling n lo hi (k + 1) R s₀ u p′
+fill-more {k = k} {R = R} e a b = record {
+  kept = then (a .kept) (b .kept);
+  listed = rw (column-more R k, ← e) (b .grown .grow (column R k) (a .listed));
+}
+
+pub fill-end : {n lo hi k : ℕ} {R : ℕ → List ℕ} {s₀ s : List ℕ} {p : ℕ} → k ≡ n → held lo hi (column R n) ≤ n → Filling n lo hi k R s₀ s p → Filled n lo hi (column R n) s₀ s
+fill-end {n} {lo} {hi} {k} {R} {s₀} {s} {p} e h f =
+    let g : Listed n lo hi s p (column R n) = rw e at (f .listed) in
+    record { kept = f .kept; lists = record { chain = g .lists .chain; heads = λ j a b. omega (arith, g .lists .heads j a b, g .count) } }
+
+-- ---- the window
+
+pub window-kept : {n k hi : ℕ} {R : ℕ → List ℕ} {s : List ℕ} → k < hi → Ready n k hi R s → Windowed n k hi R s s
+window-kept {s = s} h r = record { kept = same s; has = h; ready = r }
+
+-- the counts say that the window's entries fit
+pub window-fits : {n k hi end : ℕ} {R Q : ℕ → List ℕ} {s₀ s : List ℕ} → Q ≡ R → hi ≤ k → Ready n k hi R s₀ → Emptied n k end s₀ s → held k end (column Q n) ≤ n
+unfolding held lengthAt headAt
+window-fits {n} {k} {hi} {end} {R} {Q} {s₀} e h r m =
+    let l = m .least in
+    let g = m .most in
+    rw (e, sum-ext (end - k) (lengthAt (column R n) k) (headAt n s₀ k) (λ j a. sym (r .counts .slot (k + j) (omega arith) (omega arith)))) (m .total)
+
+pub window-made : (n k hi end : ℕ) (R Q : ℕ → List ℕ) {s₀ s u : List ℕ} → Q ≡ R → k < n → hi ≤ k → ((j : ℕ) → length (column R n j) ≤ n) → Ready n k hi R s₀
+    → Emptied n k end s₀ s → Filled n k end (column Q n) s u → Windowed n k end R s₀ u
+window-made n k hi end R Q q h g few r m f′ =
+    let f = rw q at f′ in
+    let w = then (m .kept) (f .kept) in
+    let l = m .least in
+    let e = m .most in
+    record {
+      kept = kept-wider n k end k n (omega arith) (omega arith) w;
+      has = m .some h (omega (arith, r .counts .slot k g h, few k));
+      ready = record {
+        least = l;
+        most = e;
+        lists = f .lists;
+        counts = record { slot = λ j a b. w .slots (4 * n + j) (λ v. omega arith) (λ v. omega arith) ∙ r .counts .slot j (omega arith) b };
+      };
+    }
+
+-- ---- the column of place k
+
+pub window-list : {n k hi h : ℕ} {R : ℕ → List ℕ} {s₀ s : List ℕ} → Windowed n k hi R s₀ s → h ≡ getD s (4 * n + k) 0 → Chain n s h (column R n k)
+window-list {k = k} w e = rw e (w .ready .lists .chain k (omega arith) (w .has))
+
+pub window-head : {n k hi h : ℕ} {R : ℕ → List ℕ} {s₀ s : List ℕ} → Windowed n k hi R s₀ s → h ≡ getD s (4 * n + k) 0 → HasChain n s h
+window-head {n} {k} {hi} {h} {R} w e = record { room = omega (arith, w .ready .lists .heads k (omega arith) (w .has)); list = column R n k; chain = window-list w e }
+
+-- columns can be handed out as before where their heads and the nodes are the same
+pub ready-steady : {n k hi : ℕ} {R : ℕ → List ℕ} {s u : List ℕ} → Steady n k s u → Ready n k hi R s → Ready n k hi R u
+ready-steady {n} {k} {hi} {R} d r =
+    let l = r .least in
+    record {
+      least = l;
+      most = r .most;
+      lists = lists-frame (r .most) d (r .lists);
+      counts = record { slot = λ j a b. d .heads j (omega arith) b ∙ r .counts .slot j a b };
+    }
+
+pub ready-stamped : {n k hi : ℕ} {R : ℕ → List ℕ} (t : ℕ) (s l : List ℕ) → Below n l → Ready n k hi R s → Ready n k hi R (stamped n t s l)
+ready-stamped {n} {k} t s l b r = ready-steady (steady-unmarked n k (unmarked-stamped n t s l b)) r
+
+-- the next column is due
+pub ready-next : {n k hi : ℕ} {R : ℕ → List ℕ} {s : List ℕ} → k < hi → Ready n k hi R s → Ready n (k + 1) hi R s
+ready-next h r = record {
+  least = omega arith;
+  most = r .most;
+  counts = r .counts;
+  lists = record { chain = λ j a b. r .lists .chain j (omega arith) b; heads = λ j a b. r .lists .heads j (omega arith) b };
+}
+
+pub loaded : {n t k hi : ℕ} {R : ℕ → List ℕ} {s₀ s u : List ℕ} → Space n s₀ → Windowed n k hi R s₀ s → u ≡ stamped n t s (column R n k) → Loaded n t k hi R s₀ u
+loaded {n} {t} {k} {hi} {R} {s₀} {s} sp w e =
+    let l = column R n k in
+    let b : Below n l = below-column n R n k (omega arith) in
+    rw e (record {
+      marks = both-stamped n t s₀ s l sp b (w .kept);
+      ready = ready-steady (steady-unmarked n (k + 1) (unmarked-stamped n t s l b)) (ready-next (w .has) (w .ready));
+    })

@@ -1,0 +1,60 @@
+-- The least matrix meets what the functions require: one entry, its column counted, and its window open.
+use mathlib.Core.Path.{refl}
+use mathlib.Core.List.{List, [], _∷_}
+use Prim.Native.Nat.{ℕ, zero, suc}
+use native.Mathlib.Omega.{arith}
+use Rattle.base.specs.Lists.{listAt}
+use Rattle.base.specs.First.{first}
+use Rattle.matrix.specs.Input.{Input, ic, isOf}
+use Rattle.matrix.specs.Questions.{badIndex, IsOrder}
+use Rattle.columns.specs.Columns.{orderOf, Given, placed, rowsOf, hits, bare, column, none, node, Ready}
+use Rattle.columns.specs.Sides.{Inverse, Sound, rowsIn}
+use Rattle.columns.proofs.Stored.{given-sound}
+
+abbrev one : Input
+one = record { n = 1; starts = 0 ∷ 1 ∷ []; columns = 0 ∷ []; values = []; r = 0 ∷ []; c = 0 ∷ []; b = [] }
+
+-- head 0 counts one entry, or leads to node 0: row 0 and no more
+abbrev scratch : List ℕ
+scratch = 0 ∷ 0 ∷ 0 ∷ 0 ∷ 1 ∷ 0 ∷ 0 ∷ 0 ∷ []
+
+pub sound : Sound one
+unfolding IsOrder first badIndex isOf listAt
+sound = record {
+  starts-long = refl;
+  order-long = refl;
+  rise = elim [ zero ↦ λ h. omega arith | suc k ↦ λ h. absurd (omega arith) ];
+  within = elim [ zero ↦ λ h. omega arith | suc k ↦ λ h. absurd (omega arith) ];
+  columns-below = elim [ zero ↦ λ h. omega arith | suc k ↦ λ h. absurd (omega arith) ];
+  row-order = refl;
+  column-order = refl;
+  distinct = elim [ zero ↦ λ h. record { apart = λ p q a b e. omega arith } | suc k ↦ λ h. absurd (omega arith) ];
+}
+
+pub inverse : Inverse one scratch
+unfolding orderOf ic first isOf
+inverse = record { place = elim [ zero ↦ λ h. refl | suc k ↦ λ h. absurd (omega arith) ] }
+
+pub given : Given 1 (0 ∷ []) (0 ∷ 1 ∷ []) (0 ∷ []) scratch
+given = given-sound one scratch sound inverse (record { small = omega arith; fits = omega arith })
+
+pub counted : Ready 1 0 0 (rowsIn one scratch) scratch
+unfolding column rowsOf placed orderOf listAt hits bare
+counted = record {
+  least = omega arith;
+  most = omega arith;
+  lists = record { chain = λ j a b. absurd (omega arith); heads = λ j a b. absurd (omega arith) };
+  counts = record { slot = elim [ zero ↦ λ a b. refl | suc k ↦ λ a b. absurd (omega arith) ] };
+}
+
+pub opened : Ready 1 0 1 (rowsIn one scratch) scratch
+unfolding column rowsOf placed orderOf listAt hits bare
+opened = record {
+  least = omega arith;
+  most = omega arith;
+  lists = record {
+    chain = elim [ zero ↦ λ a b. node {q = 0} {h = 0} {i = 0} (omega arith) (omega arith) refl refl none | suc k ↦ λ a b. absurd (omega arith) ];
+    heads = elim [ zero ↦ λ a b. omega arith | suc k ↦ λ a b. absurd (omega arith) ];
+  };
+  counts = record { slot = λ j a b. absurd (omega arith) };
+}

@@ -1,0 +1,209 @@
+-- The columns of M', which is lent by rows, handed out in turn as stamps.
+-- Scratch has eight regions of n slots: marks, inverse column order, block stamps, cuts, heads (from slot 4n on), a list, and in the last two (from slot 6n on) n nodes.
+-- A node is a row and the rest of its list. The head of a column counts its entries until its window is opened, and leads to its list then.
+-- The heads of columns handed out are not spoken of. Definitions only.
+use mathlib.Core.List.{List, [], _∷_}
+use mathlib.Core.Bool.{Bool, true, false}
+use mathlib.Core.Path.{_≡_}
+use Prim.Native.Nat.{ℕ, zero, suc, _+_, _-_, _*_, _<_, _≤_}
+use lib.ListN.{length, getD, take, drop, set}
+use lib.Dec.{eqb}
+use Rattle.base.specs.Lists.{sum, rowOf}
+use Rattle.columns.specs.Marks.{Below, stamped}
+
+-- ---- scratch
+
+pub record Space (n : ℕ) (s : List ℕ) : Type 0 where
+  pub small : n ≤ 65536
+  pub fits : 8 * n ≤ length s
+
+-- the inverse column order
+unfoldable pub orderOf : ℕ → List ℕ → List ℕ
+orderOf n s = take n (drop n s)
+
+-- the slots outside a to b and outside c to d are the same
+pub record Outside (a b c d : ℕ) (s₀ s : List ℕ) : Type 0 where
+  pub size : length s ≡ length s₀
+  pub slots : (x : ℕ) → (a ≤ x → b ≤ x) → (c ≤ x → d ≤ x) → getD s x 0 ≡ getD s₀ x 0
+
+-- only heads of columns lo to hi, and nodes, are written
+abbrev pub Kept : ℕ → ℕ → ℕ → List ℕ → List ℕ → Type 0
+Kept n lo hi s₀ s = Outside (4 * n + lo) (4 * n + hi) (6 * n) (8 * n) s₀ s
+
+-- only marks and block stamps are written
+abbrev pub Unmarked : ℕ → List ℕ → List ℕ → Type 0
+Unmarked n s₀ s = Outside 0 n (2 * n) (3 * n) s₀ s
+
+-- what others keep in scratch is the same: the order, cuts and heads up to column k, the list
+pub record Untouched (n k : ℕ) (s₀ s : List ℕ) : Type 0 where
+  pub size : length s ≡ length s₀
+  pub order : orderOf n s ≡ orderOf n s₀
+  pub cuts : (x : ℕ) → 3 * n ≤ x → x < 4 * n + k → getD s x 0 ≡ getD s₀ x 0
+  pub list : (x : ℕ) → 5 * n ≤ x → x < 6 * n → getD s x 0 ≡ getD s₀ x 0
+
+-- the heads of the columns from k on, and the nodes, are the same
+pub record Steady (n k : ℕ) (s₀ s : List ℕ) : Type 0 where
+  pub heads : (j : ℕ) → k ≤ j → j < n → getD s (4 * n + j) 0 ≡ getD s₀ (4 * n + j) 0
+  pub nodes : (x : ℕ) → 6 * n ≤ x → x < 8 * n → getD s x 0 ≡ getD s₀ x 0
+
+-- ---- rows and columns of M'
+
+-- own columns at their places
+unfoldable pub placed : List ℕ → List ℕ → List ℕ
+placed ic [] = []
+placed ic (c ∷ l) = getD ic c 0 ∷ placed ic l
+
+-- "M' is M with entry (k, ic(j)) where M has (r(k), j)": the places of the entries of row k of M'
+unfoldable pub rowsOf : List ℕ → List ℕ → List ℕ → List ℕ → ℕ → List ℕ
+rowsOf ic columns starts r k = placed ic (rowOf starts columns (getD r k 0))
+
+abbrev pub consIf : Bool → ℕ → List ℕ → List ℕ
+consIf true i l = i ∷ l
+consIf false i l = l
+
+-- column j's list with i in front, once for each time that row i's places xs name j
+unfoldable pub hits : ℕ → List ℕ → (ℕ → List ℕ) → ℕ → List ℕ
+hits i [] f j = f j
+hits i (x ∷ xs) f j = consIf (eqb x j) i (hits i xs f j)
+
+-- nothing yet
+unfoldable pub bare : ℕ → List ℕ
+bare j = []
+
+-- column j over the first i rows: the rows with an entry there, the last in front
+unfoldable pub column : (ℕ → List ℕ) → ℕ → ℕ → List ℕ
+column R zero = bare
+column R (suc i) = hits i (R i) (column R i)
+
+-- what held of lists f holds once row i's places xs were added to them
+pub record Grown (P Q : (ℕ → List ℕ) → Type 0) (i : ℕ) (xs : List ℕ) : Type 0 where
+  pub grow : (f : ℕ → List ℕ) → P f → Q (hits i xs f)
+
+-- own row q can be read
+pub record RowIn (columns starts : List ℕ) (q : ℕ) : Type 0 where
+  pub has-end : q + 1 < length starts
+  pub rise : getD starts q 0 ≤ getD starts (q + 1) 0
+  pub inside : getD starts (q + 1) 0 ≤ length columns
+
+-- the places of the inverse order are below n
+abbrev pub Order : ℕ → List ℕ → Type 0
+Order n s = (c : ℕ) → c < n → getD (orderOf n s) c 0 < n
+
+-- what the questions and the inverse order settle: the rows of M' can be read, and no column has more than n entries
+pub record Given (n : ℕ) (columns starts r s : List ℕ) : Type 0 where
+  pub space : Space n s
+  pub order : Order n s
+  pub long : n ≤ length r
+  pub read : (k : ℕ) → k < n → RowIn columns starts (getD r k 0)
+  pub below : (k : ℕ) → k < n → Below n (rowOf starts columns (getD r k 0))
+  pub few : (j : ℕ) → length (column (rowsOf (orderOf n s) columns starts r) n j) ≤ n
+
+-- ---- counts
+
+-- the heads from column lo on count the entries of the lists f
+pub record Counts (n lo : ℕ) (s : List ℕ) (f : ℕ → List ℕ) : Type 0 where
+  pub slot : (j : ℕ) → lo ≤ j → j < n → getD s (4 * n + j) 0 ≡ length (f j)
+
+-- the heads count some lists, which the places xs of some row leave at most n long
+pub record Countable (n : ℕ) (xs s : List ℕ) : Type 0 where
+  pub row : ℕ
+  pub f : ℕ → List ℕ
+  pub counts : Counts n 0 s f
+  pub few : (j : ℕ) → length (hits row xs f j) ≤ n
+
+-- the places xs of a row were counted
+pub record Counted (n : ℕ) (xs s₀ s : List ℕ) : Type 0 where
+  pub kept : Kept n 0 n s₀ s
+  pub grown : (i : ℕ) → Grown (Counts n 0 s₀) (Counts n 0 s) i xs
+
+-- the heads count the lists f, and nothing else changed
+pub record Tally (n : ℕ) (f : ℕ → List ℕ) (s₀ s : List ℕ) : Type 0 where
+  pub kept : Kept n 0 n s₀ s
+  pub counts : Counts n 0 s f
+
+-- ---- lists
+
+-- from the head h, nodes hold the list l; each node's rest stands lower
+pub data Chain (n : ℕ) (s : List ℕ) : ℕ → List ℕ → Type 0 where
+  none : Chain n s 0 []
+  node : {q h i : ℕ} {l : List ℕ} → i < n → h ≤ q → getD s (6 * n + (q + q)) 0 ≡ i → getD s (6 * n + (q + q) + 1) 0 ≡ h → Chain n s h l → Chain n s (suc q) (i ∷ l)
+
+-- some list stands at the head h
+pub record HasChain (n : ℕ) (s : List ℕ) (h : ℕ) : Type 0 where
+  pub room : h ≤ n
+  pub list : List ℕ
+  pub chain : Chain n s h list
+
+-- the heads of columns lo to hi lead to the lists f, in the first p nodes
+pub record Lists (n lo hi : ℕ) (s : List ℕ) (p : ℕ) (f : ℕ → List ℕ) : Type 0 where
+  pub chain : (j : ℕ) → lo ≤ j → j < hi → Chain n s (getD s (4 * n + j) 0) (f j)
+  pub heads : (j : ℕ) → lo ≤ j → j < hi → getD s (4 * n + j) 0 ≤ p
+
+unfoldable pub lengthAt : (ℕ → List ℕ) → ℕ → ℕ → ℕ
+lengthAt f lo m = length (f (lo + m))
+
+-- the entries of the columns lo to hi
+unfoldable pub held : ℕ → ℕ → (ℕ → List ℕ) → ℕ
+held lo hi f = sum (hi - lo) (lengthAt f lo)
+
+-- the lists f of columns lo to hi take up p nodes
+pub record Listed (n lo hi : ℕ) (s : List ℕ) (p : ℕ) (f : ℕ → List ℕ) : Type 0 where
+  pub lists : Lists n lo hi s p f
+  pub count : p ≡ held lo hi f
+
+-- some lists take up p nodes, and with the places xs of row i at most n
+pub record Roomy (n lo hi i : ℕ) (xs s : List ℕ) (p : ℕ) : Type 0 where
+  pub f : ℕ → List ℕ
+  pub listed : Listed n lo hi s p f
+  pub room : held lo hi (hits i xs f) ≤ n
+
+-- the buffer with node p, row i and column j's list behind it, in front of column j's list
+abbrev pub pushAt : ℕ → ℕ → ℕ → ℕ → List ℕ → List ℕ
+pushAt n p i j s = set (set (set s (6 * n + (p + p)) i) (6 * n + (p + p) + 1) (getD s (4 * n + j) 0)) (4 * n + j) (p + 1)
+
+-- the places xs of row i went into the lists of lo to hi
+pub record Offered (n lo hi i : ℕ) (xs s₀ s : List ℕ) (p₀ p : ℕ) : Type 0 where
+  pub kept : Kept n lo hi s₀ s
+  pub grown : Grown (Listed n lo hi s₀ p₀) (Listed n lo hi s p) i xs
+
+-- ---- windows
+
+unfoldable pub headAt : ℕ → List ℕ → ℕ → ℕ → ℕ
+headAt n s lo m = getD s (4 * n + (lo + m)) 0
+
+-- the heads of columns lo to hi are zero, what they counted is at most n, and column lo is among them if its count is
+pub record Emptied (n lo hi : ℕ) (s₀ s : List ℕ) : Type 0 where
+  pub kept : Kept n lo hi s₀ s
+  pub least : lo ≤ hi
+  pub most : hi ≤ n
+  pub zero : (j : ℕ) → lo ≤ j → j < hi → getD s (4 * n + j) 0 ≡ 0
+  pub total : sum (hi - lo) (headAt n s₀ lo) ≤ n
+  pub some : lo < n → getD s₀ (4 * n + lo) 0 ≤ n → lo < hi
+
+-- the lists f of the columns lo to hi were made
+pub record Filled (n lo hi : ℕ) (f : ℕ → List ℕ) (s₀ s : List ℕ) : Type 0 where
+  pub kept : Kept n lo hi s₀ s
+  pub lists : Lists n lo hi s n f
+
+-- columns k on can be handed out: the lists of k to hi are at hand, and the counts of those from hi on
+pub record Ready (n k hi : ℕ) (R : ℕ → List ℕ) (s : List ℕ) : Type 0 where
+  pub least : k ≤ hi
+  pub most : hi ≤ n
+  pub lists : Lists n k hi s n (column R n)
+  pub counts : Counts n hi s (column R n)
+
+-- before the first column
+pub record Started (n : ℕ) (R : ℕ → List ℕ) (s₀ s : List ℕ) : Type 0 where
+  pub kept : Kept n 0 n s₀ s
+  pub ready : Ready n 0 0 R s
+
+-- column k is in the window up to hi
+pub record Windowed (n k hi : ℕ) (R : ℕ → List ℕ) (s₀ s : List ℕ) : Type 0 where
+  pub kept : Kept n k n s₀ s
+  pub has : k < hi
+  pub ready : Ready n k hi R s
+
+-- column k was handed out, as the buffer before with its rows stamped, and those after it can be
+pub record Loaded (n t k hi : ℕ) (R : ℕ → List ℕ) (s₀ s : List ℕ) : Type 0 where
+  pub marks : Kept n k n (stamped n t s₀ (column R n k)) s
+  pub ready : Ready n (k + 1) hi R s

@@ -1,0 +1,20 @@
+use Rattle.lookup.specs.Lookup.{sized}
+use native.Mathlib.Omega.{arith}
+use borrow.Author.Needs.{needs}
+use Rattle.lookup.proofs.side_fits.Statement.{statement}
+use Rattle.lookup.proofs.side_fits.Tie as tie
+use Rattle.lookup.proofs.side_fits.Reads as reads
+use Rattle.lookup.proofs.side_fits.Lts as lts
+
+add-result : tie.Need-add-result
+add-result c = search needs
+
+add-result-2 : tie.Need-add-result-2
+add-result-2 c = search needs
+
+returns : tie.Need-returns
+unfolding sized
+returns c = search needs
+
+pub side-fits-spec : {M : Type 1} → statement M
+side-fits-spec = tie.close (tie.spec add-result add-result-2 returns)

@@ -1,0 +1,139 @@
+-- A set of places below n, kept as marks: place j is a member where slot j holds the stamp t of the row or column at work.
+-- Scratch has eight regions of n slots: marks, the inverse column order, block stamps, cuts of the upper and of the lower lists,
+-- a list, nodes. Slot 2n + b holds t where block b, the 64 places from 64 b on, may have a member. Definitions only.
+use mathlib.Core.List.{List, [], _∷_, map}
+use mathlib.Core.Bool.{Bool, true, false, _&&_}
+use mathlib.Core.Path.{_≡_}
+use Prim.Native.Nat.{ℕ, zero, suc, _+_, _-_, _*_, _<_, _≤_, _/_}
+use lib.ListN.{length, getD, take, drop, set}
+use lib.Dec.{eqb, leb}
+use Rattle.base.specs.Lists.{asc}
+
+-- each entry of the list l is below n
+abbrev pub Below : ℕ → List ℕ → Type 0
+Below n l = (p : ℕ) → p < length l → getD l p 0 < n
+
+-- scratch has its eight regions
+pub record Room (n : ℕ) (s : List ℕ) : Type 0 where
+  pub small : n ≤ 65536
+  pub long : 8 * n ≤ length s
+
+-- ---- marks
+
+-- scratch with the stamp t at place j and at its block
+abbrev pub markAt : ℕ → ℕ → List ℕ → ℕ → List ℕ
+markAt n t s j = set (set s j t) (n + n + j / 64) t
+
+-- scratch with the stamp t at each place of the list
+unfoldable pub stamped : ℕ → ℕ → List ℕ → List ℕ → List ℕ
+stamped n t s [] = s
+stamped n t s (j ∷ l) = stamped n t (markAt n t s j) l
+
+-- is place j a member?
+abbrev pub marked : ℕ → List ℕ → ℕ → Bool
+marked t s j = eqb (getD s j 0) t
+
+-- every member's block is stamped
+abbrev pub Blocks : ℕ → ℕ → List ℕ → Type 0
+Blocks n t s = (j : ℕ) → j < n → getD s j 0 ≡ t → getD s (n + n + j / 64) 0 ≡ t
+
+-- every mark is older than t
+abbrev pub Fresh : ℕ → ℕ → List ℕ → Type 0
+Fresh n t s = (j : ℕ) → j < n → getD s j 0 < t
+
+-- the marks with the stamp t are the set p: `members` of it can be found, and every later stamp is fresh
+pub record Holds (n t : ℕ) (s : List ℕ) (p : ℕ → Bool) : Type 0 where
+  pub blocks : Blocks n t s
+  pub exact : (j : ℕ) → j < n → marked t s j ≡ p j
+  pub last : Fresh n (suc t) s
+
+-- slot q is neither a mark nor a block stamp
+pub record Free (n q : ℕ) : Type 0 where
+  pub past : n ≤ q
+  pub away : n + n ≤ q → n + n + n ≤ q
+
+-- all slots but marks and block stamps are as they were
+abbrev pub Same : ℕ → List ℕ → List ℕ → Type 0
+Same n s₀ s = (q : ℕ) → Free n q → getD s q 0 ≡ getD s₀ q 0
+
+-- r is the least member at or above `from` and below `end`, or `end`
+pub record Next (t : ℕ) (s : List ℕ) (from end r : ℕ) : Type 0 where
+  pub above : from ≤ r
+  pub within : r ≤ end
+  pub none : (j : ℕ) → from ≤ j → j < r → getD s j 0 ≡ t → ⊥
+  pub hit : r < end → getD s r 0 ≡ t
+
+-- place j is a member, and at or above `from`
+unfoldable pub chosen : ℕ → List ℕ → ℕ → ℕ → Bool
+chosen t s from j = leb from j && marked t s j
+
+-- the members from `from` up to `end`, ascending
+unfoldable pub members : ℕ → List ℕ → ℕ → ℕ → List ℕ
+members t s from end = asc (chosen t s from) end
+
+-- the columns of a row at their places: the inverse order stands in s from slot n on
+abbrev pub through : List ℕ → ℕ → List ℕ → List ℕ
+through s n cols = map (λ c. getD s (n + c) 0) cols
+
+-- ---- the members in turn
+
+-- scratch, or the other one, by a test
+abbrev pub pick : Bool → List ℕ → List ℕ → List ℕ
+pick true a b = a
+pick false a b = b
+
+-- the m places from i on, in turn: where place i is a member, it is visited
+unfoldable pub visited : ℕ → (ℕ → List ℕ → List ℕ) → ℕ → ℕ → List ℕ → List ℕ
+visited t f i zero s = s
+visited t f i (suc m) s = visited t f (suc i) m (pick (marked t s i) (f i s) s)
+
+-- the list of place i is united with the set
+unfoldable pub unite : ℕ → ℕ → (ℕ → List ℕ) → ℕ → List ℕ → List ℕ
+unite n t T i s = stamped n t s (T i)
+
+-- ---- lists in a store, and their cuts
+
+-- list i of a store can be read: its starts do not fall and its run is inside the store
+pub record ListIn (index runs starts : List ℕ) (i : ℕ) : Type 0 where
+  pub has-run : i < length runs
+  pub has-start : i + 1 < length starts
+  pub rise : getD starts i 0 ≤ getD starts (i + 1) 0
+  pub inside : getD runs i 0 + (getD starts (i + 1) 0 - getD starts i 0) ≤ length index
+
+-- where a side's cuts stand: in one of the two regions behind the block stamps
+pub record Base (n cuts : ℕ) : Type 0 where
+  pub low : n + n + n ≤ cuts
+  pub high : cuts ≤ n + n + n + n
+
+-- the entries of list i that a later place merges, its first ones: slot cuts + i says how many
+unfoldable pub partAt : List ℕ → ℕ → List ℕ → List ℕ → ℕ → List ℕ
+partAt s cuts index runs i = take (getD s (cuts + i) 0) (drop (getD runs i 0) index)
+
+-- that part of list i can be read
+pub record PartIn (n : ℕ) (s : List ℕ) (cuts : ℕ) (index runs : List ℕ) (i : ℕ) : Type 0 where
+  pub place : i < n
+  pub has-run : i < length runs
+  pub inside : getD runs i 0 + getD s (cuts + i) 0 ≤ length index
+
+-- the parts of the first k lists can be read, and hold places below n
+pub record Parts (n k : ℕ) (s : List ℕ) (cuts : ℕ) (index runs : List ℕ) : Type 0 where
+  pub read : (i : ℕ) → i < k → PartIn n s cuts index runs i
+  pub below : (i : ℕ) → i < k → Below n (partAt s cuts index runs i)
+
+-- no more, or what is left
+abbrev pub unless : Bool → ℕ → ℕ
+unless true m = 0
+unless false m = m
+
+-- how many entries of a list go as far as place k; all, if it has no k
+unfoldable pub upto : ℕ → List ℕ → ℕ
+upto k [] = 0
+upto k (x ∷ l) = suc (unless (eqb x k) (upto k l))
+
+-- place k meets list i: if it is not yet cut and has k, it is cut behind k
+unfoldable pub cutOne : ℕ → ℕ → (ℕ → List ℕ) → ℕ → List ℕ → List ℕ
+cutOne cuts k T i s = pick (eqb (getD s (cuts + i) 0) (length (T i))) (set s (cuts + i) (upto k (T i))) s
+
+-- the cuts after place k, whose own list has c entries and is not cut
+unfoldable pub newCuts : ℕ → ℕ → ℕ → (ℕ → List ℕ) → ℕ → List ℕ → List ℕ
+newCuts t cuts k T c s = set (visited t (cutOne cuts k T) 0 k s) (cuts + k) c

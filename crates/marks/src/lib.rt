@@ -1,0 +1,268 @@
+// The working set of one row or column of the symbolic elimination: marks with block stamps, and the cuts of the lists it merges.
+ghost use mathlib.Core.Path.{_≡_};
+ghost use Prim.Native.Nat.{ℕ, _+_, _-_, _≤_, _<_};
+ghost use lib.ListN.{length, getD, set};
+ghost use lib.Seq.{sets};
+ghost use Rattle.base.specs.Lists.{listAt};
+ghost use Rattle.marks.specs.Marks.{Below, Room, markAt, stamped, Blocks, Next, members, through, visited, unite, ListIn, Base, partAt, PartIn, Parts, upto, cutOne, newCuts};
+use base::OwnNumber;
+use base::Place;
+
+fn wide16(x: u16) -> usize
+    ensures { λ r. ⌜ r ≡ x ⌝ }
+{
+    x as usize
+}
+
+pub fn wide32(x: u32) -> usize
+    ensures { λ r. ⌜ (r ≡ x) × (r < 4294967296) ⌝ }
+{
+    x as usize
+}
+
+// Adds place j to the set.
+pub fn mark(s: &mut [u32], n: usize, stamp: u32, j: usize)
+    requires { ⌜ (j < n) × Room n (now s) ⌝ }
+    ensures { λ r. ⌜ now (s .exit) ≡ markAt n stamp (now (s .entry)) j ⌝ }
+{
+    s[j] = stamp;
+    s[n + n + j / 64] = stamp;
+}
+
+// Unites the set with a list of places.
+pub fn merge_list(s: &mut [u32], n: usize, stamp: u32, list: &[u16])
+    requires { ⌜ Below n (now list) ⌝ }
+    requires { ⌜ Room n (now s) ⌝ }
+    ensures { λ r. ⌜ now (s .exit) ≡ stamped n stamp (now (s .entry)) (now (list .entry)) ⌝ }
+{
+    let mut p = 0;
+    while p < list.len() {
+        let j = wide16(list[p]);
+        mark(s, n, stamp, j);
+        p += 1;
+    }
+}
+
+// The least member at or above `from` and below `end`, or `end`.
+pub fn next_mark(s: &[u32], n: usize, stamp: u32, from: usize, end: usize) -> usize
+    requires { ⌜ (from ≤ end) × (end ≤ n) × Room n (now s) ⌝ }
+    requires { ⌜ Blocks n stamp (now s) ⌝ }
+    ensures { λ r. ⌜ Next stamp (now (s .entry)) from end r ⌝ }
+{
+    let mut j = from;
+    while j < end {
+        if s[n + n + j / 64] == stamp {
+            if s[j] == stamp {
+                return j;
+            }
+            j += 1;
+        } else {
+            j = (j / 64 + 1) * 64;
+        }
+    }
+    end
+}
+
+// Writes the members from `from` up to `end`, ascending, from slot `at` on and answers how many they are.
+pub fn gather(s: &mut [u32], n: usize, stamp: u32, from: usize, end: usize, at: usize) -> usize
+    requires { ⌜ (from ≤ end) × (end ≤ n) × Room n (now s) ⌝ }
+    requires { ⌜ (n + n + n ≤ at) × (at + (end - from) ≤ length (now s)) ⌝ }
+    requires { ⌜ Blocks n stamp (now s) ⌝ }
+    ensures { λ r. ⌜ (r ≡ length (members stamp (now (s .entry)) from end)) × (now (s .exit) ≡ sets (now (s .entry)) at (members stamp (now (s .entry)) from end)) ⌝ }
+{
+    let mut count = 0;
+    let mut j = next_mark(s, n, stamp, from, end);
+    while j < end {
+        s[at + count] = j as u32;
+        count += 1;
+        j = next_mark(s, n, stamp, j + 1, end);
+    }
+    count
+}
+
+pub fn own_number(c: u16) -> OwnNumber
+    ensures { λ r. ⌜ r .0 ≡ c ⌝ }
+{
+    OwnNumber(c as u32)
+}
+
+// The place of an own column: the inverse column order stands in slots n to 2n.
+pub fn place_of(s: &[u32], n: usize, c: OwnNumber) -> Place
+    requires { ⌜ (c .0 < n) × Room n (now s) ⌝ }
+    ensures { λ r. ⌜ r .0 ≡ getD (now (s .entry)) (n + c .0) 0 ⌝ }
+{
+    let j = wide32(c.0);
+    Place(s[n + j])
+}
+
+// Adds the columns of a row of M at their places.
+pub fn load_row(s: &mut [u32], n: usize, stamp: u32, columns: &[u16])
+    requires { ⌜ Below n (now columns) ⌝ }
+    requires { ⌜ Room n (now s) ⌝ }
+    requires { ⌜ ((j : ℕ) → j < n → getD (now s) (n + j) 0 < n) ⌝ }
+    ensures { λ r. ⌜ now (s .exit) ≡ stamped n stamp (now (s .entry)) (through (now (s .entry)) n (now (columns .entry))) ⌝ }
+{
+    let mut p = 0;
+    while p < columns.len() {
+        let c = own_number(columns[p]);
+        let j = place_of(s, n, c);
+        mark(s, n, stamp, wide32(j.0));
+        p += 1;
+    }
+}
+
+// List i of a store, as a part of it.
+pub fn list_part<'a>(index: &'a [u16], runs: &[u32], starts: &[u32], i: usize) -> &'a [u16]
+    requires { ⌜ ListIn (now index) (now runs) (now starts) i ⌝ }
+    ensures { λ r. ⌜ now r ≡ listAt (now (index .entry)) (now (runs .entry)) (now (starts .entry)) i ⌝ }
+{
+    let a = wide32(runs[i]);
+    let lo = wide32(starts[i]);
+    let hi = wide32(starts[i + 1]);
+    let e = a + (hi - lo);
+    &index[a..e]
+}
+
+// The entries of list i that a later place merges.
+fn cut_part<'a>(
+    s: &[u32],
+    n: usize,
+    cuts: usize,
+    index: &'a [u16],
+    runs: &[u32],
+    i: usize,
+) -> &'a [u16]
+    requires { ⌜ Room n (now s) × Base n cuts × PartIn n (now s) cuts (now index) (now runs) i ⌝ }
+    ensures { λ r. ⌜ now r ≡ partAt (now (s .entry)) cuts (now (index .entry)) (now (runs .entry)) i ⌝ }
+{
+    let a = wide32(runs[i]);
+    let e = a + wide32(s[cuts + i]);
+    &index[a..e]
+}
+
+// Unites the set with list i of a store, as far as its cut.
+fn merge_run(
+    s: &mut [u32],
+    n: usize,
+    stamp: u32,
+    i: usize,
+    cuts: usize,
+    index: &[u16],
+    runs: &[u32],
+)
+    requires { ⌜ Room n (now s) × Base n cuts × PartIn n (now s) cuts (now index) (now runs) i ⌝ }
+    requires { ⌜ Below n (partAt (now s) cuts (now index) (now runs) i) ⌝ }
+    ensures { λ r. ⌜ now (s .exit) ≡ stamped n stamp (now (s .entry)) (partAt (now (s .entry)) cuts (now (index .entry)) (now (runs .entry)) i) ⌝ }
+{
+    let list = cut_part(s, n, cuts, index, runs, i);
+    merge_list(s, n, stamp, list);
+}
+
+// Unites the set with the list of each member below k, as far as its cut, in ascending order.
+pub fn merge_lower(
+    s: &mut [u32],
+    n: usize,
+    stamp: u32,
+    k: usize,
+    cuts: usize,
+    index: &[u16],
+    runs: &[u32],
+)
+    requires { ⌜ Parts n k (now s) cuts (now index) (now runs) ⌝ }
+    requires { ⌜ (k ≤ n) × Base n cuts × Room n (now s) ⌝ }
+    requires { ⌜ Blocks n stamp (now s) ⌝ }
+    ensures { λ r. ⌜ now (s .exit) ≡ visited stamp (unite n stamp (partAt (now (s .entry)) cuts (now (index .entry)) (now (runs .entry)))) 0 k (now (s .entry)) ⌝ }
+{
+    let mut i = next_mark(s, n, stamp, 0, k);
+    while i < k {
+        merge_run(s, n, stamp, i, cuts, index, runs);
+        i = next_mark(s, n, stamp, i + 1, k);
+    }
+}
+
+// How many entries of a list go as far as place k; all, if it has no k.
+fn reach_of(list: &[u16], k: usize) -> usize
+    ensures { λ r. ⌜ (r ≡ upto k (now (list .entry))) × (r ≤ length (now (list .entry))) ⌝ }
+{
+    let mut p = 0;
+    while p < list.len() {
+        if wide16(list[p]) == k {
+            return p + 1;
+        }
+        p += 1;
+    }
+    p
+}
+
+// Place k meets list i: if it is not yet cut and has k, it is cut behind k.
+fn cut_list(
+    s: &mut [u32],
+    n: usize,
+    k: usize,
+    i: usize,
+    cuts: usize,
+    index: &[u16],
+    runs: &[u32],
+    starts: &[u32],
+)
+    requires { ⌜ (i < n) × Base n cuts × Room n (now s) × ListIn (now index) (now runs) (now starts) i ⌝ }
+    ensures { λ r. ⌜ now (s .exit) ≡ cutOne cuts k (listAt (now (index .entry)) (now (runs .entry)) (now (starts .entry))) i (now (s .entry)) ⌝ }
+{
+    let list = list_part(index, runs, starts, i);
+    let at = cuts + i;
+    if wide32(s[at]) == list.len() {
+        let c = reach_of(list, k);
+        s[at] = c as u32;
+    }
+}
+
+// Cuts the lists of the members below k that have k.
+fn close_cuts(
+    s: &mut [u32],
+    n: usize,
+    stamp: u32,
+    k: usize,
+    cuts: usize,
+    index: &[u16],
+    runs: &[u32],
+    starts: &[u32],
+)
+    requires { ⌜ ((i : ℕ) → i < k → ListIn (now index) (now runs) (now starts) i) ⌝ }
+    requires { ⌜ (k ≤ n) × Base n cuts × Room n (now s) ⌝ }
+    requires { ⌜ Blocks n stamp (now s) ⌝ }
+    ensures { λ r. ⌜ now (s .exit) ≡ visited stamp (cutOne cuts k (listAt (now (index .entry)) (now (runs .entry)) (now (starts .entry)))) 0 k (now (s .entry)) ⌝ }
+{
+    let mut i = next_mark(s, n, stamp, 0, k);
+    while i < k {
+        cut_list(s, n, k, i, cuts, index, runs, starts);
+        i = next_mark(s, n, stamp, i + 1, k);
+    }
+}
+
+// List k is not cut: the slot of its cut holds its length.
+fn open_cut(s: &mut [u32], n: usize, k: usize, cuts: usize, starts: &[u32])
+    requires { ⌜ (k < n) × Base n cuts × Room n (now s) × (k + 1 < length (now starts)) × (getD (now starts) k 0 ≤ getD (now starts) (k + 1) 0) ⌝ }
+    ensures { λ r. ⌜ now (s .exit) ≡ set (now (s .entry)) (cuts + k) (getD (now (starts .entry)) (k + 1) 0 - getD (now (starts .entry)) k 0) ⌝ }
+{
+    s[cuts + k] = starts[k + 1] - starts[k];
+}
+
+// The cuts after place k, whose marks stand in s and whose list is in the store.
+pub fn next_cuts(
+    s: &mut [u32],
+    n: usize,
+    stamp: u32,
+    k: usize,
+    cuts: usize,
+    index: &[u16],
+    runs: &[u32],
+    starts: &[u32],
+)
+    requires { ⌜ ((i : ℕ) → i < k + 1 → ListIn (now index) (now runs) (now starts) i) ⌝ }
+    requires { ⌜ (k < n) × Base n cuts × Room n (now s) ⌝ }
+    requires { ⌜ Blocks n stamp (now s) ⌝ }
+    ensures { λ r. ⌜ now (s .exit) ≡ newCuts stamp cuts k (listAt (now (index .entry)) (now (runs .entry)) (now (starts .entry))) (getD (now (starts .entry)) (k + 1) 0 - getD (now (starts .entry)) k 0) (now (s .entry)) ⌝ }
+{
+    close_cuts(s, n, stamp, k, cuts, index, runs, starts);
+    open_cut(s, n, k, cuts, starts);
+}

@@ -1,0 +1,74 @@
+use mathlib.Core.Path.{refl}
+use borrow.Author.Tests.{le-leb, lt-leb}
+use Rattle.base.specs.FirstLaws.{first-more}
+use Rattle.questions.specs.AskLaws.{ask-at}
+use Prim.Native.Nat.{_-_, _≤_}
+use mathlib.Core.Path.{_≡_}
+use Rattle.base.specs.First.{first}
+use Rattle.base.specs.FirstLaws.{first-zero, scan-more}
+use Rattle.base.specs.declared.Found.the-variants.{Nothing}
+use Rattle.questions.specs.AskLaws.{ask-stop, ask-pass}
+use lib.ListN.{length}
+use Rattle.matrix.specs.Questions.{badColumn, ask4}
+use borrow.Author.Needs.{needs}
+use native.Mathlib.Omega.{arith}
+use Rattle.questions.proofs.ask_columns.Statement.{statement}
+use Rattle.questions.proofs.ask_columns.Tie as tie
+use Rattle.questions.proofs.ask_columns.Reads as reads
+use Rattle.questions.proofs.ask_columns.Lts as lts
+
+abbrev Inv-loop : tie.InvT-loop
+Inv-loop n columns p₀ p = (p ≤ length columns) × (first (badColumn columns n) p ≡ Nothing)
+
+abbrev μ-loop : tie.MeasureT-loop
+μ-loop n columns p₀ p = length columns - p
+
+loop-holds : tie.Need-loop-holds Inv-loop μ-loop
+loop-holds c = (search needs, first-zero _)
+
+mul-if1 : tie.Need-mul-if1 Inv-loop μ-loop
+mul-if1 c = search needs
+
+shared-slice-read-if1 : tie.Need-shared-slice-read-if1 Inv-loop μ-loop
+shared-slice-read-if1 c = search needs
+
+cast-if1 : tie.Need-cast-if1 Inv-loop μ-loop
+cast-if1 c = omega (arith, c .shared-slice-known .given (c .before .before .loop .p))
+
+cast-t9 : tie.Need-cast-t9 Inv-loop μ-loop
+cast-t9 c = search needs
+
+returns : tie.Need-returns Inv-loop μ-loop
+unfolding ask4 badColumn
+returns c = ask-at _ _ _ _ _ (search needs) (c .before .before .before .loop .inv .1) (le-leb _ _ (c .if1 .taken)) refl
+
+add-p : tie.Need-add-p Inv-loop μ-loop
+add-p c = search needs
+
+loop-less : tie.Need-loop-less Inv-loop μ-loop
+loop-less c = search needs
+
+loop-again : tie.Need-loop-again Inv-loop μ-loop
+unfolding badColumn
+loop-again c = (search needs, first-more _ _ (c .before .before .before .loop .inv .1) (lt-leb _ _ (c .if1 .left)))
+
+returns-2 : tie.Need-returns-2 Inv-loop μ-loop
+unfolding ask4
+returns-2 c = search ask-pass
+
+pub ask-columns-spec : {M : Type 1} → statement M
+ask-columns-spec =
+    tie.close
+    (tie.spec
+    Inv-loop
+    μ-loop
+    loop-holds
+    mul-if1
+    shared-slice-read-if1
+    cast-if1
+    cast-t9
+    returns
+    add-p
+    loop-less
+    loop-again
+    returns-2)

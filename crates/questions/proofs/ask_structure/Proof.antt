@@ -1,0 +1,50 @@
+use Rattle.matrix.specs.Questions.{askRows, askStructure}
+use Rattle.questions.specs.SettledLaws.{rows-lent}
+use Rattle.questions.specs.AskLaws.{then-stop, then-pass}
+use native.Mathlib.Omega.{arith}
+use borrow.Author.Needs.{needs}
+use Rattle.questions.proofs.ask_structure.Statement.{statement}
+use Rattle.questions.proofs.ask_structure.Tie as tie
+use Rattle.questions.proofs.ask_structure.Reads as reads
+use Rattle.questions.proofs.ask_structure.Lts as lts
+use Rattle.questions.proofs.ask_pattern.Reads as ask-pattern-reads
+use Rattle.questions.proofs.ask_rows.Reads as ask-rows-reads
+
+ask-pattern-requires : tie.Need-ask-pattern-requires
+ask-pattern-requires c κs = search needs
+
+enum-known-a : tie.Need-enum-known-a
+enum-known-a c = search needs
+
+same-length : tie.Need-same-length
+same-length c = search needs
+
+returns : tie.Need-returns
+unfolding askStructure
+returns c = search then-stop depth 8
+
+enum-told : tie.Need-enum-told
+enum-told c = search needs
+
+ask-rows-requires : tie.Need-ask-rows-requires
+ask-rows-requires c κs = rows-lent _ _ _ _ _ _ _ _ _ _ (c .before .before .before .before .before .before .before .before .before .before .before .before .pre) (omega (arith, c .before .before .before .before .before .before .before .before .before .before .before .before .pre .orders .slots)) (c .before .before .before .before .before .ask-pattern .ensures) (c .before .enum-told .given .1)
+
+same-length-2 : tie.Need-same-length-2
+same-length-2 c = search needs
+
+returns-2 : tie.Need-returns-2
+unfolding askStructure askRows
+returns-2 c = search then-pass depth 8
+
+pub ask-structure-spec : {M : Type 1} → statement M
+ask-structure-spec =
+    tie.close
+    (tie.spec
+    ask-pattern-requires
+    enum-known-a
+    same-length
+    returns
+    enum-told
+    ask-rows-requires
+    same-length-2
+    returns-2)

@@ -1,0 +1,101 @@
+-- What questions 1 and 2 have settled for the questions after them, the exits of what the orders write, and stamps. Definitions only.
+use mathlib.Core.Path.{_≡_}
+use mathlib.Core.List.{List, _++_}
+use Prim.Native.Nat.{ℕ, _+_, _≤_, _<_}
+use lib.ListN.{length, getD, take, drop}
+use Rattle.base.specs.First.{first}
+use Rattle.base.specs.Lists.{table}
+use Rattle.base.specs.Answers.{absent}
+use Rattle.base.specs.declared.Asked.{Asked}
+use Rattle.base.specs.declared.Refusal.the-variants.{Order}
+use Rattle.matrix.specs.Limits.{maxRows, maxEntries}
+use Rattle.matrix.specs.Input.{Input, ic}
+use Rattle.matrix.specs.Questions.{badIndex, IsOrder}
+use Rattle.questions.specs.Settled.{RowIn, Under}
+
+-- ---- lengths, with room for the slots of scratch
+
+pub record OrderLent (n : ℕ) (o : List ℕ) (from room : ℕ) : Type 0 where
+  pub few : n ≤ maxRows
+  pub added : from ≤ maxRows
+  pub size : length o ≡ n
+  pub slots : n ≤ room
+
+pub record OrdersLent (n : ℕ) (r c : List ℕ) (room : ℕ) : Type 0 where
+  pub few : n ≤ maxRows
+  pub row-order : length r ≡ n
+  pub column-order : length c ≡ n
+  pub slots : n ≤ room
+
+-- a structure call's
+pub record Lent (n : ℕ) (s j r c : List ℕ) (room : ℕ) : Type 0 where
+  pub orders : OrdersLent n r c room
+  pub starts : length s ≡ n + 1
+  pub columns : length j ≤ maxEntries
+
+-- a solve's
+pub record SolveLent (i : Input) (room : ℕ) : Type 0 where
+  pub lent : Lent (i .n) (i .starts) (i .columns) (i .r) (i .c) room
+  pub values : length (i .values) ≡ length (i .columns)
+  pub right : length (i .b) ≡ i .n
+
+-- another right side's
+pub record RightLent (n : ℕ) (r c : List ℕ) (right room : ℕ) : Type 0 where
+  pub orders : OrdersLent n r c room
+  pub size : right ≡ n
+
+-- ---- what a row is read from, once 3, 4 and 5 are passed
+
+pub record PlacesLent (n : ℕ) (s r : List ℕ) : Type 0 where
+  pub few : n ≤ maxRows
+  pub starts : length s ≡ n + 1
+  pub size : length r ≡ n
+  pub order : IsOrder r n
+
+pub record RowsLent (n : ℕ) (s j r : List ℕ) (room : ℕ) : Type 0 where
+  pub places : PlacesLent n s r
+  pub rows : (k : ℕ) → k < n → RowIn s (length j) k
+  pub columns : Under j n
+  pub slots : n ≤ room
+
+pub record RowLent (n : ℕ) (s j : List ℕ) (i : ℕ) : Type 0 where
+  pub starts : i + 1 < length s
+  pub row : RowIn s (length j) i
+  pub columns : Under j n
+
+-- ---- stamps
+
+-- no slot holds more than b
+unfoldable pub AtMost : List ℕ → ℕ → Type 0
+AtMost m b = (v : ℕ) → getD m v 0 ≤ b
+
+-- a slot for each number below n, and none holds the stamp or more
+pub record Unstamped (n stamp : ℕ) (m : List ℕ) : Type 0 where
+  pub slots : n ≤ length m
+  pub fresh : (v : ℕ) → getD m v 0 < stamp
+
+-- 5 of one order, the index plus `from`
+unfoldable pub askOrder : List ℕ → ℕ → ℕ → Asked
+askOrder o n from = absent (first (badIndex o n) n) (λ k. Order (k + from))
+
+-- ---- the inverse of an order, and the solution
+
+pub record InverseLent (n : ℕ) (o : List ℕ) (room : ℕ) : Type 0 where
+  pub few : n ≤ maxRows
+  pub size : length o ≡ n
+  pub slots : n ≤ room
+  pub order : IsOrder o n
+
+-- ic(0) to ic(n - 1) in the first n slots
+unfoldable pub inverted : List ℕ → ℕ → List ℕ → List ℕ
+inverted o n s = table (ic o n) n ++ drop n s
+
+-- and in the n slots after the first n
+unfoldable pub invertedAt : List ℕ → ℕ → List ℕ → List ℕ
+invertedAt o n s = take n s ++ inverted o n (drop n s)
+
+pub record SolutionLent (n : ℕ) (c : List ℕ) (z x : ℕ) : Type 0 where
+  pub size : length c ≡ n
+  pub from : n ≤ z
+  pub to : x ≡ n
+  pub order : IsOrder c n

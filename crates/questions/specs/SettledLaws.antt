@@ -1,0 +1,222 @@
+-- What the questions settle when they are passed, and M' by the inverse order.
+use mathlib.Core.Path.{_≡_, refl, sym, _∙_, ap, ap₂}
+use mathlib.Core.Bool.{Bool, true, false, not, _&&_, _||_}
+use mathlib.Core.Logic.{_≢_}
+use mathlib.Core.List.{List, [], _∷_, map}
+use Prim.Native.Nat.{ℕ, zero, suc, _+_, _-_, _≤_, _<_, min}
+use native.Mathlib.Omega.{arith}
+use native.Mathlib.Decide.{ℕ-discrete}
+use lib.ListN.{length, getD, take, drop, length-take, length-drop, length-map}
+use lib.Seq.{getD-take, getD-drop}
+use lib.Dec.{leb, ltb, eqb}
+use lib.Ieee.{Float, nan}
+use lib.Ieee.Scale.{finite}
+use borrow.Author.Tests.{leb-false, ltb-false, eq-eqb, ne-eqb, eqb-true, eqb-false}
+use Rattle.base.specs.Lists.{has, listAt, rowOf}
+use Rattle.base.specs.Tests.{or-false, not-true, not-false}
+use Rattle.base.specs.TableLaws.{getD-map-lt}
+use Rattle.base.specs.First.{first, isAt}
+use Rattle.base.specs.FirstLaws.{first-none}
+use Rattle.base.specs.Answers.{own, absent, andThen}
+use Rattle.base.specs.declared.OwnNumber.{OwnNumber}
+use Rattle.base.specs.declared.Found.{Found}
+use Rattle.base.specs.declared.Found.the-variants.{At, Nothing}
+use Rattle.base.specs.declared.Refusal.{Refusal}
+use Rattle.base.specs.declared.Refusal.the-variants.{Starts, Column, Order, NotFinite, EmptyRow, Repeated}
+use Rattle.base.specs.declared.Asked.{Asked}
+use Rattle.base.specs.declared.Asked.the-variants.{Pass, Stop}
+use Rattle.matrix.specs.Input.{Input, inputOf, isOf, ic, stored}
+use Rattle.matrix.specs.Questions.{badStart, badColumn, badIndex, notFinite, noEntry, emptyRow, seenAt, repeats, repeatRow, IsOrder, ask3, ask4, ask5, ask6, ask7, ask8, askFinite, askPattern, askRows, askStructure, askSolve, askRight}
+use Rattle.matrix.specs.OrderLaws.{order-below, place-of, place-hits}
+use Rattle.questions.specs.Settled.{RowIn, Under, Distinct, Finite, columnsAt, placesAt, Readable, Structured, Settled}
+use Rattle.questions.specs.Lent.{Lent, OrdersLent, RowsLent, RowLent}
+
+-- ---- a question passed, and two passed one after the other
+
+stop-pass : (q : Refusal) → Stop q ≡ Pass → ⊥
+stop-pass q e = let z : _≡_ {A = ℕ} 0 1 = cc in omega arith
+
+absent-pass : (f : Found) (g : ℕ → Refusal) → absent f g ≡ Pass → f ≡ Nothing
+absent-pass (At k) g e = absurd (stop-pass (g k) e)
+absent-pass Nothing g e = refl
+
+pub both-pass : (a b : Asked) → andThen a b ≡ Pass → (a ≡ Pass) × (b ≡ Pass)
+both-pass (Stop q) b e = absurd (stop-pass q e)
+both-pass Pass b e = (refl, e)
+
+isAt-none : (f : Found) → isAt f ≡ false → f ≡ Nothing
+isAt-none (At k) e = let z : true ≡ false = e in absurd (let y : _≡_ {A = ℕ} 0 1 = cc in omega arith)
+isAt-none Nothing e = refl
+
+-- ---- 3
+
+module _ (s : List ℕ) (n e : ℕ) (good : first (badStart s n e) n ≡ Nothing) where
+  fine : (i : ℕ) → i < n → (ltb (getD s (i + 1) 0) (getD s i 0) ≡ false) × ((eqb (i + 1) n && not (eqb (getD s (i + 1) 0) e)) ≡ false)
+  unfolding badStart
+  fine i l =
+      let a = or-false (ltb (getD s (i + 1) 0) (getD s i 0) || (eqb i 0 && not (eqb (getD s i 0) 0))) _ (first-none (badStart s n e) n good i l) in
+      (or-false (ltb (getD s (i + 1) 0) (getD s i 0)) _ (a .0) .0, a .1)
+
+  up : (i : ℕ) → i < n → getD s i 0 ≤ getD s (i + 1) 0
+  up i l = ltb-false (getD s (i + 1) 0) (getD s i 0) (fine i l .0)
+
+  last-end : (i : ℕ) → i < n → i + 1 ≡ n → getD s (i + 1) 0 ≡ e
+  last-end i l h = eqb-true _ _ (not-true (eqb (getD s (i + 1) 0) e) (rw (eq-eqb (i + 1) n h) at (fine i l .1)))
+
+  end-from : (d i : ℕ) → i + 1 + d ≡ n → getD s (i + 1) 0 ≤ e
+  end-from zero i h = omega (arith, last-end i (omega arith) (omega arith))
+  end-from (suc d) i h = omega (arith, end-from d (i + 1) (omega arith), up (i + 1) (omega arith))
+
+  rows-in : (i : ℕ) → i < n → RowIn s e i
+  rows-in i l = record { up = up i l; within = end-from (n - (i + 1)) i (omega arith) }
+
+-- ---- what each question settles
+
+settled3 : (n e : ℕ) (s : List ℕ) → ask3 n e s ≡ Pass → (i : ℕ) → i < n → RowIn s e i
+unfolding ask3
+settled3 n e s p = rows-in s n e (absent-pass (first (badStart s n e) n) (λ k. Starts (own k)) p)
+
+settled4 : (n : ℕ) (j : List ℕ) → ask4 n j ≡ Pass → Under j n
+unfolding ask4 badColumn Under
+settled4 n j h p l = leb-false n (getD j p 0) (first-none (badColumn j n) (length j) (absent-pass (first (badColumn j n) (length j)) Column h) p l)
+
+pub settled5 : (n : ℕ) (r c : List ℕ) → ask5 n r c ≡ Pass → (IsOrder r n) × (IsOrder c n)
+unfolding ask5 IsOrder
+settled5 n r c h =
+    let a = both-pass (absent (first (badIndex r n) n) Order) (absent (first (badIndex c n) n) (λ k. Order (k + n))) h in
+    (absent-pass (first (badIndex r n) n) Order (a .0), absent-pass (first (badIndex c n) n) (λ k. Order (k + n)) (a .1))
+
+pub settledFinite : (v : List Float) (from : ℕ) → askFinite v from ≡ Pass → Finite v
+unfolding askFinite notFinite Finite
+settledFinite v from h p l = not-true (finite (getD v p nan)) (first-none (notFinite v) (length v) (absent-pass (first (notFinite v) (length v)) (λ k. NotFinite (k + from)) h) p l)
+
+settled7 : (n : ℕ) (s r : List ℕ) → ask7 n s r ≡ Pass → (k : ℕ) → k < n → getD s (getD r k 0) 0 < getD s (getD r k 0 + 1) 0
+unfolding ask7 emptyRow noEntry
+settled7 n s r h k l = leb-false _ _ (first-none (emptyRow s r) n (absent-pass (first (emptyRow s r) n) (λ k. EmptyRow (own (getD r k 0))) h) k l)
+
+-- a list in which no number repeats an earlier one
+distinct-of : (l : List ℕ) → repeats l ≡ false → Distinct l
+unfolding repeats seenAt isOf Distinct
+distinct-of l h p q d b =
+    let a = first-none (seenAt l) (length l) (isAt-none (first (seenAt l) (length l)) h) q b in
+    eqb-false (getD l p 0) (getD l q 0) (first-none (isOf l (getD l q 0)) q (isAt-none (first (isOf l (getD l q 0)) q) a) p d)
+
+settled8 : (n : ℕ) (s j r : List ℕ) → ask8 n s j r ≡ Pass → (k : ℕ) → k < n → Distinct (rowOf s j (getD r k 0))
+unfolding ask8 repeatRow
+settled8 n s j r h k l =
+    distinct-of (rowOf s j (getD r k 0)) (first-none (repeatRow s j r) n (absent-pass (first (repeatRow s j r) n) (λ k. Repeated (own (getD r k 0))) h) k l)
+
+-- ---- what the questions of a call settle
+
+pub readable : (i : Input) → askPattern i ≡ Pass → Readable i
+unfolding askPattern
+readable i h =
+    let a = both-pass (ask3 (i .n) (length (i .columns)) (i .starts)) (andThen (ask4 (i .n) (i .columns)) (ask5 (i .n) (i .r) (i .c))) h in
+    let b = both-pass (ask4 (i .n) (i .columns)) (ask5 (i .n) (i .r) (i .c)) (a .1) in
+    let o = settled5 (i .n) (i .r) (i .c) (b .1) in
+    record { rows = settled3 (i .n) (length (i .columns)) (i .starts) (a .0); columns = settled4 (i .n) (i .columns) (b .0); row-order = o .0; column-order = o .1 }
+
+structured-of : (i : Input) → askPattern i ≡ Pass → askRows i ≡ Pass → Structured i
+unfolding askRows
+structured-of i p h =
+    let a = both-pass (ask7 (i .n) (i .starts) (i .r)) (ask8 (i .n) (i .starts) (i .columns) (i .r)) h in
+    record { readable = readable i p; entered = settled7 (i .n) (i .starts) (i .r) (a .0); distinct = settled8 (i .n) (i .starts) (i .columns) (i .r) (a .1) }
+
+pub structured : (i : Input) → askStructure i ≡ Pass → Structured i
+unfolding askStructure
+structured i h = let a = both-pass (askPattern i) (askRows i) h in structured-of i (a .0) (a .1)
+
+pub settled : (i : Input) → askSolve i ≡ Pass → Settled i
+unfolding askSolve ask6
+settled i h =
+    let a = both-pass (askPattern i) (andThen (ask6 (i .values) (i .b)) (askRows i)) h in
+    let b = both-pass (ask6 (i .values) (i .b)) (askRows i) (a .1) in
+    let d = both-pass (askFinite (i .values) 0) (askFinite (i .b) (length (i .values))) (b .0) in
+    record { structured = structured-of i (a .0) (b .1); values = settledFinite (i .values) 0 (d .0); right = settledFinite (i .b) (length (i .values)) (d .1) }
+
+-- another right side
+pub settledRight : (n : ℕ) (r c : List ℕ) (b : List Float) → askRight n r c b ≡ Pass → (IsOrder r n) × (IsOrder c n) × Finite b
+unfolding askRight
+settledRight n r c b h =
+    let a = both-pass (ask5 n r c) (askFinite b 0) h in
+    let o = settled5 n r c (a .0) in
+    (o .0, o .1, settledFinite b 0 (a .1))
+
+-- ---- rows of M'
+
+-- a row's numbers are below n where all columns are
+pub row-under : (n : ℕ) (s j : List ℕ) (a : ℕ) → Under j n → Under (rowOf s j a) n
+unfolding Under listAt
+row-under n s j a h t l =
+    let b : t < length (take (getD s (a + 1) 0 - getD s a 0) (drop (getD s a 0) j)) = l in
+    let c = rw (length-take, length-drop) at b in
+    rw (getD-take (getD s (a + 1) 0 - getD s a 0) (drop (getD s a 0) j) t 0 (omega arith), getD-drop) (h (getD s a 0 + t) (omega arith))
+
+-- the length of a row that stands within the entries
+pub row-length : {A : Type 0} (s : List ℕ) (v : List A) (a : ℕ) → RowIn s (length v) a → length (rowOf s v a) ≡ getD s (a + 1) 0 - getD s a 0
+unfolding listAt
+row-length s v a h = simp (length-take, length-drop) (omega (arith, h .up, h .within))
+
+has-map : (f : ℕ → ℕ) (q p : ℕ) (xs : List ℕ) → f q ≡ p → ((t : ℕ) → t < length xs → f (getD xs t 0) ≡ p → getD xs t 0 ≡ q) → has (map f xs) p ≡ has xs q
+unfolding has
+has-map f q p [] e h = refl
+has-map f q p (x ∷ xs) e h = ap₂ (λ a b. a || b) (at (ℕ-discrete x q)) (has-map f q p xs e (λ t k. h (suc t) (omega arith)))
+  where
+    at : Dec (x ≡ q) → eqb (f x) p ≡ eqb x q
+    at (yes u) = eq-eqb (f x) p (ap f u ∙ e) ∙ sym (eq-eqb x q u)
+    at (no u) = ne-eqb (f x) p (λ v. u (h zero (omega arith) v)) ∙ sym (ne-eqb x q u)
+
+module _ (i : Input) (g : Readable i) where
+  columns-under : (k : ℕ) → Under (columnsAt i k) (i .n)
+  columns-under k = row-under (i .n) (i .starts) (i .columns) (getD (i .r) k 0) (g .columns)
+
+  -- M' has (k, p) exactly if p is ic(j) of a column j of own row r(k)
+  pub stored-is : (k p : ℕ) → p < i .n → stored i k p ≡ has (placesAt i k) p
+  unfolding stored Under
+  stored-is k p l =
+      sym (has-map (ic (i .c) (i .n)) (getD (i .c) p 0) p (columnsAt i k) (place-of (i .c) (i .n) (g .column-order) p l)
+        (λ t b e.
+          let u = columns-under k t b in
+          sym (place-hits (i .c) (i .n) (g .column-order) (getD (columnsAt i k) t 0) u .1) ∙ ap (λ (m : ℕ). getD (i .c) m 0) e))
+
+  place-at : (k t : ℕ) → t < length (columnsAt i k) → getD (placesAt i k) t 0 ≡ ic (i .c) (i .n) (getD (columnsAt i k) t 0)
+  place-at k t b = sym (getD-map-lt (ic (i .c) (i .n)) (columnsAt i k) t 0 0 b)
+
+  column-at : (k t : ℕ) → t < length (columnsAt i k) → getD (i .c) (getD (placesAt i k) t 0) 0 ≡ getD (columnsAt i k) t 0
+  unfolding Under
+  column-at k t b = rw (place-at k t b) (place-hits (i .c) (i .n) (g .column-order) (getD (columnsAt i k) t 0) (columns-under k t b) .1)
+
+  -- the places of a row's columns are below n
+  pub places-under : (k : ℕ) → Under (placesAt i k) (i .n)
+  unfolding Under
+  places-under k t b =
+      let d : t < length (columnsAt i k) = rw length-map at b in
+      rw (place-at k t d) (place-hits (i .c) (i .n) (g .column-order) (getD (columnsAt i k) t 0) (columns-under k t d) .0)
+
+  -- and distinct where the columns are
+  pub places-distinct : (k : ℕ) → Distinct (columnsAt i k) → Distinct (placesAt i k)
+  unfolding Distinct Under
+  places-distinct k h p q l b e =
+      let d : q < length (columnsAt i k) = rw length-map at b in
+      let y : p < length (columnsAt i k) = omega arith in
+      h p q l d (sym (column-at k p y) ∙ ap (λ (m : ℕ). getD (i .c) m 0) e ∙ column-at k q d)
+
+-- ---- from the questions to the code that reads rows
+
+-- 3, 4 and 5 are passed: o is what they answered
+pub rows-lent : (n : ℕ) (s j r c : List ℕ) (v b : List Float) (room slots : ℕ) (o : Asked) → Lent n s j r c room → n ≤ slots
+    → o ≡ askPattern (inputOf n s j v r c b) → o ≡ Pass → RowsLent n s j r slots
+rows-lent n s j r c v b room slots o h l e p =
+    let g = readable (inputOf n s j v r c b) (sym e ∙ p) in
+    record {
+      places = record { few = h .orders .few; starts = h .starts; size = h .orders .row-order; order = g .row-order };
+      rows = g .rows;
+      columns = g .columns;
+      slots = l
+    }
+
+-- the row at place k
+pub row-lent : (n : ℕ) (s j r : List ℕ) (room : ℕ) → RowsLent n s j r room → (k : ℕ) (i : OwnNumber) → k < n → i ≡ own (getD r k 0) → RowLent n s j (i .0)
+row-lent n s j r room h k i l e =
+    let b = order-below r n (h .places .order) k l in
+    rw e (record { starts = omega (arith, h .places .starts); row = h .rows (getD r k 0) b; columns = h .columns })

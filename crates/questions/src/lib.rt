@@ -1,0 +1,331 @@
+// Questions 3 to 8 on a lent matrix, its orders and its numbers; and what the orders turn into each other: own numbers, places, the inverse order and the solution.
+ghost use mathlib.Core.Path.{_≡_};
+ghost use mathlib.Core.List.{[], _++_};
+ghost use Prim.Native.Nat.{_+_, _-_, _<_, _≤_};
+ghost use lib.ListN.{length, getD, set, take, drop};
+ghost use lib.Dec.{eqb};
+ghost use Rattle.base.specs.First.{first, isAt};
+ghost use Rattle.base.specs.Lists.{rowOf, table};
+ghost use Rattle.matrix.specs.Input.{inputOf, ownAt, placeAt, ic, ownOrder};
+ghost use Rattle.matrix.specs.Questions.{badStart, badIndex, noEntry, repeats, IsOrder, ask3, ask4, ask5, askFinite, ask6, ask7, ask8, askPattern, askRows, askStructure, askSolve, askRight};
+ghost use Rattle.questions.specs.Lent.{Lent, SolveLent, RightLent, OrdersLent, OrderLent, PlacesLent, RowsLent, RowLent, Unstamped, AtMost, askOrder, InverseLent, SolutionLent, inverted, invertedAt};
+
+use base::Asked;
+use base::Found;
+use base::OwnNumber;
+use base::Place;
+use base::Refusal;
+
+// ---- the orders
+
+// The own row at a place.
+pub fn own_row(r: &[u16], k: Place) -> OwnNumber
+    requires { ⌜ k .0 < length (now r) ⌝ }
+    ensures { λ i. ⌜ i ≡ ownAt (now (r .entry)) k ⌝ }
+{
+    let at = k.0 as usize;
+    OwnNumber(r[at] as u32)
+}
+
+// The place of an own number, by the inverse of an order.
+pub fn place_of(inverse: &[u32], j: OwnNumber) -> Place
+    requires { ⌜ j .0 < length (now inverse) ⌝ }
+    ensures { λ k. ⌜ k ≡ placeAt (now (inverse .entry)) j ⌝ }
+{
+    let at = j.0 as usize;
+    Place(inverse[at])
+}
+
+// The inverse of an order in the first n slots, all else as it was.
+pub fn invert(n: usize, order: &[u16], inverse: &mut [u32])
+    requires { ⌜ InverseLent n (now order) (length (now inverse)) ⌝ }
+    ensures { λ _. ⌜ now (inverse .exit) ≡ inverted (now (order .entry)) n (now (inverse .entry)) ⌝ }
+{
+    let mut k = 0;
+    while k < n {
+        let j = order[k] as usize;
+        inverse[j] = k as u32;
+        k += 1;
+    }
+}
+
+// The inverse of an order in slots n to 2n - 1, all else as it was.
+pub fn invert_at(n: usize, order: &[u16], scratch: &mut [u32])
+    requires { ⌜ InverseLent n (now order) (length (now scratch) - n) ⌝ }
+    ensures { λ _. ⌜ now (scratch .exit) ≡ invertedAt (now (order .entry)) n (now (scratch .entry)) ⌝ }
+{
+    invert(n, order, &mut scratch[n..]);
+}
+
+// "x(c(k)) = t": the solution by own column.
+pub fn write_solution(n: usize, c: &[u16], z: &[f64], x: &mut [f64])
+    requires { ⌜ SolutionLent n (now c) (length (now z)) (length (now x)) ⌝ }
+    ensures { λ _. ⌜ now (x .exit) ≡ ownOrder (now (c .entry)) n (now (z .entry)) ⌝ }
+{
+    let mut k = 0;
+    while k < n {
+        let j = c[k] as usize;
+        x[j] = z[k];
+        k += 1;
+    }
+}
+
+// ---- stamps: a slot for each number below n, which holds the stamp once its number was met
+
+// Whether a slot holds the stamp; it does from now on.
+fn stamp_slot(j: usize, stamp: u32, marks: &mut [u32]) -> bool
+    requires { ⌜ j < length (now marks) ⌝ }
+    ensures { λ b. ⌜ (b ≡ eqb (getD (now (marks .entry)) j 0) stamp) × (now (marks .exit) ≡ set (now (marks .entry)) j stamp) ⌝ }
+{
+    let seen = marks[j] == stamp;
+    marks[j] = stamp;
+    seen
+}
+
+// The first index whose number is out of range or stands before it too. No slot holds the stamp yet.
+fn first_fault(n: usize, list: &[u16], stamp: u32, marks: &mut [u32]) -> Found
+    requires { ⌜ Unstamped n stamp (now marks) ⌝ }
+    ensures { λ f. ⌜ (f ≡ first (badIndex (now (list .entry)) n) (length (now (list .entry)))) × AtMost (now (marks .exit)) stamp ⌝ }
+{
+    let mut p = 0;
+    while p < list.len() {
+        let j = list[p] as usize;
+        if j >= n {
+            return Found::At(p);
+        }
+        if stamp_slot(j, stamp, marks) {
+            return Found::At(p);
+        }
+        p += 1;
+    }
+    Found::Nothing
+}
+
+fn found(f: Found) -> bool
+    ensures { λ b. ⌜ b ≡ isAt f ⌝ }
+{
+    match f {
+        Found::At(_) => true,
+        Found::Nothing => false,
+    }
+}
+
+// ---- the questions
+
+// Whether own row i's starts are at fault.
+fn start_bad(n: usize, e: usize, starts: &[u32], i: OwnNumber) -> bool
+    requires { ⌜ (i .0 < n) × (length (now starts) ≡ n + 1) ⌝ }
+    ensures { λ b. ⌜ b ≡ badStart (now (starts .entry)) n e (i .0) ⌝ }
+{
+    let at = i.0 as usize;
+    let a = starts[at];
+    let b = starts[at + 1];
+    (b < a) | ((at == 0) & (a != 0)) | ((at + 1 == n) & (b as usize != e))
+}
+
+// 3
+fn ask_starts(n: usize, e: usize, starts: &[u32]) -> Asked
+    requires { ⌜ (length (now starts) ≡ n + 1) × (n ≤ 4294967296) ⌝ }
+    ensures { λ a. ⌜ a ≡ ask3 n e (now (starts .entry)) ⌝ }
+{
+    let mut i = 0;
+    while i < n {
+        let row = OwnNumber(i as u32);
+        if start_bad(n, e, starts, row) {
+            return Asked::Stop(Refusal::Starts(row));
+        }
+        i += 1;
+    }
+    Asked::Pass
+}
+
+// 4
+fn ask_columns(n: usize, columns: &[u16]) -> Asked
+    requires { ⌜ length (now columns) ≤ 4294967296 ⌝ }
+    ensures { λ a. ⌜ a ≡ ask4 n (now (columns .entry)) ⌝ }
+{
+    let mut p = 0;
+    while p < columns.len() {
+        if columns[p] as usize >= n {
+            return Asked::Stop(Refusal::Column(p as u32));
+        }
+        p += 1;
+    }
+    Asked::Pass
+}
+
+// 5 of one order, the index plus `from`
+fn ask_order(n: usize, order: &[u16], from: usize, marks: &mut [u32]) -> Asked
+    requires { ⌜ OrderLent n (now order) from (length (now marks)) ⌝ }
+    ensures { λ a. ⌜ a ≡ askOrder (now (order .entry)) n from ⌝ }
+{
+    base::clear_u32(marks);
+    let f = first_fault(n, order, 1, marks);
+    if let Found::At(k) = f {
+        return Asked::Stop(Refusal::Order((k + from) as u32));
+    }
+    Asked::Pass
+}
+
+// 5
+fn ask_orders(n: usize, r: &[u16], c: &[u16], marks: &mut [u32]) -> Asked
+    requires { ⌜ OrdersLent n (now r) (now c) (length (now marks)) ⌝ }
+    ensures { λ a. ⌜ a ≡ ask5 n (now (r .entry)) (now (c .entry)) ⌝ }
+{
+    let a = ask_order(n, r, 0, marks);
+    if let Asked::Stop(q) = a {
+        return Asked::Stop(q);
+    }
+    ask_order(n, c, n, marks)
+}
+
+// 6 of one slice, the index plus `from`
+fn ask_finite(v: &[f64], from: usize) -> Asked
+    requires { ⌜ length (now v) + from ≤ 4294967296 ⌝ }
+    ensures { λ a. ⌜ a ≡ askFinite (now (v .entry)) from ⌝ }
+{
+    let mut p = 0;
+    while p < v.len() {
+        if !base::is_finite(v[p]) {
+            return Asked::Stop(Refusal::NotFinite((p + from) as u32));
+        }
+        p += 1;
+    }
+    Asked::Pass
+}
+
+// 6
+fn ask_numbers(values: &[f64], b: &[f64]) -> Asked
+    requires { ⌜ length (now values) + length (now b) ≤ 4294967296 ⌝ }
+    ensures { λ a. ⌜ a ≡ ask6 (now (values .entry)) (now (b .entry)) ⌝ }
+{
+    let a = ask_finite(values, 0);
+    if let Asked::Stop(q) = a {
+        return Asked::Stop(q);
+    }
+    ask_finite(b, values.len())
+}
+
+// Whether own row i has no entry.
+fn row_empty(starts: &[u32], i: OwnNumber) -> bool
+    requires { ⌜ i .0 + 1 < length (now starts) ⌝ }
+    ensures { λ b. ⌜ b ≡ noEntry (now (starts .entry)) (i .0) ⌝ }
+{
+    let at = i.0 as usize;
+    starts[at + 1] <= starts[at]
+}
+
+// 7
+fn ask_entries(n: usize, starts: &[u32], r: &[u16]) -> Asked
+    requires { ⌜ PlacesLent n (now starts) (now r) ⌝ }
+    ensures { λ a. ⌜ a ≡ ask7 n (now (starts .entry)) (now (r .entry)) ⌝ }
+{
+    let mut k = 0;
+    while k < n {
+        let i = own_row(r, Place(k as u32));
+        if row_empty(starts, i) {
+            return Asked::Stop(Refusal::EmptyRow(i));
+        }
+        k += 1;
+    }
+    Asked::Pass
+}
+
+// Whether own row i has a column twice.
+fn row_repeats(n: usize, starts: &[u32], columns: &[u16], i: OwnNumber, stamp: u32, marks: &mut [u32]) -> bool
+    requires { ⌜ RowLent n (now starts) (now columns) (i .0) × Unstamped n stamp (now marks) ⌝ }
+    ensures { λ b. ⌜ (b ≡ repeats (rowOf (now (starts .entry)) (now (columns .entry)) (i .0))) × AtMost (now (marks .exit)) stamp ⌝ }
+{
+    let at = i.0 as usize;
+    let from = starts[at] as usize;
+    let to = starts[at + 1] as usize;
+    let f = first_fault(n, &columns[from..to], stamp, marks);
+    found(f)
+}
+
+// 8
+fn ask_repeats(n: usize, starts: &[u32], columns: &[u16], r: &[u16], marks: &mut [u32]) -> Asked
+    requires { ⌜ RowsLent n (now starts) (now columns) (now r) (length (now marks)) ⌝ }
+    ensures { λ a. ⌜ a ≡ ask8 n (now (starts .entry)) (now (columns .entry)) (now (r .entry)) ⌝ }
+{
+    base::clear_u32(marks);
+    let mut k = 0;
+    while k < n {
+        let i = own_row(r, Place(k as u32));
+        if row_repeats(n, starts, columns, i, k as u32 + 1, marks) {
+            return Asked::Stop(Refusal::Repeated(i));
+        }
+        k += 1;
+    }
+    Asked::Pass
+}
+
+// ---- the questions of a call, one after another
+
+// 3, 4, 5
+fn ask_pattern(n: usize, starts: &[u32], columns: &[u16], r: &[u16], c: &[u16], marks: &mut [u32]) -> Asked
+    requires { ⌜ Lent n (now starts) (now columns) (now r) (now c) (length (now marks)) ⌝ }
+    ensures { λ a. ⌜ a ≡ askPattern (inputOf n (now (starts .entry)) (now (columns .entry)) [] (now (r .entry)) (now (c .entry)) []) ⌝ }
+{
+    let a = ask_starts(n, columns.len(), starts);
+    if let Asked::Stop(q) = a {
+        return Asked::Stop(q);
+    }
+    let a4 = ask_columns(n, columns);
+    if let Asked::Stop(q) = a4 {
+        return Asked::Stop(q);
+    }
+    ask_orders(n, r, c, marks)
+}
+
+// 7, 8
+fn ask_rows(n: usize, starts: &[u32], columns: &[u16], r: &[u16], marks: &mut [u32]) -> Asked
+    requires { ⌜ RowsLent n (now starts) (now columns) (now r) (length (now marks)) ⌝ }
+    ensures { λ a. ⌜ a ≡ askRows (inputOf n (now (starts .entry)) (now (columns .entry)) [] (now (r .entry)) [] []) ⌝ }
+{
+    let a = ask_entries(n, starts, r);
+    if let Asked::Stop(q) = a {
+        return Asked::Stop(q);
+    }
+    ask_repeats(n, starts, columns, r, marks)
+}
+
+// A structure call's: 3, 4, 5, 7, 8. The marks are overwritten.
+pub fn ask_structure(n: usize, starts: &[u32], columns: &[u16], r: &[u16], c: &[u16], marks: &mut [u32]) -> Asked
+    requires { ⌜ Lent n (now starts) (now columns) (now r) (now c) (length (now marks)) ⌝ }
+    ensures { λ a. ⌜ a ≡ askStructure (inputOf n (now (starts .entry)) (now (columns .entry)) [] (now (r .entry)) (now (c .entry)) []) ⌝ }
+{
+    let a = ask_pattern(n, starts, columns, r, c, marks);
+    if let Asked::Stop(q) = a {
+        return Asked::Stop(q);
+    }
+    ask_rows(n, starts, columns, r, marks)
+}
+
+// A solve's and a refactor's: 3 to 8. The marks are overwritten.
+pub fn ask_solve(n: usize, starts: &[u32], columns: &[u16], values: &[f64], r: &[u16], c: &[u16], b: &[f64], marks: &mut [u32]) -> Asked
+    requires { ⌜ SolveLent (inputOf n (now starts) (now columns) (now values) (now r) (now c) (now b)) (length (now marks)) ⌝ }
+    ensures { λ a. ⌜ a ≡ askSolve (inputOf n (now (starts .entry)) (now (columns .entry)) (now (values .entry)) (now (r .entry)) (now (c .entry)) (now (b .entry))) ⌝ }
+{
+    let a = ask_pattern(n, starts, columns, r, c, marks);
+    if let Asked::Stop(q) = a {
+        return Asked::Stop(q);
+    }
+    let a6 = ask_numbers(values, b);
+    if let Asked::Stop(q) = a6 {
+        return Asked::Stop(q);
+    }
+    ask_rows(n, starts, columns, r, marks)
+}
+
+// Another right side's: 5, and 6 of b. The marks are overwritten.
+pub fn ask_right(n: usize, r: &[u16], c: &[u16], b: &[f64], marks: &mut [u32]) -> Asked
+    requires { ⌜ RightLent n (now r) (now c) (length (now b)) (length (now marks)) ⌝ }
+    ensures { λ a. ⌜ a ≡ askRight n (now (r .entry)) (now (c .entry)) (now (b .entry)) ⌝ }
+{
+    let a = ask_orders(n, r, c, marks);
+    if let Asked::Stop(q) = a {
+        return Asked::Stop(q);
+    }
+    ask_finite(b, 0)
+}

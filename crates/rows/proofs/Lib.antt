@@ -1,0 +1,2 @@
+-- A value that meets what the functions require.
+pub mod Witness
