@@ -34,8 +34,8 @@ run-inside : (a b run slots : ℕ) → Inside (runSpan a b run slots) slots
 unfolding runSpan
 run-inside a b run slots =
     choose (leb a b && leb (run + (b - a)) slots) _ _ slots
-      (λ e. record { up = omega arith; end = leb-true (run + (b - a)) slots (and-cases (leb a b) (leb (run + (b - a)) slots) e .1) })
-      (none slots)
+    (λ e. record { up = omega arith; end = leb-true (run + (b - a)) slots (and-cases (leb a b) (leb (run + (b - a)) slots) e .1) })
+    (none slots)
 
 pub span-inside : (fit : Bool) (k : Place) (n : ℕ) (s runs : List ℕ) (slots : ℕ) (o : Span) → o ≡ spanOf fit k n s runs slots → Inside o slots
 unfolding spanOf
@@ -110,9 +110,9 @@ sized-all n extra s r i e =
 
 side-lent : (fit : Bool) (n extra : ℕ) (s runs : List ℕ) (i : ℕ) → (fit ≡ true → sized n extra (length s) (length runs) i ≡ true) → SideLent fit n s runs
 side-lent fit n extra s runs i f = record {
-    lists = λ h. sized-all n extra (length s) (length runs) i (f h) .0;
-    places = λ h. omega (arith, sized-all n extra (length s) (length runs) i (f h) .1)
-  }
+  lists = λ h. sized-all n extra (length s) (length runs) i (f h) .0;
+  places = λ h. omega (arith, sized-all n extra (length s) (length runs) i (f h) .1);
+}
 
 both : (n extra ls lr li us ur ui : ℕ) (fit : Bool) → fit ≡ bothFit n extra ls lr li us ur ui → fit ≡ true → (sized n extra ls lr li ≡ true) × (sized n extra us ur ui ≡ true)
 unfolding bothFit

@@ -3,7 +3,6 @@ ghost use mathlib.Core.Path.{_≡_};
 ghost use Prim.Native.Nat.{_+_, _<_, _≤_};
 ghost use lib.ListN.{length};
 ghost use Rattle.lookup.specs.Lookup.{SideLent, listsOf, sized, bothFit, runSpan, spanOf, partOf, lookup};
-
 use base::Place;
 use base::Side;
 use matrix::Matrix;
@@ -23,7 +22,16 @@ fn side_fits(n: usize, extra: usize, starts: usize, runs: usize, index: usize) -
 }
 
 // Whether n and the lengths of both sides are as stated.
-fn both_fit(n: usize, extra: usize, ls: usize, lr: usize, li: usize, us: usize, ur: usize, ui: usize) -> bool
+fn both_fit(
+    n: usize,
+    extra: usize,
+    ls: usize,
+    lr: usize,
+    li: usize,
+    us: usize,
+    ur: usize,
+    ui: usize,
+) -> bool
     requires { ⌜ extra ≤ 1 ⌝ }
     ensures { λ b. ⌜ b ≡ bothFit n extra ls lr li us ur ui ⌝ }
 {
@@ -40,7 +48,10 @@ fn run_span(a: usize, b: usize, run: usize, slots: usize) -> Span
 {
     if a <= b {
         if run + (b - a) <= slots {
-            return Span { from: run, to: run + (b - a) };
+            return Span {
+                from: run,
+                to: run + (b - a),
+            };
         }
     }
     Span { from: 0, to: 0 }
@@ -60,13 +71,25 @@ fn list_span(fit: bool, k: Place, n: usize, starts: &[u32], runs: &[u32], slots:
     let at = k.0 as usize;
     if fit {
         if at < n {
-            return run_span(wide(starts[at]), wide(starts[at + 1]), wide(runs[at]), slots);
+            return run_span(
+                wide(starts[at]),
+                wide(starts[at + 1]),
+                wide(runs[at]),
+                slots,
+            );
         }
     }
     Span { from: 0, to: 0 }
 }
 
-fn list_of<'a>(fit: bool, k: Place, n: usize, starts: &[u32], runs: &[u32], index: &'a [u16]) -> &'a [u16]
+fn list_of<'a>(
+    fit: bool,
+    k: Place,
+    n: usize,
+    starts: &[u32],
+    runs: &[u32],
+    index: &'a [u16],
+) -> &'a [u16]
     requires { ⌜ SideLent fit n (now starts) (now runs) ⌝ }
     ensures { λ l. ⌜ now l ≡ partOf fit k n (listsOf (now (starts .entry)) (now (runs .entry)) (now (index .entry))) ⌝ }
 {
@@ -77,10 +100,29 @@ fn list_of<'a>(fit: bool, k: Place, n: usize, starts: &[u32], runs: &[u32], inde
 }
 
 // The list of a side at a place, in the shared form.
-pub fn list_shared<'a>(side: Side, k: Place, n: usize, lower_starts: &[u32], lower_runs: &[u32], lower_index: &'a [u16], upper_starts: &[u32], upper_runs: &[u32], upper_index: &'a [u16]) -> &'a [u16]
+pub fn list_shared<'a>(
+    side: Side,
+    k: Place,
+    n: usize,
+    lower_starts: &[u32],
+    lower_runs: &[u32],
+    lower_index: &'a [u16],
+    upper_starts: &[u32],
+    upper_runs: &[u32],
+    upper_index: &'a [u16],
+) -> &'a [u16]
     ensures { λ l. ⌜ now l ≡ lookup side k n 0 (listsOf (now («lower_starts» .entry)) (now («lower_runs» .entry)) (now («lower_index» .entry))) (listsOf (now («upper_starts» .entry)) (now («upper_runs» .entry)) (now («upper_index» .entry))) ⌝ }
 {
-    let fit = both_fit(n, 0, lower_starts.len(), lower_runs.len(), lower_index.len(), upper_starts.len(), upper_runs.len(), upper_index.len());
+    let fit = both_fit(
+        n,
+        0,
+        lower_starts.len(),
+        lower_runs.len(),
+        lower_index.len(),
+        upper_starts.len(),
+        upper_runs.len(),
+        upper_index.len(),
+    );
     match side {
         Side::Lower => list_of(fit, k, n, lower_starts, lower_runs, lower_index),
         Side::Upper => list_of(fit, k, n, upper_starts, upper_runs, upper_index),
@@ -88,10 +130,27 @@ pub fn list_shared<'a>(side: Side, k: Place, n: usize, lower_starts: &[u32], low
 }
 
 // The list of a side at a place, in the plain form: the runs start where the lists do.
-pub fn list_plain<'a>(side: Side, k: Place, n: usize, lower_starts: &[u32], lower_index: &'a [u16], upper_starts: &[u32], upper_index: &'a [u16]) -> &'a [u16]
+pub fn list_plain<'a>(
+    side: Side,
+    k: Place,
+    n: usize,
+    lower_starts: &[u32],
+    lower_index: &'a [u16],
+    upper_starts: &[u32],
+    upper_index: &'a [u16],
+) -> &'a [u16]
     ensures { λ l. ⌜ now l ≡ lookup side k n 1 (listsOf (now («lower_starts» .entry)) (now («lower_starts» .entry)) (now («lower_index» .entry))) (listsOf (now («upper_starts» .entry)) (now («upper_starts» .entry)) (now («upper_index» .entry))) ⌝ }
 {
-    let fit = both_fit(n, 1, lower_starts.len(), lower_starts.len(), lower_index.len(), upper_starts.len(), upper_starts.len(), upper_index.len());
+    let fit = both_fit(
+        n,
+        1,
+        lower_starts.len(),
+        lower_starts.len(),
+        lower_index.len(),
+        upper_starts.len(),
+        upper_starts.len(),
+        upper_index.len(),
+    );
     match side {
         Side::Lower => list_of(fit, k, n, lower_starts, lower_starts, lower_index),
         Side::Upper => list_of(fit, k, n, upper_starts, upper_starts, upper_index),

@@ -4,3 +4,4 @@ pub mod Structure
 pub mod Solve
 pub mod Refactor
 pub mod Resolve
+pub mod Placed

@@ -30,10 +30,10 @@ unfolded-order = refl
 
 pub lent : SolveLent (inputOf 1 starts zeros numbers zeros zeros numbers) 1
 lent = record {
-    lent = record { orders = record { few = omega arith; row-order = refl; column-order = refl; slots = omega arith }; starts = refl; columns = omega arith };
-    values = refl;
-    right = refl
-  }
+  lent = record { orders = record { few = omega arith; row-order = refl; column-order = refl; slots = omega arith }; starts = refl; columns = omega arith };
+  values = refl;
+  right = refl;
+}
 
 passed : askSolve (inputOf 1 starts zeros numbers zeros zeros numbers) ≡ Pass
 unfolding askSolve askPattern askRows ask3 ask4 ask5 ask6 ask7 ask8 askFinite badStart badColumn badIndex notFinite emptyRow noEntry repeatRow repeats seenAt isOf first listAt
@@ -51,11 +51,11 @@ order = record { few = omega arith; added = omega arith; size = refl; slots = om
 
 pub rows : RowsLent 1 starts zeros zeros 1
 rows = record {
-    places = record { few = lent .lent .orders .few; starts = lent .lent .starts; size = lent .lent .orders .row-order; order = unfolded-order };
-    rows = holds .structured .readable .rows;
-    columns = holds .structured .readable .columns;
-    slots = lent .lent .orders .slots
-  }
+  places = record { few = lent .lent .orders .few; starts = lent .lent .starts; size = lent .lent .orders .row-order; order = unfolded-order };
+  rows = holds .structured .readable .rows;
+  columns = holds .structured .readable .columns;
+  slots = lent .lent .orders .slots;
+}
 
 pub row : RowLent 1 starts zeros 0
 row = record { starts = omega arith; row = rows .rows 0 (omega arith); columns = rows .columns }

@@ -31,11 +31,12 @@ module _ {A : Type 0} where
         within = omega arith;
         size = length-set l (getD o k 0) (f k) ∙ h .size;
         stored = λ i y. at i y (ℕ-discrete i k);
-        rest = drop-set-lt n l (getD o k 0) (f k) low ∙ h .rest
+        rest = drop-set-lt n l (getD o k 0) (f k) low ∙ h .rest;
       })
         where
           low : getD o k 0 < n
           low = order-below o n order k b
+
           at : (i : ℕ) → i < k + 1 → Dec (i ≡ k) → getD (set l (getD o k 0) (f k)) (getD o i 0) d ≡ f i
           at i y (yes e) = rw e (getD-set-same l (getD o k 0) (f k) d (omega (arith, low, h .size)))
           at i y (no q) = getD-set-other l (getD o k 0) (getD o i 0) (f k) d (order-inj o n order i k (omega arith) b) ∙ h .stored i (omega arith)
@@ -46,6 +47,7 @@ module _ {A : Type 0} where
         where
           long : length (take n l) ≡ n
           long = length-take-le n l (omega (arith, h .size))
+
           at : (j : ℕ) → j < n → getD (take n l) j d ≡ getD (table (λ j. f (ic o n j)) n) j d
           at j y =
               let p = place-hits o n order j y in

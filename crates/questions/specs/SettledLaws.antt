@@ -175,9 +175,9 @@ module _ (i : Input) (g : Readable i) where
   unfolding stored Under
   stored-is k p l =
       sym (has-map (ic (i .c) (i .n)) (getD (i .c) p 0) p (columnsAt i k) (place-of (i .c) (i .n) (g .column-order) p l)
-        (λ t b e.
-          let u = columns-under k t b in
-          sym (place-hits (i .c) (i .n) (g .column-order) (getD (columnsAt i k) t 0) u .1) ∙ ap (λ (m : ℕ). getD (i .c) m 0) e))
+      (λ t b e.
+      let u = columns-under k t b in
+      sym (place-hits (i .c) (i .n) (g .column-order) (getD (columnsAt i k) t 0) u .1) ∙ ap (λ (m : ℕ). getD (i .c) m 0) e))
 
   place-at : (k t : ℕ) → t < length (columnsAt i k) → getD (placesAt i k) t 0 ≡ ic (i .c) (i .n) (getD (columnsAt i k) t 0)
   place-at k t b = sym (getD-map-lt (ic (i .c) (i .n)) (columnsAt i k) t 0 0 b)
@@ -212,7 +212,7 @@ rows-lent n s j r c v b room slots o h l e p =
       places = record { few = h .orders .few; starts = h .starts; size = h .orders .row-order; order = g .row-order };
       rows = g .rows;
       columns = g .columns;
-      slots = l
+      slots = l;
     }
 
 -- the row at place k

@@ -58,7 +58,7 @@ module _ (n : ℕ) (l : List ℕ) (k : ℕ) (old : List ℕ) where
     size = refl;
     fine = first-zero (badIndex l n);
     stamped = λ v h. let f = u .fresh v in rw (ne-eqb (getD old v 0) k (λ e. omega arith), first-zero);
-    most = λ v. omega (arith, u .fresh v)
+    most = λ v. omega (arith, u .fresh v);
   }
 
   pub stamping-met : (m : List ℕ) (p : ℕ) → Stamping n l k old m p → (w : List ℕ) → w ≡ set m (getD l p 0) k → AtMost w k
@@ -81,7 +81,7 @@ module _ (n : ℕ) (l : List ℕ) (k : ℕ) (old : List ℕ) where
       size = length-set m (getD l p 0) k ∙ h .size;
       fine = first-more (badIndex l n) p (h .fine) (stamping-seen t e ∙ f);
       stamped = λ v y. at v y (ℕ-discrete v (getD l p 0));
-      most = at-most-set m (getD l p 0) k (h .most)
+      most = at-most-set m (getD l p 0) k (h .most);
     })
       where
         at : (v : ℕ) → v < length (set m (getD l p 0) k) → Dec (v ≡ getD l p 0) → eqb (getD (set m (getD l p 0) k) v 0) k ≡ isAt (first (isOf l v) (p + 1))

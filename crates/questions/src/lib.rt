@@ -9,7 +9,6 @@ ghost use Rattle.base.specs.Lists.{rowOf, table};
 ghost use Rattle.matrix.specs.Input.{inputOf, ownAt, placeAt, ic, ownOrder};
 ghost use Rattle.matrix.specs.Questions.{badStart, badIndex, noEntry, repeats, IsOrder, ask3, ask4, ask5, askFinite, ask6, ask7, ask8, askPattern, askRows, askStructure, askSolve, askRight};
 ghost use Rattle.questions.specs.Lent.{Lent, SolveLent, RightLent, OrdersLent, OrderLent, PlacesLent, RowsLent, RowLent, Unstamped, AtMost, askOrder, InverseLent, SolutionLent, inverted, invertedAt};
-
 use base::Asked;
 use base::Found;
 use base::OwnNumber;
@@ -232,7 +231,14 @@ fn ask_entries(n: usize, starts: &[u32], r: &[u16]) -> Asked
 }
 
 // Whether own row i has a column twice.
-fn row_repeats(n: usize, starts: &[u32], columns: &[u16], i: OwnNumber, stamp: u32, marks: &mut [u32]) -> bool
+fn row_repeats(
+    n: usize,
+    starts: &[u32],
+    columns: &[u16],
+    i: OwnNumber,
+    stamp: u32,
+    marks: &mut [u32],
+) -> bool
     requires { ⌜ RowLent n (now starts) (now columns) (i .0) × Unstamped n stamp (now marks) ⌝ }
     ensures { λ b. ⌜ (b ≡ repeats (rowOf (now (starts .entry)) (now (columns .entry)) (i .0))) × AtMost (now (marks .exit)) stamp ⌝ }
 {
@@ -263,7 +269,14 @@ fn ask_repeats(n: usize, starts: &[u32], columns: &[u16], r: &[u16], marks: &mut
 // ---- the questions of a call, one after another
 
 // 3, 4, 5
-fn ask_pattern(n: usize, starts: &[u32], columns: &[u16], r: &[u16], c: &[u16], marks: &mut [u32]) -> Asked
+fn ask_pattern(
+    n: usize,
+    starts: &[u32],
+    columns: &[u16],
+    r: &[u16],
+    c: &[u16],
+    marks: &mut [u32],
+) -> Asked
     requires { ⌜ Lent n (now starts) (now columns) (now r) (now c) (length (now marks)) ⌝ }
     ensures { λ a. ⌜ a ≡ askPattern (inputOf n (now (starts .entry)) (now (columns .entry)) [] (now (r .entry)) (now (c .entry)) []) ⌝ }
 {
@@ -291,7 +304,14 @@ fn ask_rows(n: usize, starts: &[u32], columns: &[u16], r: &[u16], marks: &mut [u
 }
 
 // A structure call's: 3, 4, 5, 7, 8. The marks are overwritten.
-pub fn ask_structure(n: usize, starts: &[u32], columns: &[u16], r: &[u16], c: &[u16], marks: &mut [u32]) -> Asked
+pub fn ask_structure(
+    n: usize,
+    starts: &[u32],
+    columns: &[u16],
+    r: &[u16],
+    c: &[u16],
+    marks: &mut [u32],
+) -> Asked
     requires { ⌜ Lent n (now starts) (now columns) (now r) (now c) (length (now marks)) ⌝ }
     ensures { λ a. ⌜ a ≡ askStructure (inputOf n (now (starts .entry)) (now (columns .entry)) [] (now (r .entry)) (now (c .entry)) []) ⌝ }
 {
@@ -303,7 +323,16 @@ pub fn ask_structure(n: usize, starts: &[u32], columns: &[u16], r: &[u16], c: &[
 }
 
 // A solve's and a refactor's: 3 to 8. The marks are overwritten.
-pub fn ask_solve(n: usize, starts: &[u32], columns: &[u16], values: &[f64], r: &[u16], c: &[u16], b: &[f64], marks: &mut [u32]) -> Asked
+pub fn ask_solve(
+    n: usize,
+    starts: &[u32],
+    columns: &[u16],
+    values: &[f64],
+    r: &[u16],
+    c: &[u16],
+    b: &[f64],
+    marks: &mut [u32],
+) -> Asked
     requires { ⌜ SolveLent (inputOf n (now starts) (now columns) (now values) (now r) (now c) (now b)) (length (now marks)) ⌝ }
     ensures { λ a. ⌜ a ≡ askSolve (inputOf n (now (starts .entry)) (now (columns .entry)) (now (values .entry)) (now (r .entry)) (now (c .entry)) (now (b .entry))) ⌝ }
 {

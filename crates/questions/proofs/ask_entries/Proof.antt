@@ -39,13 +39,13 @@ own-row-requires : tie.Need-own-row-requires Inv-loop μ-loop
 own-row-requires c κs = search needs
 
 row-empty-requires : tie.Need-row-empty-requires Inv-loop μ-loop
-row-empty-requires c κs = 
+row-empty-requires c κs =
     let s = c .before .before .before .before .before in
     omega (arith, order-below _ _ (s .pre .order) (c .before .before .loop .k) (search needs), ap (λ (i : OwnNumber). i .0) (c .own-row .ensures))
 
 returns : tie.Need-returns Inv-loop μ-loop
 unfolding ask7
-returns c = 
+returns c =
     let e = c .before .before .own-row .ensures in
     ask-at _ _ _ _ _ (search needs) (c .before .before .before .before .loop .inv .1) (empty-at _ _ _ _ _ e (c .before .row-empty .ensures) ∙ c .if1 .taken) (ap (λ (i : OwnNumber). Stop (EmptyRow i)) e)
 
@@ -56,7 +56,7 @@ loop-less : tie.Need-loop-less Inv-loop μ-loop
 loop-less c = search needs
 
 loop-again : tie.Need-loop-again Inv-loop μ-loop
-loop-again c = 
+loop-again c =
     let e = c .before .before .own-row .ensures in
     (search needs, first-more _ _ (c .before .before .before .before .loop .inv .1) (empty-at _ _ _ _ _ e (c .before .row-empty .ensures) ∙ c .if1 .left))
 

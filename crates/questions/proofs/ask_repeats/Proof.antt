@@ -23,7 +23,7 @@ use Rattle.questions.proofs.own_row.Reads as own-row-reads
 use Rattle.questions.proofs.row_repeats.Reads as row-repeats-reads
 
 abbrev Inv-loop : tie.InvT-loop
-Inv-loop n starts columns r marks₀ k₀ marks k = 
+Inv-loop n starts columns r marks₀ k₀ marks k =
     (k ≤ n) × (length marks ≡ length marks₀) × (first (repeatRow starts columns r) k ≡ Nothing) × AtMost marks k
 
 abbrev μ-loop : tie.MeasureT-loop
@@ -48,7 +48,7 @@ add-row-repeats : tie.Need-add-row-repeats Inv-loop μ-loop
 add-row-repeats c = omega (arith, c .before .before .before .before .before .before .before .before .before .before .before .pre .places)
 
 row-repeats-requires : tie.Need-row-repeats-requires Inv-loop μ-loop
-row-repeats-requires c κs = 
+row-repeats-requires c κs =
     let s = c .before .before .before .before .before .before .before .before .before .before .before .before in
     let l = c .before .before .before .loop in
     (row-lent _ _ _ _ _ (s .pre) _ _ (search needs) (c .before .own-row .ensures), unstamped-next _ _ _ (omega (arith, s .pre .slots)) (l .inv .3))
@@ -58,7 +58,7 @@ same-length c = search needs
 
 returns : tie.Need-returns Inv-loop μ-loop
 unfolding ask8
-returns c = 
+returns c =
     let e = c .before .before .before .before .before .own-row .ensures in
     ask-at _ _ _ _ _ (search needs) (c .before .before .before .before .before .before .before .loop .inv .2) (repeat-at _ _ _ _ _ _ e (c .before .before .before .row-repeats .ensures .0) ∙ c .if1 .taken) (ap (λ (i : OwnNumber). Stop (Repeated i)) e)
 
@@ -69,7 +69,7 @@ loop-less : tie.Need-loop-less Inv-loop μ-loop
 loop-less c = search needs
 
 loop-again : tie.Need-loop-again Inv-loop μ-loop
-loop-again c = 
+loop-again c =
     let e = c .before .before .before .before .before .own-row .ensures in
     let w = c .before .before .before .row-repeats .ensures in
     (search needs, search needs, first-more _ _ (c .before .before .before .before .before .before .before .loop .inv .2) (repeat-at _ _ _ _ _ _ e (w .0) ∙ c .if1 .left), w .1)

@@ -58,7 +58,7 @@ same-length c = search needs
 
 returns : tie.Need-returns
 unfolding listAt
-returns c = 
+returns c =
     let s = c .before .before .before .before .before .before .before .before .before .before .before .before in
     let f = c .before .before .before .first-fault .ensures in
     (c .found .ensures ∙ repeats-is _ _ _ (row-under _ (s .args .starts .now) _ (s .args .i .0) (s .pre .0 .columns)) (f .0), f .1)
