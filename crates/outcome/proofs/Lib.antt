@@ -5,3 +5,4 @@ pub mod Ends
 pub mod Stages
 pub mod Lengths
 pub mod Meaning
+pub mod Finish
