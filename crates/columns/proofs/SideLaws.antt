@@ -4,12 +4,13 @@ use mathlib.Core.List.{List}
 use Prim.Native.Nat.{ℕ, _<_}
 use Rattle.base.specs.declared.Side.{Side}
 use Rattle.base.specs.declared.Side.the-variants.{Lower, Upper}
+use Rattle.matrix.specs.Input.{Input}
 use Rattle.columns.specs.Marks.{Below, stamped}
 use Rattle.columns.specs.Columns.{orderOf, Kept, Unmarked, Untouched, Given, rowsOf, Started, Ready, Loaded}
 use Rattle.base.specs.Lists.{rowOf}
 use lib.ListN.{getD}
 use native.Mathlib.Omega.{arith}
-use Rattle.columns.specs.Sides.{sideRow, SideReady, SideLoaded}
+use Rattle.columns.specs.Sides.{sideRow, SideReady, SideLoaded, Inverse}
 use Rattle.columns.proofs.Keeps.{same, order-kept, order-unmarked, given-kept, below-placed, unmarked-stamped}
 use Rattle.columns.proofs.ColumnLaws.{below-column}
 
@@ -34,6 +35,9 @@ side-below Lower n k columns starts r s g h = below-column n (rowsOf (orderOf n 
 side-below Upper n k columns starts r s g h = below-placed n s (rowOf starts columns (getD r k 0)) (g .order) (g .below k h)
 
 -- ---- what a load leaves to others
+
+pub inverse-kept : (i : Input) {s u : List ℕ} → orderOf (i .n) u ≡ orderOf (i .n) s → Inverse i s → Inverse i u
+inverse-kept i e v = record { place = rw e (v .place) }
 
 pub started-untouched : {n : ℕ} {R : ℕ → List ℕ} {s₀ s : List ℕ} → Started n R s₀ s → Untouched n 0 s₀ s
 started-untouched {n} b = record {
