@@ -1,0 +1,184 @@
+//! Times the library beside an ordinary solver with the same lists and order of operations, in one run.
+//!
+//! Options: --quick (fewer repeats), --small (n up to 512).
+use lilacpliers_bench::ordinary;
+#[cfg(any(feature = "library", feature = "standin"))]
+use lilacpliers_tests::ffi::Loan;
+use lilacpliers_tests::load;
+use lilacpliers_tests::model::*;
+use std::time::{Duration, Instant};
+
+struct System {
+    name: String,
+    input: Input,
+}
+
+fn systems(small: bool) -> Vec<System> {
+    let mut list: Vec<System> = [256, 512, 1_024, 2_048, 4_096]
+        .iter()
+        .map(|&n| System { name: format!("test load {n}"), input: load::test_load(n, 1) })
+        .collect();
+    list.push(System { name: "tridiagonal 4096".to_string(), input: load::tridiagonal(4_096) });
+    list.push(System { name: "grid 64 by 64".to_string(), input: load::grid(64) });
+    list.retain(|system| !small || system.input.n <= 512);
+    list
+}
+
+/// Both solvers of one call, ready to run again and again.
+struct Pair<'a> {
+    call: Call,
+    input: &'a Input,
+    ordinary: Buffers,
+    #[cfg(any(feature = "library", feature = "standin"))]
+    library: Loan,
+}
+
+fn ordinary_run(call: Call, input: &Input, buffers: &mut Buffers) -> Answer {
+    let result = match call {
+        Call::Structure(form) => ordinary::structure(form, input, buffers),
+        _ => ordinary::solve(call.form(), input, buffers),
+    };
+    match result {
+        Ok(counts) => counts.into(),
+        Err(q) => q.into(),
+    }
+}
+
+impl<'a> Pair<'a> {
+    fn new(call: Call, input: &'a Input, slots: Slots) -> Pair<'a> {
+        let buffers = Buffers::for_call(call, input.n, slots);
+        Pair {
+            call,
+            input,
+            #[cfg(any(feature = "library", feature = "standin"))]
+            library: Loan::new(call, input, &buffers, 4),
+            ordinary: buffers,
+        }
+    }
+
+    fn time_ordinary(&mut self) -> (Duration, Answer) {
+        let begin = Instant::now();
+        let answer = ordinary_run(self.call, self.input, &mut self.ordinary);
+        (begin.elapsed(), answer)
+    }
+
+    #[cfg(any(feature = "library", feature = "standin"))]
+    fn time_library(&mut self) -> Option<Duration> {
+        let begin = Instant::now();
+        self.library.run();
+        Some(begin.elapsed())
+    }
+
+    #[cfg(not(any(feature = "library", feature = "standin")))]
+    fn time_library(&mut self) -> Option<Duration> {
+        None
+    }
+
+    /// The same answer and, where both end well, the same slots in every buffer.
+    #[cfg(any(feature = "library", feature = "standin"))]
+    fn compare(&mut self, answer: Answer) -> Result<(), String> {
+        let number = self.library.run();
+        let given = self.library.answer(number).map_err(|fault| fault.to_string())?;
+        if given != answer {
+            return Err(format!("the library answers {given:?}, the ordinary solver {answer:?}"));
+        }
+        if number != 0 {
+            return Ok(());
+        }
+        let found = self.library.buffers().map_err(|fault| fault.to_string())?;
+        lilacpliers_tests::compare::buffers(&found, &self.ordinary).map_err(|fault| fault.to_string())
+    }
+
+    #[cfg(not(any(feature = "library", feature = "standin")))]
+    fn compare(&mut self, _answer: Answer) -> Result<(), String> {
+        Ok(())
+    }
+}
+
+/// The fastest of runs that take turns: least disturbed by whatever else the machine does.
+struct Times {
+    ordinary: Duration,
+    library: Option<Duration>,
+}
+
+/// Times one call, or says why it cannot.
+fn measure(call: Call, input: &Input, slots: Slots, budget: Duration) -> Result<Times, String> {
+    let mut pair = Pair::new(call, input, slots);
+    let (_, answer) = pair.time_ordinary();
+    if let Err(difference) = pair.compare(answer) {
+        println!("{call:?} n {}: {difference}", input.n);
+        return Err("differs from the ordinary one".to_string());
+    }
+    if answer.number != 0 {
+        return Err(format!("does not fit: {} at {}", answer.number, answer.place));
+    }
+    let (mut ordinary, mut library) = (Vec::new(), Vec::new());
+    let begin = Instant::now();
+    while ordinary.len() < 5 || (begin.elapsed() < budget && ordinary.len() < 200) {
+        ordinary.push(pair.time_ordinary().0);
+        library.extend(pair.time_library());
+    }
+    let ordinary = ordinary.into_iter().min().ok_or("no run was timed")?;
+    Ok(Times { ordinary, library: library.into_iter().min() })
+}
+
+fn milliseconds(time: Duration) -> String {
+    format!("{:.3}", time.as_secs_f64() * 1e3)
+}
+
+/// Ordinary, library and ratio as three columns.
+fn columns(times: &Result<Times, String>) -> String {
+    match times {
+        Err(why) => format!("{why:>32}"),
+        Ok(Times { ordinary, library: None }) => format!("{:>12}{:>12}{:>8}", milliseconds(*ordinary), "-", "-"),
+        Ok(Times { ordinary, library: Some(library) }) => {
+            let ratio = library.as_secs_f64() / ordinary.as_secs_f64();
+            format!("{:>12}{:>12}{:>8.2}", milliseconds(*ordinary), milliseconds(*library), ratio)
+        }
+    }
+}
+
+/// Index and value slots that the lists of the form need, None where they are over the limit.
+fn exact_slots(form: Form, input: &Input) -> Option<Slots> {
+    let mut buffers = Buffers::for_call(Call::Structure(form), input.n, Slots::all(MAX_SLOTS));
+    let counts = ordinary::structure(form, input, &mut buffers).ok()?;
+    let used = |store: &Store, values: u64| store.runs.last().map_or(values as usize, |&run| run as usize);
+    Some(Slots {
+        lower_index: used(&buffers.lower, counts.lower),
+        lower_values: counts.lower as usize,
+        upper_index: used(&buffers.upper, counts.upper),
+        upper_values: counts.upper as usize,
+    })
+}
+
+fn table(title: &str, systems: &[System], budget: Duration, slots: impl Fn(Form, &Input) -> Option<Slots>) {
+    println!("{title}");
+    println!("{:<18}{:<8}{:^32}{:^32}", "", "", "symbolic (structure)", "total (solve)");
+    let heads = format!("{:>12}{:>12}{:>8}", "ordinary ms", "library ms", "ratio");
+    println!("{:<18}{:<8}{heads}{heads}", "system", "form");
+    for system in systems {
+        for form in [Form::Plain, Form::Shared] {
+            let Some(slots) = slots(form, &system.input) else {
+                continue;
+            };
+            let symbolic = measure(Call::Structure(form), &system.input, slots, budget);
+            let total = measure(Call::Solve(form), &system.input, slots, budget);
+            println!("{:<18}{:<8}{}{}", system.name, format!("{form:?}"), columns(&symbolic), columns(&total));
+        }
+    }
+    println!();
+}
+
+fn main() {
+    let words: Vec<String> = std::env::args().skip(1).collect();
+    let has = |word: &str| words.iter().any(|given| given == word);
+    let budget = Duration::from_millis(if has("--quick") { 100 } else { 1_500 });
+    let systems = systems(has("--small"));
+    println!(
+        "The fastest of runs that take turns. Both solvers clear the unused slots of every store within the time."
+    );
+    println!("Ratio: the library's time over the ordinary solver's.\n");
+    let largest = Slots::all(MAX_SLOTS);
+    table("Stores of 1,048,576 slots", &systems, budget, |_, _| Some(largest));
+    table("Stores just long enough", &systems, budget, exact_slots);
+}

@@ -1,0 +1,328 @@
+/* Lilacpliers: sparse elimination. The C interface of the static library libcapi.a.
+ *
+ * Every buffer is lent by the caller as a pointer and a length in slots; buffers must not overlap. The library
+ * allocates nothing and keeps nothing between calls.
+ *
+ * Matrix, orders, right side:
+ *   n        rows, 1 to LP_MAX_ROWS
+ *   starts   n + 1 row starts: row i has the entries starts[i] to starts[i + 1] - 1
+ *   columns  e columns, e at most LP_MAX_ENTRIES, in any order within a row
+ *   values   e numbers
+ *   r, c     row order and column order: place k takes row r[k] and column c[k]
+ *   b        right side, n numbers by own row
+ *
+ * Lists and factors, by elimination place:
+ *   lower_starts, upper_starts   n + 1 list starts
+ *   lower_runs, upper_runs       n run starts (shared form; row form: upper only)
+ *   lower_index, upper_index     index stores, any length up to LP_MAX_SLOTS
+ *   lower_values, upper_values   value stores, any length up to LP_MAX_SLOTS, also other than the index store's
+ *   d                            n reciprocal pivots
+ *   x                            the solution, n numbers by own column
+ *   Plain: lower row k and upper list k stand at lower_starts[k] and upper_starts[k] of index and value store.
+ *   Shared: lower column k and upper list k stand at lower_runs[k] and upper_runs[k] of the index store, and at
+ *   lower_starts[k] and upper_starts[k] of the value store.
+ *
+ * Scratch: scratch_f64 has 3n slots, scratch_u32 has 8n + 8. Its contents on entry do not matter.
+ *
+ * The answer: each call returns 0 for done or the number of the question answered with no (LP_..., below), and
+ * fills `report` as far as report_len goes: report[0] is the place that the refusal names, 0 where it names none.
+ * Structure and solve calls put three counts behind it: report[1] and report[2] are the filled positions below and
+ * above the diagonal, report[3] the products; they are 0 after a refusal. Slots beyond report[3] are never written.
+ *
+ * What the buffers hold afterwards, unless a call says otherwise:
+ *   LP_ROWS, LP_LENGTHS                nothing was written
+ *   LP_STARTS to LP_REPEATED,
+ *   LP_OTHER_STRUCTURE, LP_BAD_FACTORS scratch is zero, all else untouched
+ *   LP_NULL_PIVOT to LP_OVERFLOW       scratch is zero, and so is every other buffer but x that the call writes
+ *   done                               scratch is zero, and so are the unused slots of what the call writes
+ * x is untouched by every refusal. A zero number is +0.
+ */
+#ifndef LILACPLIERS_H
+#define LILACPLIERS_H
+
+#include <stddef.h>
+#include <stdint.h>
+
+#ifdef __cplusplus
+extern "C" {
+#endif
+
+/* The limits. */
+#define LP_MAX_ROWS 4096
+#define LP_MAX_ENTRIES 65536
+#define LP_MAX_SLOTS 1048576
+
+/* The number of each refusal, and the place it names. */
+#define LP_DONE 0
+#define LP_ROWS 1             /* n is not within 1 to LP_MAX_ROWS */
+#define LP_LENGTHS 2          /* a length is not as stated, or e or a store is over its limit */
+#define LP_STARTS 3           /* starts do not begin at 0, fall, or do not end at e: own row */
+#define LP_COLUMN 4           /* a column is not below n: index of the entry */
+#define LP_ORDER 5            /* r or c is no order: index of the first number out of range or repeated; in c, plus n */
+#define LP_NOT_FINITE 6       /* a value or a number of b is not finite: its index; in b, plus e */
+#define LP_EMPTY_ROW 7        /* a row has no entry: own row */
+#define LP_REPEATED 8         /* a row has a column twice: own row */
+#define LP_NULL_PIVOT 9       /* (k, k) is not filled: k */
+#define LP_LOWER_SLOTS 10     /* the lower lists do not fit index or value store: k */
+#define LP_UPPER_SLOTS 11     /* the upper lists do not fit index or value store: k */
+#define LP_ZERO_PIVOT 12      /* the pivot is a zero of either sign: k */
+#define LP_OVERFLOW 13        /* a result is not finite: the k at work */
+#define LP_OTHER_STRUCTURE 14 /* presented lists are not those of the matrix: k */
+#define LP_BAD_FACTORS 15     /* presented lists are ill shaped or factors not finite: k */
+#define LP_FILE_LENGTH 16     /* the file's length is no positive multiple of 512 up to 2^41 */
+#define LP_BLOCK 17           /* a block's number or checks are wrong: its number */
+#define LP_FILE_SHAPE 18      /* e is over its limit, or blocks and closing zeros do not fit n and e */
+
+/* Sides of the diagonal, for lp_list_plain and lp_list_shared. */
+#define LP_LOWER 0
+#define LP_UPPER 1
+
+/* Finds the fill and places its lists, lower rows and upper lists one after another.
+ * Asks 1 to 5, 7 to 11. Writes list starts, index stores, value stores (all zero) and scratch. */
+uint32_t lp_structure_plain(
+    size_t n,
+    const uint32_t *starts, size_t starts_len,
+    const uint16_t *columns, size_t columns_len,
+    const uint16_t *r, size_t r_len,
+    const uint16_t *c, size_t c_len,
+    uint32_t *lower_starts, size_t lower_starts_len,
+    uint16_t *lower_index, size_t lower_index_len,
+    double *lower_values, size_t lower_values_len,
+    uint32_t *upper_starts, size_t upper_starts_len,
+    uint16_t *upper_index, size_t upper_index_len,
+    double *upper_values, size_t upper_values_len,
+    double *scratch_f64, size_t scratch_f64_len,
+    uint32_t *scratch_u32, size_t scratch_u32_len,
+    uint64_t *report, size_t report_len);
+
+/* The same in the shared form: lower columns and upper lists, sharing index slots.
+ * Asks 1 to 5, 7 to 11. Writes list starts, run starts, index stores, value stores (all zero) and scratch. */
+uint32_t lp_structure_shared(
+    size_t n,
+    const uint32_t *starts, size_t starts_len,
+    const uint16_t *columns, size_t columns_len,
+    const uint16_t *r, size_t r_len,
+    const uint16_t *c, size_t c_len,
+    uint32_t *lower_starts, size_t lower_starts_len,
+    uint32_t *lower_runs, size_t lower_runs_len,
+    uint16_t *lower_index, size_t lower_index_len,
+    double *lower_values, size_t lower_values_len,
+    uint32_t *upper_starts, size_t upper_starts_len,
+    uint32_t *upper_runs, size_t upper_runs_len,
+    uint16_t *upper_index, size_t upper_index_len,
+    double *upper_values, size_t upper_values_len,
+    double *scratch_f64, size_t scratch_f64_len,
+    uint32_t *scratch_u32, size_t scratch_u32_len,
+    uint64_t *report, size_t report_len);
+
+/* Structure, factors and one solution, plain form.
+ * Asks 1 to 13. Writes list starts, index and value stores, d, x and scratch. */
+uint32_t lp_solve_plain(
+    size_t n,
+    const uint32_t *starts, size_t starts_len,
+    const uint16_t *columns, size_t columns_len,
+    const double *values, size_t values_len,
+    const uint16_t *r, size_t r_len,
+    const uint16_t *c, size_t c_len,
+    const double *b, size_t b_len,
+    uint32_t *lower_starts, size_t lower_starts_len,
+    uint16_t *lower_index, size_t lower_index_len,
+    double *lower_values, size_t lower_values_len,
+    uint32_t *upper_starts, size_t upper_starts_len,
+    uint16_t *upper_index, size_t upper_index_len,
+    double *upper_values, size_t upper_values_len,
+    double *d, size_t d_len,
+    double *x, size_t x_len,
+    double *scratch_f64, size_t scratch_f64_len,
+    uint32_t *scratch_u32, size_t scratch_u32_len,
+    uint64_t *report, size_t report_len);
+
+/* Structure, factors and one solution, shared form.
+ * Asks 1 to 13. Writes list starts, run starts, index and value stores, d, x and scratch. */
+uint32_t lp_solve_shared(
+    size_t n,
+    const uint32_t *starts, size_t starts_len,
+    const uint16_t *columns, size_t columns_len,
+    const double *values, size_t values_len,
+    const uint16_t *r, size_t r_len,
+    const uint16_t *c, size_t c_len,
+    const double *b, size_t b_len,
+    uint32_t *lower_starts, size_t lower_starts_len,
+    uint32_t *lower_runs, size_t lower_runs_len,
+    uint16_t *lower_index, size_t lower_index_len,
+    double *lower_values, size_t lower_values_len,
+    uint32_t *upper_starts, size_t upper_starts_len,
+    uint32_t *upper_runs, size_t upper_runs_len,
+    uint16_t *upper_index, size_t upper_index_len,
+    double *upper_values, size_t upper_values_len,
+    double *d, size_t d_len,
+    double *x, size_t x_len,
+    double *scratch_f64, size_t scratch_f64_len,
+    uint32_t *scratch_u32, size_t scratch_u32_len,
+    uint64_t *report, size_t report_len);
+
+/* One solution without keeping L: the row form. It is lent the shared form's upper side and d as working room.
+ * Asks 1 to 9, 11 to 13. Writes the upper side, d, x and scratch; afterwards all of it but x is zero, also when done. */
+uint32_t lp_solve_row(
+    size_t n,
+    const uint32_t *starts, size_t starts_len,
+    const uint16_t *columns, size_t columns_len,
+    const double *values, size_t values_len,
+    const uint16_t *r, size_t r_len,
+    const uint16_t *c, size_t c_len,
+    const double *b, size_t b_len,
+    uint32_t *upper_starts, size_t upper_starts_len,
+    uint32_t *upper_runs, size_t upper_runs_len,
+    uint16_t *upper_index, size_t upper_index_len,
+    double *upper_values, size_t upper_values_len,
+    double *d, size_t d_len,
+    double *x, size_t x_len,
+    double *scratch_f64, size_t scratch_f64_len,
+    uint32_t *scratch_u32, size_t scratch_u32_len,
+    uint64_t *report, size_t report_len);
+
+/* New values over lists that lp_structure_plain or lp_solve_plain left, for the same pattern and orders.
+ * Asks 1 to 8, 14, 12, 13. Reads list starts and index stores, writes value stores, d, x and scratch; only
+ * these are zero after 12 and 13. No counts. */
+uint32_t lp_refactor_plain(
+    size_t n,
+    const uint32_t *starts, size_t starts_len,
+    const uint16_t *columns, size_t columns_len,
+    const double *values, size_t values_len,
+    const uint16_t *r, size_t r_len,
+    const uint16_t *c, size_t c_len,
+    const double *b, size_t b_len,
+    const uint32_t *lower_starts, size_t lower_starts_len,
+    const uint16_t *lower_index, size_t lower_index_len,
+    double *lower_values, size_t lower_values_len,
+    const uint32_t *upper_starts, size_t upper_starts_len,
+    const uint16_t *upper_index, size_t upper_index_len,
+    double *upper_values, size_t upper_values_len,
+    double *d, size_t d_len,
+    double *x, size_t x_len,
+    double *scratch_f64, size_t scratch_f64_len,
+    uint32_t *scratch_u32, size_t scratch_u32_len,
+    uint64_t *report, size_t report_len);
+
+/* The same over the shared form's lists; run starts are read too. */
+uint32_t lp_refactor_shared(
+    size_t n,
+    const uint32_t *starts, size_t starts_len,
+    const uint16_t *columns, size_t columns_len,
+    const double *values, size_t values_len,
+    const uint16_t *r, size_t r_len,
+    const uint16_t *c, size_t c_len,
+    const double *b, size_t b_len,
+    const uint32_t *lower_starts, size_t lower_starts_len,
+    const uint32_t *lower_runs, size_t lower_runs_len,
+    const uint16_t *lower_index, size_t lower_index_len,
+    double *lower_values, size_t lower_values_len,
+    const uint32_t *upper_starts, size_t upper_starts_len,
+    const uint32_t *upper_runs, size_t upper_runs_len,
+    const uint16_t *upper_index, size_t upper_index_len,
+    double *upper_values, size_t upper_values_len,
+    double *d, size_t d_len,
+    double *x, size_t x_len,
+    double *scratch_f64, size_t scratch_f64_len,
+    uint32_t *scratch_u32, size_t scratch_u32_len,
+    uint64_t *report, size_t report_len);
+
+/* Another right side with the factors of the plain form.
+ * Asks 1, 2, 5, 6 (b only, its index), 15, 13. Reads lists, factors and d, writes x and scratch. No counts. */
+uint32_t lp_resolve_plain(
+    size_t n,
+    const uint16_t *r, size_t r_len,
+    const uint16_t *c, size_t c_len,
+    const double *b, size_t b_len,
+    const uint32_t *lower_starts, size_t lower_starts_len,
+    const uint16_t *lower_index, size_t lower_index_len,
+    const double *lower_values, size_t lower_values_len,
+    const uint32_t *upper_starts, size_t upper_starts_len,
+    const uint16_t *upper_index, size_t upper_index_len,
+    const double *upper_values, size_t upper_values_len,
+    const double *d, size_t d_len,
+    double *x, size_t x_len,
+    double *scratch_f64, size_t scratch_f64_len,
+    uint32_t *scratch_u32, size_t scratch_u32_len,
+    uint64_t *report, size_t report_len);
+
+/* The same with the factors of the shared form. */
+uint32_t lp_resolve_shared(
+    size_t n,
+    const uint16_t *r, size_t r_len,
+    const uint16_t *c, size_t c_len,
+    const double *b, size_t b_len,
+    const uint32_t *lower_starts, size_t lower_starts_len,
+    const uint32_t *lower_runs, size_t lower_runs_len,
+    const uint16_t *lower_index, size_t lower_index_len,
+    const double *lower_values, size_t lower_values_len,
+    const uint32_t *upper_starts, size_t upper_starts_len,
+    const uint32_t *upper_runs, size_t upper_runs_len,
+    const uint16_t *upper_index, size_t upper_index_len,
+    const double *upper_values, size_t upper_values_len,
+    const double *d, size_t d_len,
+    double *x, size_t x_len,
+    double *scratch_f64, size_t scratch_f64_len,
+    uint32_t *scratch_u32, size_t scratch_u32_len,
+    uint64_t *report, size_t report_len);
+
+/* The list of a side (LP_LOWER: row `place` of the plain form; LP_UPPER) as a part of that side's index store:
+ * report[0] is its offset there, report[1] its length. An n out of its limits, a wrong length on either side, a
+ * place not below n, list starts that fall there, or a list outside its store give offset 0 and length 0.
+ * Returns 0 always and writes nothing but the report. */
+uint32_t lp_list_plain(
+    uint32_t side, size_t place, size_t n,
+    const uint32_t *lower_starts, size_t lower_starts_len,
+    const uint16_t *lower_index, size_t lower_index_len,
+    const uint32_t *upper_starts, size_t upper_starts_len,
+    const uint16_t *upper_index, size_t upper_index_len,
+    uint64_t *report, size_t report_len);
+
+/* The same for the shared form; LP_LOWER gives column `place`. */
+uint32_t lp_list_shared(
+    uint32_t side, size_t place, size_t n,
+    const uint32_t *lower_starts, size_t lower_starts_len,
+    const uint32_t *lower_runs, size_t lower_runs_len,
+    const uint16_t *lower_index, size_t lower_index_len,
+    const uint32_t *upper_starts, size_t upper_starts_len,
+    const uint32_t *upper_runs, size_t upper_runs_len,
+    const uint16_t *upper_index, size_t upper_index_len,
+    uint64_t *report, size_t report_len);
+
+/* n and e of a matrix file: report[1] and report[2], 0 after a refusal.
+ * Asks 16, 17, 1, 18. Writes nothing but the report. */
+uint32_t lp_file_shape(
+    const uint8_t *file, size_t file_len,
+    uint64_t *report, size_t report_len);
+
+/* Reads a matrix file into buffers of n + 1, e, e, n, n and n slots, as lp_file_shape tells n and e.
+ * Asks 16, 17, 1, 18, 2; what the file holds is not judged. A refusal writes nothing but the report. */
+uint32_t lp_read_matrix(
+    const uint8_t *file, size_t file_len,
+    uint32_t *starts, size_t starts_len,
+    uint16_t *columns, size_t columns_len,
+    double *values, size_t values_len,
+    uint16_t *r, size_t r_len,
+    uint16_t *c, size_t c_len,
+    double *b, size_t b_len,
+    uint64_t *report, size_t report_len);
+
+/* Writes a matrix file. Its length is 512 times (12 + 16n + 10e) / 504, rounded up; e is columns_len.
+ * Asks 1, 18 (e over its limit), 2 (any length, the file's too); what the matrix holds is not judged, and every NaN
+ * is written as 7FF8000000000000. A refusal writes nothing but the report. */
+uint32_t lp_write_matrix(
+    size_t n,
+    const uint32_t *starts, size_t starts_len,
+    const uint16_t *columns, size_t columns_len,
+    const double *values, size_t values_len,
+    const uint16_t *r, size_t r_len,
+    const uint16_t *c, size_t c_len,
+    const double *b, size_t b_len,
+    uint8_t *file, size_t file_len,
+    uint64_t *report, size_t report_len);
+
+#ifdef __cplusplus
+}
+#endif
+
+#endif

@@ -1,0 +1,290 @@
+//! Cases with known figures: the paper's boundary graphs, Report 114's example and grid, the test load.
+use super::{Solver, Tally};
+use crate::compare::{self, Compared, Difference};
+use crate::load;
+use crate::model::*;
+
+const SOLVES: [Form; 3] = [Form::Plain, Form::Shared, Form::Row];
+
+fn solve(solver: &dyn Solver, form: Form, input: &Input, slots: Slots) -> Result<(Answer, Buffers), Difference> {
+    let call = Call::Solve(form);
+    let mut buffers = Buffers::for_call(call, input.n, slots);
+    let answer = solver.run(call, input, &mut buffers, 4)?;
+    Ok((answer, buffers))
+}
+
+fn structure(solver: &dyn Solver, form: Form, input: &Input, slots: Slots) -> Result<(Answer, Buffers), Difference> {
+    let call = Call::Structure(form);
+    let mut buffers = Buffers::for_call(call, input.n, slots);
+    let answer = solver.run(call, input, &mut buffers, 4)?;
+    Ok((answer, buffers))
+}
+
+fn counts(lower: u64, upper: u64, products: u64) -> Counts {
+    Counts { lower, upper, products }
+}
+
+/// All three solves refuse with the number and place.
+fn refuses(solver: &dyn Solver, input: &Input, number: u32, place: u64) -> Compared {
+    for form in SOLVES {
+        let (answer, _) = solve(solver, form, input, Slots::all(64))?;
+        compare::same(&format!("{form:?}"), &answer, &Refusal { number, place }.into())?;
+    }
+    Ok(())
+}
+
+/// All three solves end well with the counts and the bits of x.
+fn solves(solver: &dyn Solver, input: &Input, expected: Counts, x: &[f64]) -> Compared {
+    for form in SOLVES {
+        let (answer, buffers) = solve(solver, form, input, Slots::all(64))?;
+        compare::same(&format!("{form:?}"), &answer, &expected.into())?;
+        compare::floats(&format!("{form:?} x"), &buffers.x, x)?;
+    }
+    Ok(())
+}
+
+fn diagonal(values: &[f64], b: &[f64]) -> Input {
+    let rows: Vec<Vec<(usize, f64)>> = values.iter().enumerate().map(|(k, &v)| vec![(k, v)]).collect();
+    load::from_rows(&rows, b)
+}
+
+/// The paper's file: rows (2, 4), (1, 4), b = (10, 9).
+pub fn paper_matrix() -> Input {
+    load::from_rows(&[vec![(0, 2.0), (1, 4.0)], vec![(0, 1.0), (1, 4.0)]], &[10.0, 9.0])
+}
+
+fn rows_limits(solver: &dyn Solver) -> Compared {
+    for n in [0usize, 4_097] {
+        let input = Input { n, ..diagonal(&vec![1.0; n.max(1)], &vec![1.0; n.max(1)]) };
+        for call in CALLS {
+            let mut buffers = Buffers::for_call(call, n, Slots::all(1));
+            let answer = solver.run(call, &input, &mut buffers, 4)?;
+            compare::same(&format!("n {n} {call:?}"), &answer, &Refusal { number: 1, place: 0 }.into())?;
+        }
+    }
+    let ones = vec![1.0; 4_096];
+    let input = diagonal(&ones, &ones);
+    for form in SOLVES {
+        let (answer, buffers) = solve(solver, form, &input, Slots::all(0))?;
+        compare::same(&format!("n 4096 {form:?}"), &answer, &Answer::default())?;
+        compare::floats("x", &buffers.x, &ones)?;
+    }
+    Ok(())
+}
+
+fn smallest_pivots(solver: &dyn Solver) -> Compared {
+    refuses(solver, &diagonal(&[-0.0], &[1.0]), 12, 0)?;
+    refuses(solver, &diagonal(&[0.0], &[1.0]), 12, 0)?;
+    let x = [2f64.powi(1023)];
+    solves(solver, &diagonal(&[f64::from_bits(1 << 51)], &[1.0]), Counts::default(), &x)?;
+    refuses(solver, &diagonal(&[f64::from_bits(1 << 50)], &[1.0]), 13, 0)
+}
+
+fn exchanged_rows(solver: &dyn Solver) -> Compared {
+    let mut input = load::from_rows(&[vec![(1, 1.0)], vec![(0, 1.0)]], &[3.0, 5.0]);
+    refuses(solver, &input, 9, 0)?;
+    input.r = vec![1, 0];
+    solves(solver, &input, Counts::default(), &[5.0, 3.0])
+}
+
+fn pivot_by_fill(solver: &dyn Solver) -> Compared {
+    let input = load::from_rows(&[vec![(0, 1.0), (1, 1.0)], vec![(0, 1.0)]], &[1.0, 1.0]);
+    solves(solver, &input, counts(1, 1, 1), &[1.0, -0.0])?;
+    let (_, buffers) = solve(solver, Form::Plain, &input, Slots::all(1))?;
+    compare::floats("d", &buffers.d, &[1.0, -1.0])
+}
+
+fn pivot_cancelled(solver: &dyn Solver) -> Compared {
+    let input = load::from_rows(&[vec![(0, 1.0), (1, 1.0)], vec![(0, 1.0), (1, 1.0)]], &[1.0, 1.0]);
+    refuses(solver, &input, 12, 1)
+}
+
+fn arrow(solver: &dyn Solver) -> Compared {
+    let rows = [vec![(0, 9.0), (1, 1.0), (2, 1.0)], vec![(0, 1.0), (1, 9.0)], vec![(0, 1.0), (2, 9.0)]];
+    let input = load::from_rows(&rows, &[1.0, 1.0, 1.0]);
+    for form in SOLVES {
+        let (answer, _) = solve(solver, form, &input, Slots::sides(3, 3))?;
+        compare::same("answer", &answer, &counts(3, 3, 5).into())?;
+    }
+    let exact = Slots { lower_index: 2, lower_values: 3, upper_index: 2, upper_values: 3 };
+    let (answer, buffers) = structure(solver, Form::Shared, &input, exact)?;
+    compare::same("shared with 2 index slots", &answer, &counts(3, 3, 5).into())?;
+    compare::numbers("upper run starts", &buffers.upper.runs, &[0, 1, 2])?;
+    compare::numbers("upper index store", &buffers.upper.index, &[1, 2])?;
+    let short = Slots { upper_index: 2, ..Slots::sides(3, 3) };
+    let (answer, _) = structure(solver, Form::Plain, &input, short)?;
+    compare::same("one upper plain slot fewer", &answer, &Refusal { number: 11, place: 1 }.into())
+}
+
+/// The lists {2,3,4}, {3,4}, {3}, {4} of an upper triangle: three shared slots, runs 0, 1, 1, 2.
+fn shared_tails(solver: &dyn Solver) -> Compared {
+    let rows = [
+        vec![(0, 1.0), (2, 1.0), (3, 1.0), (4, 1.0)],
+        vec![(1, 1.0), (3, 1.0), (4, 1.0)],
+        vec![(2, 1.0), (3, 1.0)],
+        vec![(3, 1.0), (4, 1.0)],
+        vec![(4, 1.0)],
+    ];
+    let input = load::from_rows(&rows, &[1.0; 5]);
+    let (answer, buffers) = structure(solver, Form::Shared, &input, Slots::sides(0, 8))?;
+    compare::same("answer", &answer, &counts(0, 7, 0).into())?;
+    compare::numbers("upper run starts", &buffers.upper.runs, &[0, 1, 1, 2, 3])?;
+    compare::numbers("upper index store", &buffers.upper.index, &[2, 3, 4, 0, 0, 0, 0, 0])
+}
+
+/// Report 114's 5 by 5 example: entries 1 to 9 by rows.
+pub fn report_example() -> Input {
+    let rows = [
+        vec![(0, 1.0), (2, 2.0)],
+        vec![(1, 3.0)],
+        vec![(1, 4.0), (2, 5.0), (3, 6.0)],
+        vec![(3, 7.0)],
+        vec![(3, 8.0), (4, 9.0)],
+    ];
+    load::from_rows(&rows, &[7.0, 6.0, 47.0, 28.0, 77.0])
+}
+
+fn report_114_example(solver: &dyn Solver) -> Compared {
+    let input = report_example();
+    for form in SOLVES {
+        let (answer, buffers) = solve(solver, form, &input, Slots::sides(2, 2))?;
+        compare::same("answer", &answer, &counts(2, 2, 0).into())?;
+        near("x", &buffers.x, &[1.0, 2.0, 3.0, 4.0, 5.0])?;
+    }
+    Ok(())
+}
+
+fn near(name: &str, found: &[f64], expected: &[f64]) -> Compared {
+    for (slot, (&a, &b)) in found.iter().zip(expected).enumerate() {
+        if (a - b).abs() > 1e-12 * b.abs() {
+            return compare::differ(format!("{name}[{slot}]"), a, b);
+        }
+    }
+    Ok(())
+}
+
+/// The order that Report 114's driver prints for the 3 by 3 grid, counted from 0.
+pub const GRID_ORDER: [u16; 9] = [0, 2, 6, 8, 5, 4, 1, 3, 7];
+
+fn grid_in(solver: &dyn Solver, order: &[u16], expected: Counts, slots: Slots) -> Result<Vec<f64>, Difference> {
+    let mut input = load::grid(3);
+    input.r = order.to_vec();
+    input.c = order.to_vec();
+    let mut solution = Vec::new();
+    for form in SOLVES {
+        let (answer, buffers) = solve(solver, form, &input, Slots::all(20))?;
+        compare::same("answer", &answer, &expected.into())?;
+        near("x", &buffers.x, &[1.0, 2.0, 3.0, 4.0, 5.0, 6.0, 7.0, 8.0, 9.0])?;
+        solution = buffers.x;
+    }
+    uses(solver, &input, expected, slots)?;
+    Ok(solution)
+}
+
+/// The shared form fits index stores of exactly these slots, and one fewer on either side is refused.
+fn uses(solver: &dyn Solver, input: &Input, expected: Counts, slots: Slots) -> Compared {
+    let (answer, _) = structure(solver, Form::Shared, input, slots)?;
+    compare::same("shared in the exact slots", &answer, &expected.into())?;
+    let fewer = Slots { lower_index: slots.lower_index - 1, ..slots };
+    let (answer, _) = structure(solver, Form::Shared, input, fewer)?;
+    compare::same("one lower slot fewer", &answer.number, &10)?;
+    let fewer = Slots { upper_index: slots.upper_index - 1, ..slots };
+    let (answer, _) = structure(solver, Form::Shared, input, fewer)?;
+    compare::same("one upper slot fewer", &answer.number, &11)
+}
+
+fn report_114_grid(solver: &dyn Solver) -> Compared {
+    let natural: Vec<u16> = (0..9).collect();
+    let slots = Slots { lower_index: 9, lower_values: 20, upper_index: 9, upper_values: 20 };
+    let first = grid_in(solver, &natural, counts(20, 20, 54), slots)?;
+    let slots = Slots { lower_index: 14, lower_values: 17, upper_index: 14, upper_values: 17 };
+    let second = grid_in(solver, &GRID_ORDER, counts(17, 17, 39), slots)?;
+    let differ = first.iter().zip(&second).any(|(a, b)| a.to_bits() != b.to_bits());
+    compare::same("the orders differ in the last bits", &differ, &true)
+}
+
+/// Figures of the test load: e, counts, shared slots.
+struct LoadFigures {
+    n: usize,
+    e: usize,
+    counts: Counts,
+    shared_lower: usize,
+    shared_upper: usize,
+}
+
+const LOADS: [LoadFigures; 2] = [
+    LoadFigures {
+        n: 256,
+        e: 1_018,
+        counts: Counts { lower: 7_513, upper: 7_515, products: 368_580 },
+        shared_lower: 2_946,
+        shared_upper: 3_744,
+    },
+    LoadFigures {
+        n: 1_024,
+        e: 4_091,
+        counts: Counts { lower: 113_878, upper: 112_859, products: 24_233_048 },
+        shared_lower: 40_691,
+        shared_upper: 45_114,
+    },
+];
+
+fn test_load(solver: &dyn Solver, figures: &LoadFigures) -> Compared {
+    let input = load::test_load(figures.n, 1);
+    compare::same("e", &input.columns.len(), &figures.e)?;
+    let plain = Slots::sides(figures.counts.lower as usize, figures.counts.upper as usize);
+    let (answer, _) = structure(solver, Form::Plain, &input, plain)?;
+    compare::same("plain", &answer, &figures.counts.into())?;
+    let shared = Slots { lower_index: figures.shared_lower, upper_index: figures.shared_upper, ..plain };
+    uses(solver, &input, figures.counts, shared)
+}
+
+/// Other seeds and sizes of the test load, all three solves, against the reference.
+fn loads_against_reference(solver: &dyn Solver) -> Compared {
+    for (n, seed) in [(1, 1), (2, 7), (40, 3), (150, 1), (300, 9), (512, 65_535)] {
+        let input = load::test_load(n, seed);
+        for form in SOLVES {
+            let call = Call::Solve(form);
+            let buffers = Buffers::for_call(call, n, Slots::all(n * n));
+            let case = crate::generate::Case { call, input: input.clone(), buffers, report: 4 };
+            super::cases::compare_case(solver, &case).1?;
+        }
+    }
+    Ok(())
+}
+
+/// The whole range of n: a tridiagonal system of 4,096.
+fn largest_tridiagonal(solver: &dyn Solver) -> Compared {
+    let input = load::tridiagonal(4_096);
+    for call in
+        [Call::Structure(Form::Shared), Call::Solve(Form::Plain), Call::Solve(Form::Shared), Call::Solve(Form::Row)]
+    {
+        let buffers = Buffers::for_call(call, input.n, Slots::all(4_095));
+        let case = crate::generate::Case { call, input: input.clone(), buffers, report: 4 };
+        super::cases::compare_case(solver, &case).1?;
+    }
+    Ok(())
+}
+
+pub fn run(solver: &dyn Solver, tally: &mut Tally) {
+    let graphs: [(&str, Compared); 12] = [
+        ("the paper's file", solves(solver, &paper_matrix(), counts(1, 1, 1), &[1.0, 2.0])),
+        ("n = 0, 4,097 and 4,096", rows_limits(solver)),
+        ("pivots -0, 2^-1023 and 2^-1024", smallest_pivots(solver)),
+        ("entries (0,1), (1,0)", exchanged_rows(solver)),
+        ("pivot 1 is fill", pivot_by_fill(solver)),
+        ("pivot 1 cancels", pivot_cancelled(solver)),
+        ("row 0, column 0 and diagonal full", arrow(solver)),
+        ("shared tails", shared_tails(solver)),
+        ("Report 114's example", report_114_example(solver)),
+        ("Report 114's grid", report_114_grid(solver)),
+        ("test loads against the reference", loads_against_reference(solver)),
+        ("a tridiagonal system of 4,096", largest_tridiagonal(solver)),
+    ];
+    for (name, result) in graphs {
+        tally.add(|| format!("{name} ({})", solver.name()), result);
+    }
+    for figures in &LOADS {
+        tally.add(|| format!("test load n {} ({})", figures.n, solver.name()), test_load(solver, figures));
+    }
+}

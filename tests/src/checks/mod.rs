@@ -1,0 +1,134 @@
+//! The checks, and who is checked: the reference itself, or the library behind the C interface.
+pub mod cases;
+pub mod consistency;
+pub mod files;
+pub mod forms;
+pub mod header;
+pub mod known;
+pub mod printed;
+pub mod signatures;
+
+use crate::compare::{Compared, Difference};
+use crate::model::*;
+use crate::reference::{self, matrix_file, Lists};
+
+/// How many checks passed and failed. Failures are printed as they come, up to a limit.
+#[derive(Default)]
+pub struct Tally {
+    pub passed: u64,
+    pub failed: u64,
+}
+
+const SHOWN: u64 = 40;
+
+impl Tally {
+    pub fn add(&mut self, name: impl FnOnce() -> String, result: Compared) {
+        match result {
+            Ok(()) => self.passed += 1,
+            Err(difference) => {
+                self.failed += 1;
+                if self.failed <= SHOWN {
+                    println!("FAILED {}: {difference}", name());
+                }
+            }
+        }
+    }
+}
+
+/// The calls of one solver. An error is a fault of the call itself, as a slot written outside its buffer.
+pub trait Solver {
+    fn name(&self) -> &'static str;
+    fn run(&self, call: Call, input: &Input, buffers: &mut Buffers, report: usize) -> Result<Answer, Difference>;
+    fn lookup(&self, lists: &Lists, side: Side, place: usize) -> Result<(usize, usize), Difference>;
+    fn shape(&self, file: &[u8]) -> Result<Result<(usize, usize), Refusal>, Difference>;
+    fn read(&self, file: &[u8], matrix: &mut Input) -> Result<Answer, Difference>;
+    fn write(&self, matrix: &Input, file: &mut Vec<u8>) -> Result<Answer, Difference>;
+}
+
+/// The solver of this package.
+pub struct Reference;
+
+impl Solver for Reference {
+    fn name(&self) -> &'static str {
+        "reference"
+    }
+
+    fn run(&self, call: Call, input: &Input, buffers: &mut Buffers, report: usize) -> Result<Answer, Difference> {
+        Ok(masked(call, reference::run(call, input, buffers), report))
+    }
+
+    fn lookup(&self, lists: &Lists, side: Side, place: usize) -> Result<(usize, usize), Difference> {
+        Ok(reference::lookup(lists, side, place))
+    }
+
+    fn shape(&self, file: &[u8]) -> Result<Result<(usize, usize), Refusal>, Difference> {
+        Ok(matrix_file::shape(file))
+    }
+
+    fn read(&self, file: &[u8], matrix: &mut Input) -> Result<Answer, Difference> {
+        Ok(matrix_file::read(file, matrix))
+    }
+
+    fn write(&self, matrix: &Input, file: &mut Vec<u8>) -> Result<Answer, Difference> {
+        Ok(matrix_file::write(matrix, file))
+    }
+}
+
+/// The answer as a report of so many slots shows it.
+fn masked(call: Call, answer: Answer, report: usize) -> Answer {
+    let counted = matches!(call, Call::Structure(_) | Call::Solve(_));
+    let shown = |slot: usize, value: u64| if slot < report && (slot == 0 || counted) { value } else { 0 };
+    let counts = answer.counts;
+    Answer {
+        number: answer.number,
+        place: shown(0, answer.place),
+        counts: Counts {
+            lower: shown(1, counts.lower),
+            upper: shown(2, counts.upper),
+            products: shown(3, counts.products),
+        },
+    }
+}
+
+/// The library behind the C interface.
+#[cfg(any(feature = "library", feature = "standin"))]
+pub struct Library;
+
+#[cfg(any(feature = "library", feature = "standin"))]
+impl Solver for Library {
+    fn name(&self) -> &'static str {
+        "library"
+    }
+
+    fn run(&self, call: Call, input: &Input, buffers: &mut Buffers, report: usize) -> Result<Answer, Difference> {
+        crate::ffi::run(call, input, buffers, report)
+    }
+
+    fn lookup(&self, lists: &Lists, side: Side, place: usize) -> Result<(usize, usize), Difference> {
+        crate::ffi::lookup(lists, side, place)
+    }
+
+    fn shape(&self, file: &[u8]) -> Result<Result<(usize, usize), Refusal>, Difference> {
+        crate::ffi::shape(file)
+    }
+
+    fn read(&self, file: &[u8], matrix: &mut Input) -> Result<Answer, Difference> {
+        crate::ffi::read(file, matrix)
+    }
+
+    fn write(&self, matrix: &Input, file: &mut Vec<u8>) -> Result<Answer, Difference> {
+        crate::ffi::write(matrix, file)
+    }
+}
+
+/// The library, where one is linked.
+pub fn library() -> Option<&'static dyn Solver> {
+    #[cfg(any(feature = "library", feature = "standin"))]
+    {
+        Some(&Library)
+    }
+    #[cfg(not(any(feature = "library", feature = "standin")))]
+    {
+        None
+    }
+}

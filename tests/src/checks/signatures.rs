@@ -1,0 +1,128 @@
+//! No compiler compares the C header, the declarations here and the exports of the library: the texts are compared.
+use super::header::repository;
+use super::Tally;
+use crate::compare::{self, Compared, Difference};
+use std::collections::BTreeMap;
+
+/// For each function the kinds of its arguments, a slice counted as one.
+type Signatures = BTreeMap<String, Vec<String>>;
+
+/// The text between an opening mark and the first closing mark behind it.
+fn between<'a>(text: &'a str, open: &str, close: &str) -> Option<&'a str> {
+    let from = text.find(open)? + open.len();
+    let length = text[from..].find(close)?;
+    Some(&text[from..from + length])
+}
+
+fn arguments(text: &str) -> Vec<String> {
+    let words = |part: &str| part.split_whitespace().collect::<Vec<_>>().join(" ");
+    text.split(',').map(words).filter(|part| !part.is_empty()).collect()
+}
+
+/// A pointer of C as the kind of slice it stands for.
+fn slice_kind(element: &str) -> String {
+    let kind = match element {
+        "uint8_t" => "u8",
+        "uint16_t" => "u16",
+        "uint32_t" => "u32",
+        "uint64_t" => "u64",
+        "double" => "f64",
+        other => other,
+    };
+    format!("slice of {kind}")
+}
+
+fn c_kinds(text: &str) -> Vec<String> {
+    let mut kinds = Vec::new();
+    for argument in arguments(text) {
+        let argument = argument.trim_start_matches("const ").to_string();
+        if let Some((element, _)) = argument.split_once(" *") {
+            kinds.push(slice_kind(element));
+        } else if !argument.ends_with("_len") {
+            let kind = if argument.starts_with("size_t") { "usize" } else { "u32" };
+            kinds.push(kind.to_string());
+        }
+    }
+    kinds
+}
+
+fn header_signatures(text: &str) -> Signatures {
+    let mut found = Signatures::new();
+    for part in text.split("uint32_t lp_").skip(1) {
+        if let Some((name, rest)) = part.split_once('(') {
+            let list = rest.split(')').next().unwrap_or_default();
+            found.insert(format!("lp_{name}"), c_kinds(list));
+        }
+    }
+    found
+}
+
+fn declared_kind(argument: &str) -> String {
+    match argument.split_once(": ").map(|(_, kind)| kind) {
+        Some("size") => "usize".to_string(),
+        Some("number") => "u32".to_string(),
+        Some(kind) => format!("slice of {}", kind.trim_start_matches("lent ").trim_start_matches("out ")),
+        None => argument.to_string(),
+    }
+}
+
+fn declared_signatures(text: &str) -> Signatures {
+    let mut found = Signatures::new();
+    for part in text.split("declare! { lp_").skip(1) {
+        if let (Some(name), Some(list)) = (part.split_whitespace().next(), between(part, "[]", "}")) {
+            found.insert(format!("lp_{name}"), arguments(list).iter().map(|a| declared_kind(a)).collect());
+        }
+    }
+    found
+}
+
+fn exported_kind(argument: &str) -> String {
+    let kind = argument.split_once(": ").map_or(argument, |(_, kind)| kind);
+    match between(kind, "[", "]") {
+        Some(element) => format!("slice of {element}"),
+        None => kind.to_string(),
+    }
+}
+
+fn exported_signatures(text: &str) -> Signatures {
+    let mut found = Signatures::new();
+    for part in text.split("extern \"C\" fn ").skip(1) {
+        if let Some((name, rest)) = part.split_once('(') {
+            let name = name.split('<').next().unwrap_or(name);
+            let list = rest.split(')').next().unwrap_or_default();
+            found.insert(name.to_string(), arguments(list).iter().map(|a| exported_kind(a)).collect());
+        }
+    }
+    found
+}
+
+fn text_of(path: &str) -> Result<String, Difference> {
+    let whole = repository().join(path);
+    std::fs::read_to_string(&whole).or_else(|error| compare::differ(path, error.to_string(), "a file"))
+}
+
+fn same_signatures(found: &Signatures, expected: &Signatures) -> Compared {
+    for (name, kinds) in expected {
+        let other = found.get(name).cloned().unwrap_or_default();
+        compare::numbers(name, &other, kinds)?;
+    }
+    compare::same("functions", &found.len(), &expected.len())
+}
+
+fn declarations() -> Compared {
+    let header = header_signatures(&text_of("include/lilacpliers.h")?);
+    compare::same("functions of the header", &header.len(), &14)?;
+    same_signatures(&declared_signatures(&text_of("tests/src/ffi.rs")?), &header)
+}
+
+fn exports() -> Compared {
+    let header = header_signatures(&text_of("include/lilacpliers.h")?);
+    same_signatures(&exported_signatures(&text_of("crates/capi/src/lib.rt")?), &header)
+}
+
+pub fn run(tally: &mut Tally) {
+    tally.add(|| "declarations against the header".to_string(), declarations());
+    if cfg!(feature = "library") {
+        tally.add(|| "exports against the header".to_string(), exports());
+    }
+}

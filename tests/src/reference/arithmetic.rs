@@ -1,0 +1,106 @@
+//! The arithmetic, in the listed order, every result tested when it is made.
+use super::fill::Fill;
+use crate::model::*;
+
+/// What the elimination leaves: L along each lower row, d, u along each T(k), and z, whose place k is x(c(k)).
+#[derive(Clone, Debug, Default)]
+pub struct Solved {
+    pub l: Vec<Vec<f64>>,
+    pub d: Vec<f64>,
+    pub u: Vec<Vec<f64>>,
+    pub z: Vec<f64>,
+}
+
+/// 13 at k unless the result is finite.
+fn checked(k: usize, result: f64) -> Result<f64, Refusal> {
+    if result.is_finite() {
+        return Ok(result);
+    }
+    refuse(13, k)
+}
+
+/// from - a·b, two roundings.
+fn minus_product(k: usize, from: f64, a: f64, b: f64) -> Result<f64, Refusal> {
+    let product = checked(k, a * b)?;
+    checked(k, from - product)
+}
+
+/// Places 0 to n - 1, then back.
+pub fn solve(fill: &Fill, entries: &[Vec<(usize, f64)>], right: &[f64]) -> Result<Solved, Refusal> {
+    let n = right.len();
+    let mut solved = Solved::default();
+    let mut y = Vec::with_capacity(n);
+    for k in 0..n {
+        let mut w = vec![0.0f64; n];
+        for &(j, value) in &entries[k] {
+            w[j] = value;
+        }
+        let s = eliminate(k, fill, &mut solved, &mut w, right[k], &y)?;
+        if w[k] == 0.0 {
+            return refuse(12, k);
+        }
+        let d = checked(k, 1.0 / w[k])?;
+        y.push(checked(k, s * d)?);
+        let u: Result<Vec<f64>, Refusal> = fill.upper[k].iter().map(|&j| checked(k, w[j] * d)).collect();
+        solved.u.push(u?);
+        solved.d.push(d);
+    }
+    solved.z = back(&fill.upper, &solved.u, &y)?;
+    Ok(solved)
+}
+
+/// Step 2 of place k: keeps row k of L and returns s.
+fn eliminate(k: usize, fill: &Fill, solved: &mut Solved, w: &mut [f64], right: f64, y: &[f64]) -> Result<f64, Refusal> {
+    let mut s = right;
+    let mut multipliers = Vec::new();
+    for &i in &fill.lower_rows[k] {
+        let m = w[i];
+        multipliers.push(m);
+        s = minus_product(k, s, m, y[i])?;
+        for (&j, &u) in fill.upper[i].iter().zip(&solved.u[i]) {
+            w[j] = minus_product(k, w[j], m, u)?;
+        }
+    }
+    solved.l.push(multipliers);
+    Ok(s)
+}
+
+/// From k = n - 1 down: z.
+pub fn back(upper: &[Vec<usize>], u: &[Vec<f64>], y: &[f64]) -> Result<Vec<f64>, Refusal> {
+    let mut z = vec![0.0; y.len()];
+    for k in (0..y.len()).rev() {
+        let mut t = y[k];
+        for (&j, &factor) in upper[k].iter().zip(&u[k]) {
+            t = minus_product(k, t, factor, z[j])?;
+        }
+        z[k] = t;
+    }
+    Ok(z)
+}
+
+/// The s and y steps with L and d found before. `lower`: for each place its (i, L(k, i)), i ascending.
+pub fn forward(lower: &[Vec<(usize, f64)>], d: &[f64], right: &[f64]) -> Result<Vec<f64>, Refusal> {
+    let mut y: Vec<f64> = Vec::with_capacity(right.len());
+    for k in 0..right.len() {
+        let mut s = right[k];
+        for &(i, m) in &lower[k] {
+            s = minus_product(k, s, m, y[i])?;
+        }
+        y.push(checked(k, s * d[k])?);
+    }
+    Ok(y)
+}
+
+/// b by place.
+pub fn right_by_place(r: &[u16], b: &[f64]) -> Vec<f64> {
+    r.iter().map(|&row| b[row as usize]).collect()
+}
+
+/// x(c(k)) = z(k).
+pub fn own_order(c: &[u16], z: &[f64]) -> Vec<f64> {
+    let mut x = vec![0.0; z.len()];
+    for (k, &column) in c.iter().enumerate() {
+        x[column as usize] = z[k];
+    }
+    x
+}

@@ -1,0 +1,293 @@
+//! The reference behind the C interface, to try the comparison without the library. The environment variable
+//! LILACPLIERS_FAULT plants a fault by its name, which the comparison must find.
+use crate::model::*;
+use crate::reference::{self, matrix_file, Lists};
+
+fn fault(name: &str) -> bool {
+    std::env::var("LILACPLIERS_FAULT").is_ok_and(|planted| planted == name)
+}
+
+fn put_report(report: &mut [u64], slots: &[u64]) {
+    for (to, from) in report.iter_mut().zip(slots) {
+        *to = *from;
+    }
+}
+
+/// Defines an exported function: `lent` and `out` are slices made of a pointer and a length.
+macro_rules! export {
+    (@ $name:ident [$($param:tt)*] [$($make:stmt;)*] => $body:block) => {
+        /// # Safety
+        /// Every pointer leads to as many slots as its length says.
+        #[no_mangle]
+        pub unsafe extern "C" fn $name($($param)*) -> u32 { $($make)* $body }
+    };
+    (@ $name:ident [$($param:tt)*] [$($make:stmt;)*] $arg:ident: size, $($rest:tt)*) => {
+        export! { @ $name [$($param)* $arg: usize,] [$($make;)*] $($rest)* }
+    };
+    (@ $name:ident [$($param:tt)*] [$($make:stmt;)*] $arg:ident: number, $($rest:tt)*) => {
+        export! { @ $name [$($param)* $arg: u32,] [$($make;)*] $($rest)* }
+    };
+    (@ $name:ident [$($param:tt)*] [$($make:stmt;)*] $arg:ident: lent $kind:ty, $($rest:tt)*) => {
+        export! { @ $name [$($param)* $arg: *const $kind, length: usize,]
+            [$($make;)* let $arg = std::slice::from_raw_parts($arg, length);] $($rest)* }
+    };
+    (@ $name:ident [$($param:tt)*] [$($make:stmt;)*] $arg:ident: out $kind:ty, $($rest:tt)*) => {
+        export! { @ $name [$($param)* $arg: *mut $kind, length: usize,]
+            [$($make;)* let $arg = std::slice::from_raw_parts_mut($arg, length);] $($rest)* }
+    };
+    ($name:ident: $($rest:tt)*) => { export! { @ $name [] [] $($rest)* } };
+}
+
+/// One side as lent.
+struct Lent<'a> {
+    starts: &'a mut [u32],
+    runs: &'a mut [u32],
+    index: &'a mut [u16],
+    values: &'a mut [f64],
+}
+
+impl Lent<'_> {
+    fn copy(&self) -> Store {
+        Store {
+            starts: self.starts.to_vec(),
+            runs: self.runs.to_vec(),
+            index: self.index.to_vec(),
+            values: self.values.to_vec(),
+        }
+    }
+
+    fn put(&mut self, store: &Store) {
+        self.starts.copy_from_slice(&store.starts);
+        self.runs.copy_from_slice(&store.runs);
+        self.index.copy_from_slice(&store.index);
+        self.values.copy_from_slice(&store.values);
+    }
+}
+
+/// The rest as lent: d, x, scratch, report.
+struct Rest<'a> {
+    d: &'a mut [f64],
+    x: &'a mut [f64],
+    sf: &'a mut [f64],
+    su: &'a mut [u32],
+    report: &'a mut [u64],
+}
+
+fn run(call: Call, input: Input, mut lower: Lent, mut upper: Lent, rest: Rest) -> u32 {
+    let mut buffers = Buffers {
+        lower: lower.copy(),
+        upper: upper.copy(),
+        d: rest.d.to_vec(),
+        x: rest.x.to_vec(),
+        scratch_f64: rest.sf.to_vec(),
+        scratch_u32: rest.su.to_vec(),
+    };
+    let answer = reference::run(call, &input, &mut buffers);
+    let answer = spoil(call, answer, &mut buffers);
+    lower.put(&buffers.lower);
+    upper.put(&buffers.upper);
+    rest.d.copy_from_slice(&buffers.d);
+    rest.x.copy_from_slice(&buffers.x);
+    rest.sf.copy_from_slice(&buffers.scratch_f64);
+    rest.su.copy_from_slice(&buffers.scratch_u32);
+    let counts = answer.counts;
+    put_report(rest.report, &[answer.place, counts.lower, counts.upper, counts.products]);
+    answer.number
+}
+
+/// The planted faults of the calls.
+fn spoil(call: Call, mut answer: Answer, buffers: &mut Buffers) -> Answer {
+    if fault("scratch") && answer.number == 13 {
+        buffers.scratch_f64[0] = 1.0;
+    }
+    if fault("place") && answer.number == 12 {
+        answer.place += 1;
+    }
+    if fault("products") && answer.number == 0 && answer.counts.products > 3 {
+        answer.counts.products -= 1;
+    }
+    if fault("last-bit") && answer.number == 0 && call.form() == Form::Shared {
+        if let Some(x) = buffers.x.first_mut() {
+            *x = f64::from_bits(x.to_bits() ^ 1);
+        }
+    }
+    if fault("unused-slot") && answer.number == 0 {
+        if let Some(slot) = buffers.upper.index.last_mut() {
+            *slot |= 1;
+        }
+    }
+    if fault("negative-zero") && answer.number == 13 {
+        buffers.d.iter_mut().take(1).for_each(|d| *d = -0.0);
+    }
+    answer
+}
+
+// The calls that only read lists take them as writable here: one reading of the arguments serves all calls.
+macro_rules! side {
+    ($starts:expr, $runs:expr, $index:expr, $values:expr) => {
+        Lent { starts: $starts, runs: $runs, index: $index, values: $values }
+    };
+}
+
+macro_rules! none {
+    () => {
+        Lent { starts: &mut [], runs: &mut [], index: &mut [], values: &mut [] }
+    };
+}
+
+macro_rules! matrix {
+    ($n:expr, $starts:expr, $columns:expr, $values:expr, $r:expr, $c:expr, $b:expr) => {
+        Input {
+            n: $n,
+            starts: $starts.to_vec(),
+            columns: $columns.to_vec(),
+            values: $values.to_vec(),
+            r: $r.to_vec(),
+            c: $c.to_vec(),
+            b: $b.to_vec(),
+        }
+    };
+}
+
+const NO_U32: [u32; 0] = [];
+const NO_U16: [u16; 0] = [];
+const NO_F64: [f64; 0] = [];
+
+export! { lp_structure_plain: n: size, starts: lent u32, columns: lent u16, r: lent u16, c: lent u16,
+ls: out u32, li: out u16, lv: out f64, us: out u32, ui: out u16, uv: out f64, sf: out f64, su: out u32, report: out u64,
+=> {
+    let input = matrix!(n, starts, columns, NO_F64, r, c, NO_F64);
+    let rest = Rest { d: &mut [], x: &mut [], sf, su, report };
+    run(Call::Structure(Form::Plain), input, side!(ls, &mut [], li, lv), side!(us, &mut [], ui, uv), rest)
+} }
+
+export! { lp_structure_shared: n: size, starts: lent u32, columns: lent u16, r: lent u16, c: lent u16,
+ls: out u32, lr: out u32, li: out u16, lv: out f64, us: out u32, ur: out u32, ui: out u16, uv: out f64,
+sf: out f64, su: out u32, report: out u64,
+=> {
+    let input = matrix!(n, starts, columns, NO_F64, r, c, NO_F64);
+    let rest = Rest { d: &mut [], x: &mut [], sf, su, report };
+    run(Call::Structure(Form::Shared), input, side!(ls, lr, li, lv), side!(us, ur, ui, uv), rest)
+} }
+
+export! { lp_solve_plain: n: size, starts: lent u32, columns: lent u16, values: lent f64, r: lent u16, c: lent u16, b: lent f64,
+ls: out u32, li: out u16, lv: out f64, us: out u32, ui: out u16, uv: out f64,
+d: out f64, x: out f64, sf: out f64, su: out u32, report: out u64,
+=> {
+    let input = matrix!(n, starts, columns, values, r, c, b);
+    run(Call::Solve(Form::Plain), input, side!(ls, &mut [], li, lv), side!(us, &mut [], ui, uv), Rest { d, x, sf, su, report })
+} }
+
+export! { lp_solve_shared: n: size, starts: lent u32, columns: lent u16, values: lent f64, r: lent u16, c: lent u16, b: lent f64,
+ls: out u32, lr: out u32, li: out u16, lv: out f64, us: out u32, ur: out u32, ui: out u16, uv: out f64,
+d: out f64, x: out f64, sf: out f64, su: out u32, report: out u64,
+=> {
+    let input = matrix!(n, starts, columns, values, r, c, b);
+    run(Call::Solve(Form::Shared), input, side!(ls, lr, li, lv), side!(us, ur, ui, uv), Rest { d, x, sf, su, report })
+} }
+
+export! { lp_solve_row: n: size, starts: lent u32, columns: lent u16, values: lent f64, r: lent u16, c: lent u16, b: lent f64,
+us: out u32, ur: out u32, ui: out u16, uv: out f64, d: out f64, x: out f64, sf: out f64, su: out u32, report: out u64,
+=> {
+    let input = matrix!(n, starts, columns, values, r, c, b);
+    run(Call::Solve(Form::Row), input, none!(), side!(us, ur, ui, uv), Rest { d, x, sf, su, report })
+} }
+
+export! { lp_refactor_plain: n: size, starts: lent u32, columns: lent u16, values: lent f64, r: lent u16, c: lent u16, b: lent f64,
+ls: out u32, li: out u16, lv: out f64, us: out u32, ui: out u16, uv: out f64,
+d: out f64, x: out f64, sf: out f64, su: out u32, report: out u64,
+=> {
+    let input = matrix!(n, starts, columns, values, r, c, b);
+    run(Call::Refactor(Form::Plain), input, side!(ls, &mut [], li, lv), side!(us, &mut [], ui, uv), Rest { d, x, sf, su, report })
+} }
+
+export! { lp_refactor_shared: n: size, starts: lent u32, columns: lent u16, values: lent f64, r: lent u16, c: lent u16, b: lent f64,
+ls: out u32, lr: out u32, li: out u16, lv: out f64, us: out u32, ur: out u32, ui: out u16, uv: out f64,
+d: out f64, x: out f64, sf: out f64, su: out u32, report: out u64,
+=> {
+    let input = matrix!(n, starts, columns, values, r, c, b);
+    let (lower, upper) = (side!(ls, lr, li, lv), side!(us, ur, ui, uv));
+    run(Call::Refactor(Form::Shared), input, lower, upper, Rest { d, x, sf, su, report })
+} }
+
+export! { lp_resolve_plain: n: size, r: lent u16, c: lent u16, b: lent f64,
+ls: out u32, li: out u16, lv: out f64, us: out u32, ui: out u16, uv: out f64,
+d: out f64, x: out f64, sf: out f64, su: out u32, report: out u64,
+=> {
+    let input = matrix!(n, NO_U32, NO_U16, NO_F64, r, c, b);
+    let rest = Rest { d, x, sf, su, report };
+    run(Call::Resolve(Form::Plain), input, side!(ls, &mut [], li, lv), side!(us, &mut [], ui, uv), rest)
+} }
+
+export! { lp_resolve_shared: n: size, r: lent u16, c: lent u16, b: lent f64,
+ls: out u32, lr: out u32, li: out u16, lv: out f64, us: out u32, ur: out u32, ui: out u16, uv: out f64,
+d: out f64, x: out f64, sf: out f64, su: out u32, report: out u64,
+=> {
+    let input = matrix!(n, NO_U32, NO_U16, NO_F64, r, c, b);
+    let rest = Rest { d, x, sf, su, report };
+    run(Call::Resolve(Form::Shared), input, side!(ls, lr, li, lv), side!(us, ur, ui, uv), rest)
+} }
+
+fn find(form: Form, side: u32, place: usize, n: usize, lower: Store, upper: Store, report: &mut [u64]) -> u32 {
+    let side = if side == 0 { Side::Lower } else { Side::Upper };
+    let (mut offset, length) = reference::lookup(&Lists { form, n, lower, upper }, side, place);
+    if fault("lookup") && length == 2 {
+        offset += 1;
+    }
+    put_report(report, &[offset as u64, length as u64]);
+    0
+}
+
+fn list_store(starts: &[u32], runs: &[u32], index: &[u16]) -> Store {
+    Store { starts: starts.to_vec(), runs: runs.to_vec(), index: index.to_vec(), values: Vec::new() }
+}
+
+export! { lp_list_plain: side: number, place: size, n: size,
+ls: lent u32, li: lent u16, us: lent u32, ui: lent u16, report: out u64,
+=> { find(Form::Plain, side, place, n, list_store(ls, &NO_U32, li), list_store(us, &NO_U32, ui), report) } }
+
+export! { lp_list_shared: side: number, place: size, n: size,
+ls: lent u32, lr: lent u32, li: lent u16, us: lent u32, ur: lent u32, ui: lent u16, report: out u64,
+=> { find(Form::Shared, side, place, n, list_store(ls, lr, li), list_store(us, ur, ui), report) } }
+
+export! { lp_file_shape: file: lent u8, report: out u64,
+=> {
+    match matrix_file::shape(file) {
+        Ok((n, e)) => {
+            put_report(report, &[0, n as u64, e as u64]);
+            0
+        }
+        Err(q) if fault("block") && q.number == 17 => {
+            put_report(report, &[0, 0, 0]);
+            17
+        }
+        Err(q) => {
+            put_report(report, &[q.place, 0, 0]);
+            q.number
+        }
+    }
+} }
+
+export! { lp_read_matrix: file: lent u8, starts: out u32, columns: out u16, values: out f64,
+r: out u16, c: out u16, b: out f64, report: out u64,
+=> {
+    let mut matrix = matrix!(0, starts, columns, values, r, c, b);
+    let answer = matrix_file::read(file, &mut matrix);
+    starts.copy_from_slice(&matrix.starts);
+    columns.copy_from_slice(&matrix.columns);
+    values.copy_from_slice(&matrix.values);
+    r.copy_from_slice(&matrix.r);
+    c.copy_from_slice(&matrix.c);
+    b.copy_from_slice(&matrix.b);
+    put_report(report, &[answer.place]);
+    answer.number
+} }
+
+export! { lp_write_matrix: n: size, starts: lent u32, columns: lent u16, values: lent f64,
+r: lent u16, c: lent u16, b: lent f64, file: out u8, report: out u64,
+=> {
+    let matrix = matrix!(n, starts, columns, values, r, c, b);
+    let answer = matrix_file::write(&matrix, file);
+    put_report(report, &[answer.place]);
+    answer.number
+} }
