@@ -1,5 +1,5 @@
 -- Laws of the lookup: its spans stand within their stores, and a well shaped list is found as it is stored.
-use mathlib.Core.Path.{_≡_, refl, sym, _∙_, ap}
+use mathlib.Core.Path.{_≡_, refl, sym, _∙_}
 use mathlib.Core.Bool.{Bool, true, false, cond, _&&_}
 use mathlib.Core.List.{List}
 use Prim.Native.Nat.{ℕ, _+_, _-_, _≤_, _<_}
@@ -8,7 +8,7 @@ use native.Mathlib.Nat.{add-sub-cancel-left}
 use lib.ListN.{length, getD, take, drop}
 use lib.Dec.{leb, ltb, eqb}
 use borrow.Author.Tests.{le-leb, lt-leb, lt-ltb, le-ltb, leb-true, eqb-true}
-use Rattle.base.specs.Tests.{by-test, and-cases, and-left, and-right}
+use Rattle.base.specs.Tests.{and-cases, and-right}
 use Rattle.base.specs.Lists.{listAt}
 use Rattle.base.specs.declared.Place.{Place}
 use Rattle.base.specs.declared.Side.{Side}

@@ -1,7 +1,6 @@
 // A stored list by side and place, handed back as a part of the index store that holds it.
 ghost use mathlib.Core.Path.{_≡_};
-ghost use Prim.Native.Nat.{_+_, _<_, _≤_};
-ghost use lib.ListN.{length};
+ghost use Prim.Native.Nat.{_<_, _≤_};
 ghost use Rattle.lookup.specs.Lookup.{SideLent, listsOf, sized, bothFit, runSpan, spanOf, partOf, lookup};
 use base::Place;
 use base::Side;
@@ -21,7 +20,7 @@ fn side_fits(n: usize, extra: usize, starts: usize, runs: usize, index: usize) -
     (starts == n + 1) & (runs == n + extra) & (index <= Matrix::MAX_SLOTS)
 }
 
-// Whether n and the lengths of both sides are as stated.
+// Whether n and the lengths of both sides (list starts, run starts, index store of lower and upper) are as stated.
 fn both_fit(
     n: usize,
     extra: usize,

@@ -1,7 +1,7 @@
 -- Each record that a function asks of its caller is met by a computed value: one row, one entry.
 use mathlib.Core.Path.{_≡_, refl}
 use mathlib.Core.List.{List, [], _∷_}
-use Prim.Native.Nat.{ℕ, _+_, _≤_, _<_}
+use Prim.Native.Nat.{ℕ, _+_}
 use native.Mathlib.Omega.{arith}
 use lib.Ieee.{Float}
 use Rattle.base.specs.Lists.{nought, blank, listAt}
@@ -10,7 +10,7 @@ use Rattle.base.specs.declared.Asked.the-variants.{Pass}
 use Rattle.matrix.specs.Input.{inputOf, isOf}
 use Rattle.matrix.specs.Questions.{badStart, badColumn, badIndex, notFinite, emptyRow, noEntry, repeatRow, repeats, seenAt, IsOrder, ask3, ask4, ask5, ask6, ask7, ask8, askFinite, askPattern, askRows, askSolve}
 use Rattle.questions.specs.Settled.{Settled}
-use Rattle.questions.specs.Lent.{OrderLent, OrdersLent, Lent, SolveLent, RightLent, PlacesLent, RowsLent, RowLent, Unstamped, InverseLent, SolutionLent}
+use Rattle.questions.specs.Lent.{OrderLent, SolveLent, RightLent, RowsLent, RowLent, Unstamped, InverseLent, SolutionLent}
 use Rattle.questions.specs.SettledLaws.{settled}
 use Rattle.questions.specs.StampLaws.{unstamped-next, at-most-blank}
 

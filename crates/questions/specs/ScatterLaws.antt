@@ -1,17 +1,18 @@
 -- A loop that stores f k at what an order has at k: in the end slot j holds f of j's place. One law for every element type.
 use mathlib.Core.Path.{_≡_, refl, sym, _∙_, ap}
 use mathlib.Core.List.{List, _++_, append-nil}
-use Prim.Native.Nat.{ℕ, zero, suc, _+_, _-_, _≤_, _<_}
+use Prim.Native.Nat.{ℕ, _+_, _-_, _≤_, _<_}
 use native.Mathlib.Omega.{arith}
 use native.Mathlib.Nat.{not-suc-le-zero}
 use native.Mathlib.Decide.{ℕ-discrete}
-use lib.ListN.{length, getD, set, take, drop, length-set, length-take, length-drop, drop-of-length-le, take-append-drop}
-use lib.Seq.{getD-set-same, getD-set-other, drop-set-lt, getD-take, ext-getD, take-at, drop-at, drop-drop, take-all, length-take-le}
+use lib.ListN.{length, getD, set, take, drop, length-set, length-drop, drop-of-length-le, take-append-drop}
+use lib.Ieee.{Float, nan}
+use lib.Seq.{getD-set-same, getD-set-other, drop-set-lt, getD-take, getD-drop, ext-getD, take-at, drop-at, drop-drop, take-all, length-take-le}
 use Rattle.base.specs.Lists.{table}
 use Rattle.base.specs.TableLaws.{length-table, getD-table}
-use Rattle.matrix.specs.Input.{ic}
+use Rattle.matrix.specs.Input.{ic, ownOrder}
 use Rattle.matrix.specs.Questions.{IsOrder}
-use Rattle.matrix.specs.OrderLaws.{order-below, order-inj, place-hits}
+use Rattle.matrix.specs.OrderLaws.{order-below, order-inj, place-of, place-hits}
 use Rattle.questions.specs.Lent.{inverted, invertedAt}
 
 module _ {A : Type 0} where
@@ -76,6 +77,14 @@ module _ (o : List ℕ) (n : ℕ) (s : List ℕ) where
   unfolding inverted
   inverse-rest = drop-at (table (ic o n) n) (drop n s) n (length-table (ic o n) n)
 
+  -- slot j of an inverse in the first n slots, and of one in the n slots after them
+  pub inverse-at : take n s ≡ table (ic o n) n → (j : ℕ) → j < n → getD s j 0 ≡ ic o n j
+  inverse-at e j l = sym (getD-take n s j 0 l) ∙ ap (λ (t : List ℕ). getD t j 0) e ∙ getD-table (ic o n) n 0 j l
+
+  pub placed-at : take n (drop n s) ≡ table (ic o n) n → (j : ℕ) → j < n → getD s (n + j) 0 ≡ ic o n j
+  placed-at e j l =
+      sym (getD-drop n s j 0) ∙ sym (getD-take n (drop n s) j 0 l) ∙ ap (λ (t : List ℕ). getD t j 0) e ∙ getD-table (ic o n) n 0 j l
+
 module _ (o : List ℕ) (n : ℕ) (s : List ℕ) (room : n ≤ length s) where
   long : length (take n s) ≡ n
   long = length-take-le n s room
@@ -93,3 +102,10 @@ module _ (o : List ℕ) (n : ℕ) (s : List ℕ) (room : n ≤ length s) where
 
   pub placed-rest : drop (n + n) (invertedAt o n s) ≡ drop (n + n) s
   placed-rest = sym (drop-drop n n (invertedAt o n s)) ∙ ap (drop n) placed-back ∙ inverse-rest o n (drop n s) ∙ drop-drop n n s
+
+-- "x(c(k)) = t": the solution by own column has z(k) at c(k)
+pub x-at : (c : List ℕ) (n : ℕ) (z : List Float) (k : ℕ) → IsOrder c n → k < n → getD (ownOrder c n z) (getD c k 0) nan ≡ getD z k nan
+unfolding ownOrder
+x-at c n z k o l =
+    getD-table (λ (j : ℕ). getD z (ic c n j) nan) n nan (getD c k 0) (order-below c n o k l)
+    ∙ ap (λ (m : ℕ). getD z m nan) (place-of c n o k l)

@@ -1,19 +1,18 @@
 -- What the questions settle when they are passed, and M' by the inverse order.
 use mathlib.Core.Path.{_≡_, refl, sym, _∙_, ap, ap₂}
-use mathlib.Core.Bool.{Bool, true, false, not, _&&_, _||_}
-use mathlib.Core.Logic.{_≢_}
+use mathlib.Core.Bool.{true, false, not, _&&_, _||_}
 use mathlib.Core.List.{List, [], _∷_, map}
-use Prim.Native.Nat.{ℕ, zero, suc, _+_, _-_, _≤_, _<_, min}
+use Prim.Native.Nat.{ℕ, zero, suc, _+_, _-_, _≤_, _<_}
 use native.Mathlib.Omega.{arith}
 use native.Mathlib.Decide.{ℕ-discrete}
 use lib.ListN.{length, getD, take, drop, length-take, length-drop, length-map}
 use lib.Seq.{getD-take, getD-drop}
-use lib.Dec.{leb, ltb, eqb}
+use lib.Dec.{ltb, eqb}
 use lib.Ieee.{Float, nan}
 use lib.Ieee.Scale.{finite}
 use borrow.Author.Tests.{leb-false, ltb-false, eq-eqb, ne-eqb, eqb-true, eqb-false}
 use Rattle.base.specs.Lists.{has, listAt, rowOf}
-use Rattle.base.specs.Tests.{or-false, not-true, not-false}
+use Rattle.base.specs.Tests.{or-false, not-true}
 use Rattle.base.specs.TableLaws.{getD-map-lt}
 use Rattle.base.specs.First.{first, isAt}
 use Rattle.base.specs.FirstLaws.{first-none}
@@ -29,7 +28,7 @@ use Rattle.matrix.specs.Input.{Input, inputOf, isOf, ic, stored}
 use Rattle.matrix.specs.Questions.{badStart, badColumn, badIndex, notFinite, noEntry, emptyRow, seenAt, repeats, repeatRow, IsOrder, ask3, ask4, ask5, ask6, ask7, ask8, askFinite, askPattern, askRows, askStructure, askSolve, askRight}
 use Rattle.matrix.specs.OrderLaws.{order-below, place-of, place-hits}
 use Rattle.questions.specs.Settled.{RowIn, Under, Distinct, Finite, columnsAt, placesAt, Readable, Structured, Settled}
-use Rattle.questions.specs.Lent.{Lent, OrdersLent, RowsLent, RowLent}
+use Rattle.questions.specs.Lent.{Lent, RowsLent, RowLent}
 
 -- ---- a question passed, and two passed one after the other
 
@@ -167,6 +166,10 @@ has-map f q p (x ∷ xs) e h = ap₂ (λ a b. a || b) (at (ℕ-discrete x q)) (h
     at (no u) = ne-eqb (f x) p (λ v. u (h zero (omega arith) v)) ∙ sym (ne-eqb x q u)
 
 module _ (i : Input) (g : Readable i) where
+  -- the row at place k stands within the entries
+  pub row-in : (k : ℕ) → k < i .n → RowIn (i .starts) (length (i .columns)) (getD (i .r) k 0)
+  row-in k l = g .rows (getD (i .r) k 0) (order-below (i .r) (i .n) (g .row-order) k l)
+
   columns-under : (k : ℕ) → Under (columnsAt i k) (i .n)
   columns-under k = row-under (i .n) (i .starts) (i .columns) (getD (i .r) k 0) (g .columns)
 

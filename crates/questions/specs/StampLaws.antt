@@ -1,16 +1,16 @@
 -- Stamps: slot v holds the stamp exactly if v is among the numbers passed. Question 5 and question 8 of a row are one loop over them.
 use mathlib.Core.Path.{_≡_, refl, sym, _∙_, ap}
-use mathlib.Core.Bool.{Bool, true, false, _||_}
+use mathlib.Core.Bool.{Bool, true, false}
 use mathlib.Core.List.{List}
 use Prim.Native.Nat.{ℕ, zero, suc, _+_, _≤_, _<_}
 use native.Mathlib.Omega.{arith}
 use native.Mathlib.Decide.{ℕ-discrete, decLt}
 use lib.ListN.{length, getD, set, List·getD-eq-default, length-set}
 use lib.Seq.{getD-set-same, getD-set-other, set-out}
-use lib.Dec.{leb, eqb}
+use lib.Dec.{eqb}
 use borrow.Author.Tests.{le-leb, lt-leb, eq-eqb, ne-eqb}
 use Rattle.base.specs.First.{first, isAt, atIf, orElse}
-use Rattle.base.specs.FirstLaws.{first-zero, first-suc, first-more, first-at, first-end, first-all}
+use Rattle.base.specs.FirstLaws.{first-zero, first-suc, first-more}
 use Rattle.base.specs.Lists.{blank}
 use Rattle.base.specs.ZerosLaws.{blank-at, blank-length}
 use Rattle.base.specs.declared.Found.{Found}

@@ -1,13 +1,13 @@
-// Questions 3 to 8 on a lent matrix, its orders and its numbers; and what the orders turn into each other: own numbers, places, the inverse order and the solution.
+// Questions 3 to 8 on a lent matrix, its orders and its numbers, and what goes by an order: own numbers and places, the inverse, the solution.
 ghost use mathlib.Core.Path.{_≡_};
-ghost use mathlib.Core.List.{[], _++_};
+ghost use mathlib.Core.List.{[]};
 ghost use Prim.Native.Nat.{_+_, _-_, _<_, _≤_};
-ghost use lib.ListN.{length, getD, set, take, drop};
+ghost use lib.ListN.{length, getD, set};
 ghost use lib.Dec.{eqb};
 ghost use Rattle.base.specs.First.{first, isAt};
-ghost use Rattle.base.specs.Lists.{rowOf, table};
-ghost use Rattle.matrix.specs.Input.{inputOf, ownAt, placeAt, ic, ownOrder};
-ghost use Rattle.matrix.specs.Questions.{badStart, badIndex, noEntry, repeats, IsOrder, ask3, ask4, ask5, askFinite, ask6, ask7, ask8, askPattern, askRows, askStructure, askSolve, askRight};
+ghost use Rattle.base.specs.Lists.{rowOf};
+ghost use Rattle.matrix.specs.Input.{inputOf, ownAt, placeAt, ownOrder};
+ghost use Rattle.matrix.specs.Questions.{badStart, badIndex, noEntry, repeats, ask3, ask4, ask5, askFinite, ask6, ask7, ask8, askPattern, askRows, askStructure, askSolve, askRight};
 ghost use Rattle.questions.specs.Lent.{Lent, SolveLent, RightLent, OrdersLent, OrderLent, PlacesLent, RowsLent, RowLent, Unstamped, AtMost, askOrder, InverseLent, SolutionLent, inverted, invertedAt};
 use base::Asked;
 use base::Found;
@@ -122,7 +122,7 @@ fn start_bad(n: usize, e: usize, starts: &[u32], i: OwnNumber) -> bool
     (b < a) | ((at == 0) & (a != 0)) | ((at + 1 == n) & (b as usize != e))
 }
 
-// 3
+// 3: do the starts begin at 0, never fall, and end at e?
 fn ask_starts(n: usize, e: usize, starts: &[u32]) -> Asked
     requires { ⌜ (length (now starts) ≡ n + 1) × (n ≤ 4294967296) ⌝ }
     ensures { λ a. ⌜ a ≡ ask3 n e (now (starts .entry)) ⌝ }
@@ -138,7 +138,7 @@ fn ask_starts(n: usize, e: usize, starts: &[u32]) -> Asked
     Asked::Pass
 }
 
-// 4
+// 4: is each column below n?
 fn ask_columns(n: usize, columns: &[u16]) -> Asked
     requires { ⌜ length (now columns) ≤ 4294967296 ⌝ }
     ensures { λ a. ⌜ a ≡ ask4 n (now (columns .entry)) ⌝ }
@@ -153,7 +153,7 @@ fn ask_columns(n: usize, columns: &[u16]) -> Asked
     Asked::Pass
 }
 
-// 5 of one order, the index plus `from`
+// 5 of one order, the index plus `from`.
 fn ask_order(n: usize, order: &[u16], from: usize, marks: &mut [u32]) -> Asked
     requires { ⌜ OrderLent n (now order) from (length (now marks)) ⌝ }
     ensures { λ a. ⌜ a ≡ askOrder (now (order .entry)) n from ⌝ }
@@ -166,7 +166,7 @@ fn ask_order(n: usize, order: &[u16], from: usize, marks: &mut [u32]) -> Asked
     Asked::Pass
 }
 
-// 5
+// 5: are r and then c orders?
 fn ask_orders(n: usize, r: &[u16], c: &[u16], marks: &mut [u32]) -> Asked
     requires { ⌜ OrdersLent n (now r) (now c) (length (now marks)) ⌝ }
     ensures { λ a. ⌜ a ≡ ask5 n (now (r .entry)) (now (c .entry)) ⌝ }
@@ -178,7 +178,7 @@ fn ask_orders(n: usize, r: &[u16], c: &[u16], marks: &mut [u32]) -> Asked
     ask_order(n, c, n, marks)
 }
 
-// 6 of one slice, the index plus `from`
+// 6 of one slice, the index plus `from`.
 fn ask_finite(v: &[f64], from: usize) -> Asked
     requires { ⌜ length (now v) + from ≤ 4294967296 ⌝ }
     ensures { λ a. ⌜ a ≡ askFinite (now (v .entry)) from ⌝ }
@@ -193,7 +193,7 @@ fn ask_finite(v: &[f64], from: usize) -> Asked
     Asked::Pass
 }
 
-// 6
+// 6: are the values, then b, finite?
 fn ask_numbers(values: &[f64], b: &[f64]) -> Asked
     requires { ⌜ length (now values) + length (now b) ≤ 4294967296 ⌝ }
     ensures { λ a. ⌜ a ≡ ask6 (now (values .entry)) (now (b .entry)) ⌝ }
@@ -214,7 +214,7 @@ fn row_empty(starts: &[u32], i: OwnNumber) -> bool
     starts[at + 1] <= starts[at]
 }
 
-// 7
+// 7: has each row an entry?
 fn ask_entries(n: usize, starts: &[u32], r: &[u16]) -> Asked
     requires { ⌜ PlacesLent n (now starts) (now r) ⌝ }
     ensures { λ a. ⌜ a ≡ ask7 n (now (starts .entry)) (now (r .entry)) ⌝ }
@@ -249,7 +249,7 @@ fn row_repeats(
     found(f)
 }
 
-// 8
+// 8: is no column twice in a row?
 fn ask_repeats(n: usize, starts: &[u32], columns: &[u16], r: &[u16], marks: &mut [u32]) -> Asked
     requires { ⌜ RowsLent n (now starts) (now columns) (now r) (length (now marks)) ⌝ }
     ensures { λ a. ⌜ a ≡ ask8 n (now (starts .entry)) (now (columns .entry)) (now (r .entry)) ⌝ }
@@ -268,7 +268,7 @@ fn ask_repeats(n: usize, starts: &[u32], columns: &[u16], r: &[u16], marks: &mut
 
 // ---- the questions of a call, one after another
 
-// 3, 4, 5
+// 3, 4, 5.
 fn ask_pattern(
     n: usize,
     starts: &[u32],
@@ -291,7 +291,7 @@ fn ask_pattern(
     ask_orders(n, r, c, marks)
 }
 
-// 7, 8
+// 7, 8.
 fn ask_rows(n: usize, starts: &[u32], columns: &[u16], r: &[u16], marks: &mut [u32]) -> Asked
     requires { ⌜ RowsLent n (now starts) (now columns) (now r) (length (now marks)) ⌝ }
     ensures { λ a. ⌜ a ≡ askRows (inputOf n (now (starts .entry)) (now (columns .entry)) [] (now (r .entry)) [] []) ⌝ }

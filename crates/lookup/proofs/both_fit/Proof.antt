@@ -1,11 +1,6 @@
 use Rattle.lookup.specs.LookupLaws.{both-yes, both-no, rows-few}
-use borrow.Author.Needs.{needs}
-use native.Mathlib.Omega.{arith}
 use Rattle.lookup.proofs.both_fit.Statement.{statement}
 use Rattle.lookup.proofs.both_fit.Tie as tie
-use Rattle.lookup.proofs.both_fit.Reads as reads
-use Rattle.lookup.proofs.both_fit.Lts as lts
-use Rattle.lookup.proofs.side_fits.Reads as side-fits-reads
 
 side-fits-requires : tie.Need-side-fits-requires
 side-fits-requires c κs = (rows-few _ (c .if1 .taken), c .before .pre)

@@ -1,12 +1,8 @@
-use Rattle.lookup.specs.LookupLaws.{part-of}
-use Rattle.lookup.specs.LookupLaws.{span-inside}
+use Rattle.lookup.specs.LookupLaws.{part-of, span-inside}
 use native.Mathlib.Omega.{arith}
 use borrow.Author.Needs.{needs}
 use Rattle.lookup.proofs.list_of.Statement.{statement}
 use Rattle.lookup.proofs.list_of.Tie as tie
-use Rattle.lookup.proofs.list_of.Reads as reads
-use Rattle.lookup.proofs.list_of.Lts as lts
-use Rattle.lookup.proofs.list_span.Reads as list-span-reads
 
 list-span-requires : tie.Need-list-span-requires
 list-span-requires c κs = search needs

@@ -1,13 +1,7 @@
-use Rattle.lookup.specs.LookupLaws.{lower-named, upper-named}
-use Rattle.lookup.specs.LookupLaws.{lower-lent, upper-lent}
-use native.Mathlib.Omega.{arith}
+use Rattle.lookup.specs.LookupLaws.{lower-named, upper-named, lower-lent, upper-lent}
 use borrow.Author.Needs.{needs}
 use Rattle.lookup.proofs.list_plain.Statement.{statement}
 use Rattle.lookup.proofs.list_plain.Tie as tie
-use Rattle.lookup.proofs.list_plain.Reads as reads
-use Rattle.lookup.proofs.list_plain.Lts as lts
-use Rattle.lookup.proofs.both_fit.Reads as both-fit-reads
-use Rattle.lookup.proofs.list_of.Reads as list-of-reads
 
 both-fit-requires : tie.Need-both-fit-requires
 both-fit-requires c κs = search needs

@@ -3,10 +3,6 @@ use native.Mathlib.Omega.{arith}
 use borrow.Author.Needs.{needs}
 use Rattle.lookup.proofs.list_span.Statement.{statement}
 use Rattle.lookup.proofs.list_span.Tie as tie
-use Rattle.lookup.proofs.list_span.Reads as reads
-use Rattle.lookup.proofs.list_span.Lts as lts
-use Rattle.lookup.proofs.run_span.Reads as run-span-reads
-use Rattle.lookup.proofs.wide.Reads as wide-reads
 
 cast-at : tie.Need-cast-at
 cast-at c = search needs

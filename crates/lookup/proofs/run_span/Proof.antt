@@ -1,10 +1,7 @@
 use Rattle.lookup.specs.LookupLaws.{run-taken, run-over, run-falls}
-use native.Mathlib.Omega.{arith}
 use borrow.Author.Needs.{needs}
 use Rattle.lookup.proofs.run_span.Statement.{statement}
 use Rattle.lookup.proofs.run_span.Tie as tie
-use Rattle.lookup.proofs.run_span.Reads as reads
-use Rattle.lookup.proofs.run_span.Lts as lts
 
 add-if2 : tie.Need-add-if2
 add-if2 c = search needs

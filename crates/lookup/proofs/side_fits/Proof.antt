@@ -1,10 +1,7 @@
 use Rattle.lookup.specs.Lookup.{sized}
-use native.Mathlib.Omega.{arith}
 use borrow.Author.Needs.{needs}
 use Rattle.lookup.proofs.side_fits.Statement.{statement}
 use Rattle.lookup.proofs.side_fits.Tie as tie
-use Rattle.lookup.proofs.side_fits.Reads as reads
-use Rattle.lookup.proofs.side_fits.Lts as lts
 
 add-result : tie.Need-add-result
 add-result c = search needs

@@ -1,21 +1,16 @@
-use mathlib.Core.Path.{refl}
+use mathlib.Core.Path.{refl, _≡_}
 use borrow.Author.Tests.{le-leb, lt-leb}
-use Rattle.base.specs.FirstLaws.{first-more}
-use Rattle.questions.specs.AskLaws.{ask-at}
+use Rattle.base.specs.FirstLaws.{first-more, first-zero}
+use Rattle.questions.specs.AskLaws.{ask-at, ask-pass}
 use Prim.Native.Nat.{_-_, _≤_}
-use mathlib.Core.Path.{_≡_}
 use Rattle.base.specs.First.{first}
-use Rattle.base.specs.FirstLaws.{first-zero, scan-more}
 use Rattle.base.specs.declared.Found.the-variants.{Nothing}
-use Rattle.questions.specs.AskLaws.{ask-stop, ask-pass}
 use lib.ListN.{length}
 use Rattle.matrix.specs.Questions.{badColumn, ask4}
 use borrow.Author.Needs.{needs}
 use native.Mathlib.Omega.{arith}
 use Rattle.questions.proofs.ask_columns.Statement.{statement}
 use Rattle.questions.proofs.ask_columns.Tie as tie
-use Rattle.questions.proofs.ask_columns.Reads as reads
-use Rattle.questions.proofs.ask_columns.Lts as lts
 
 abbrev Inv-loop : tie.InvT-loop
 Inv-loop n columns p₀ p = (p ≤ length columns) × (first (badColumn columns n) p ≡ Nothing)

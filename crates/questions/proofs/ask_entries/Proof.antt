@@ -1,27 +1,18 @@
-use Rattle.questions.specs.AskLaws.{empty-at}
-use mathlib.Core.Path.{refl, sym, ap, _∙_}
+use Rattle.questions.specs.AskLaws.{empty-at, ask-at, ask-pass}
+use mathlib.Core.Path.{ap, _∙_, _≡_}
 use Rattle.base.specs.declared.OwnNumber.{OwnNumber}
 use Rattle.base.specs.declared.Refusal.the-variants.{EmptyRow}
 use Rattle.base.specs.declared.Asked.the-variants.{Stop}
-use Rattle.base.specs.FirstLaws.{first-more}
-use Rattle.matrix.specs.Questions.{noEntry}
-use Rattle.questions.specs.AskLaws.{ask-at}
-use Prim.Native.Nat.{_-_, _≤_}
-use mathlib.Core.Path.{_≡_}
-use Rattle.base.specs.First.{first}
-use Rattle.base.specs.FirstLaws.{first-zero, scan-more}
-use Rattle.base.specs.declared.Found.the-variants.{Nothing}
-use Rattle.questions.specs.AskLaws.{ask-stop, ask-pass}
+use Rattle.base.specs.FirstLaws.{first-more, first-zero}
 use Rattle.matrix.specs.Questions.{emptyRow, ask7}
+use Prim.Native.Nat.{_-_, _≤_}
+use Rattle.base.specs.First.{first}
+use Rattle.base.specs.declared.Found.the-variants.{Nothing}
 use Rattle.matrix.specs.OrderLaws.{order-below}
 use borrow.Author.Needs.{needs}
 use native.Mathlib.Omega.{arith}
 use Rattle.questions.proofs.ask_entries.Statement.{statement}
 use Rattle.questions.proofs.ask_entries.Tie as tie
-use Rattle.questions.proofs.ask_entries.Reads as reads
-use Rattle.questions.proofs.ask_entries.Lts as lts
-use Rattle.questions.proofs.own_row.Reads as own-row-reads
-use Rattle.questions.proofs.row_empty.Reads as row-empty-reads
 
 abbrev Inv-loop : tie.InvT-loop
 Inv-loop n starts r k₀ k = (k ≤ n) × (first (emptyRow starts r) k ≡ Nothing)

@@ -1,22 +1,15 @@
-use mathlib.Core.Path.{refl, sym, ap, _∙_}
+use mathlib.Core.Path.{refl, sym, ap, _∙_, _≡_}
 use mathlib.Core.Bool.{not}
-use Rattle.base.specs.FirstLaws.{first-more}
-use Rattle.questions.specs.AskLaws.{ask-at}
+use Rattle.base.specs.FirstLaws.{first-more, first-zero}
+use Rattle.questions.specs.AskLaws.{ask-at, ask-pass}
 use Prim.Native.Nat.{_-_, _≤_}
-use mathlib.Core.Path.{_≡_}
 use Rattle.base.specs.First.{first}
-use Rattle.base.specs.FirstLaws.{first-zero, scan-more}
 use Rattle.base.specs.declared.Found.the-variants.{Nothing}
-use Rattle.questions.specs.AskLaws.{ask-stop, ask-pass}
 use lib.ListN.{length}
 use Rattle.matrix.specs.Questions.{notFinite, askFinite}
 use borrow.Author.Needs.{needs}
-use native.Mathlib.Omega.{arith}
 use Rattle.questions.proofs.ask_finite.Statement.{statement}
 use Rattle.questions.proofs.ask_finite.Tie as tie
-use Rattle.questions.proofs.ask_finite.Reads as reads
-use Rattle.questions.proofs.ask_finite.Lts as lts
-use Rattle.base.proofs.is_finite.Reads as is-finite-reads
 
 abbrev Inv-loop : tie.InvT-loop
 Inv-loop v from p₀ p = (p ≤ length v) × (first (notFinite v) p ≡ Nothing)

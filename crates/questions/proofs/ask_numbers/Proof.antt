@@ -1,12 +1,8 @@
 use Rattle.matrix.specs.Questions.{ask6}
 use Rattle.questions.specs.AskLaws.{then-stop, then-pass}
-use native.Mathlib.Omega.{arith}
 use borrow.Author.Needs.{needs}
 use Rattle.questions.proofs.ask_numbers.Statement.{statement}
 use Rattle.questions.proofs.ask_numbers.Tie as tie
-use Rattle.questions.proofs.ask_numbers.Reads as reads
-use Rattle.questions.proofs.ask_numbers.Lts as lts
-use Rattle.questions.proofs.ask_finite.Reads as ask-finite-reads
 
 ask-finite-requires : tie.Need-ask-finite-requires
 ask-finite-requires c κs = search needs

@@ -4,10 +4,6 @@ use native.Mathlib.Omega.{arith}
 use borrow.Author.Needs.{needs}
 use Rattle.questions.proofs.ask_order.Statement.{statement}
 use Rattle.questions.proofs.ask_order.Tie as tie
-use Rattle.questions.proofs.ask_order.Reads as reads
-use Rattle.questions.proofs.ask_order.Lts as lts
-use Rattle.base.proofs.clear_u32.Reads as clear-u32-reads
-use Rattle.questions.proofs.first_fault.Reads as first-fault-reads
 
 clear-u32-requires : tie.Need-clear-u32-requires
 clear-u32-requires c κs = search needs

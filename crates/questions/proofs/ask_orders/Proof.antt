@@ -1,11 +1,7 @@
 use Rattle.questions.specs.AskLaws.{orders-stop, orders-pass}
-use native.Mathlib.Omega.{arith}
 use borrow.Author.Needs.{needs}
 use Rattle.questions.proofs.ask_orders.Statement.{statement}
 use Rattle.questions.proofs.ask_orders.Tie as tie
-use Rattle.questions.proofs.ask_orders.Reads as reads
-use Rattle.questions.proofs.ask_orders.Lts as lts
-use Rattle.questions.proofs.ask_order.Reads as ask-order-reads
 
 ask-order-requires : tie.Need-ask-order-requires
 ask-order-requires c κs = search needs

@@ -1,14 +1,8 @@
 use Rattle.matrix.specs.Questions.{askPattern}
 use Rattle.questions.specs.AskLaws.{then-stop, then-pass}
-use native.Mathlib.Omega.{arith}
 use borrow.Author.Needs.{needs}
 use Rattle.questions.proofs.ask_pattern.Statement.{statement}
 use Rattle.questions.proofs.ask_pattern.Tie as tie
-use Rattle.questions.proofs.ask_pattern.Reads as reads
-use Rattle.questions.proofs.ask_pattern.Lts as lts
-use Rattle.questions.proofs.ask_columns.Reads as ask-columns-reads
-use Rattle.questions.proofs.ask_orders.Reads as ask-orders-reads
-use Rattle.questions.proofs.ask_starts.Reads as ask-starts-reads
 
 ask-starts-requires : tie.Need-ask-starts-requires
 ask-starts-requires c κs = search needs

@@ -16,11 +16,6 @@ use borrow.Author.Needs.{needs}
 use native.Mathlib.Omega.{arith}
 use Rattle.questions.proofs.ask_repeats.Statement.{statement}
 use Rattle.questions.proofs.ask_repeats.Tie as tie
-use Rattle.questions.proofs.ask_repeats.Reads as reads
-use Rattle.questions.proofs.ask_repeats.Lts as lts
-use Rattle.base.proofs.clear_u32.Reads as clear-u32-reads
-use Rattle.questions.proofs.own_row.Reads as own-row-reads
-use Rattle.questions.proofs.row_repeats.Reads as row-repeats-reads
 
 abbrev Inv-loop : tie.InvT-loop
 Inv-loop n starts columns r marks₀ k₀ marks k =

@@ -1,13 +1,8 @@
 use Rattle.matrix.specs.Questions.{askRight}
 use Rattle.questions.specs.AskLaws.{then-stop, then-pass}
-use native.Mathlib.Omega.{arith}
 use borrow.Author.Needs.{needs}
 use Rattle.questions.proofs.ask_right.Statement.{statement}
 use Rattle.questions.proofs.ask_right.Tie as tie
-use Rattle.questions.proofs.ask_right.Reads as reads
-use Rattle.questions.proofs.ask_right.Lts as lts
-use Rattle.questions.proofs.ask_finite.Reads as ask-finite-reads
-use Rattle.questions.proofs.ask_orders.Reads as ask-orders-reads
 
 ask-orders-requires : tie.Need-ask-orders-requires
 ask-orders-requires c κs = search needs

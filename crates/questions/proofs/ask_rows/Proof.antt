@@ -1,13 +1,8 @@
 use Rattle.matrix.specs.Questions.{askRows}
 use Rattle.questions.specs.AskLaws.{then-stop, then-pass}
-use native.Mathlib.Omega.{arith}
 use borrow.Author.Needs.{needs}
 use Rattle.questions.proofs.ask_rows.Statement.{statement}
 use Rattle.questions.proofs.ask_rows.Tie as tie
-use Rattle.questions.proofs.ask_rows.Reads as reads
-use Rattle.questions.proofs.ask_rows.Lts as lts
-use Rattle.questions.proofs.ask_entries.Reads as ask-entries-reads
-use Rattle.questions.proofs.ask_repeats.Reads as ask-repeats-reads
 
 ask-entries-requires : tie.Need-ask-entries-requires
 ask-entries-requires c κs = search needs

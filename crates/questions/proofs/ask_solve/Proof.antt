@@ -5,11 +5,6 @@ use native.Mathlib.Omega.{arith}
 use borrow.Author.Needs.{needs}
 use Rattle.questions.proofs.ask_solve.Statement.{statement}
 use Rattle.questions.proofs.ask_solve.Tie as tie
-use Rattle.questions.proofs.ask_solve.Reads as reads
-use Rattle.questions.proofs.ask_solve.Lts as lts
-use Rattle.questions.proofs.ask_numbers.Reads as ask-numbers-reads
-use Rattle.questions.proofs.ask_pattern.Reads as ask-pattern-reads
-use Rattle.questions.proofs.ask_rows.Reads as ask-rows-reads
 
 ask-pattern-requires : tie.Need-ask-pattern-requires
 ask-pattern-requires c κs = search needs

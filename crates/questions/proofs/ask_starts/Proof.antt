@@ -6,12 +6,8 @@ use Rattle.base.specs.declared.Found.the-variants.{Nothing}
 use Rattle.questions.specs.AskLaws.{ask-stop, ask-pass}
 use Rattle.matrix.specs.Questions.{badStart, ask3}
 use borrow.Author.Needs.{needs}
-use native.Mathlib.Omega.{arith}
 use Rattle.questions.proofs.ask_starts.Statement.{statement}
 use Rattle.questions.proofs.ask_starts.Tie as tie
-use Rattle.questions.proofs.ask_starts.Reads as reads
-use Rattle.questions.proofs.ask_starts.Lts as lts
-use Rattle.questions.proofs.start_bad.Reads as start-bad-reads
 
 abbrev Inv-loop : tie.InvT-loop
 Inv-loop n e starts i₀ i = (i ≤ n) × (first (badStart starts n e) i ≡ Nothing)

@@ -5,10 +5,6 @@ use native.Mathlib.Omega.{arith}
 use borrow.Author.Needs.{needs}
 use Rattle.questions.proofs.ask_structure.Statement.{statement}
 use Rattle.questions.proofs.ask_structure.Tie as tie
-use Rattle.questions.proofs.ask_structure.Reads as reads
-use Rattle.questions.proofs.ask_structure.Lts as lts
-use Rattle.questions.proofs.ask_pattern.Reads as ask-pattern-reads
-use Rattle.questions.proofs.ask_rows.Reads as ask-rows-reads
 
 ask-pattern-requires : tie.Need-ask-pattern-requires
 ask-pattern-requires c κs = search needs

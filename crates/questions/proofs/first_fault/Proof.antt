@@ -1,16 +1,12 @@
-use Rattle.questions.specs.StampLaws.{index-out, stamping-met}
+use Rattle.questions.specs.StampLaws.{index-out, stamping-met, Stamping, stamping-none, stamping-seen, stamping-more}
 use Prim.Native.Nat.{_-_}
 use mathlib.Core.Path.{sym, _∙_}
 use lib.ListN.{length}
 use Rattle.base.specs.FirstLaws.{first-at, first-end}
-use Rattle.questions.specs.StampLaws.{Stamping, stamping-none, index-out, stamping-seen, stamping-more}
 use borrow.Author.Needs.{needs}
 use native.Mathlib.Omega.{arith}
 use Rattle.questions.proofs.first_fault.Statement.{statement}
 use Rattle.questions.proofs.first_fault.Tie as tie
-use Rattle.questions.proofs.first_fault.Reads as reads
-use Rattle.questions.proofs.first_fault.Lts as lts
-use Rattle.questions.proofs.stamp_slot.Reads as stamp-slot-reads
 
 abbrev Inv-loop : tie.InvT-loop
 Inv-loop n list stamp marks₀ p₀ marks p = Stamping n list stamp marks₀ marks p

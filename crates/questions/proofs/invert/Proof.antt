@@ -7,8 +7,6 @@ use borrow.Author.Needs.{needs}
 use native.Mathlib.Omega.{arith}
 use Rattle.questions.proofs.invert.Statement.{statement}
 use Rattle.questions.proofs.invert.Tie as tie
-use Rattle.questions.proofs.invert.Reads as reads
-use Rattle.questions.proofs.invert.Lts as lts
 
 abbrev Inv-loop : tie.InvT-loop
 Inv-loop n order inverse₀ k₀ inverse k = Scattered order n (λ (i : ℕ). i) 0 inverse₀ inverse k

@@ -1,11 +1,7 @@
 use Rattle.questions.specs.ScatterLaws.{inverted-back}
-use native.Mathlib.Omega.{arith}
 use borrow.Author.Needs.{needs}
 use Rattle.questions.proofs.invert_at.Statement.{statement}
 use Rattle.questions.proofs.invert_at.Tie as tie
-use Rattle.questions.proofs.invert_at.Reads as reads
-use Rattle.questions.proofs.invert_at.Lts as lts
-use Rattle.questions.proofs.invert.Reads as invert-reads
 
 mul-invert : tie.Need-mul-invert
 mul-invert c = search needs

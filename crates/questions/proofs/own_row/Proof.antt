@@ -2,8 +2,6 @@ use native.Mathlib.Omega.{arith}
 use borrow.Author.Needs.{needs}
 use Rattle.questions.proofs.own_row.Statement.{statement}
 use Rattle.questions.proofs.own_row.Tie as tie
-use Rattle.questions.proofs.own_row.Reads as reads
-use Rattle.questions.proofs.own_row.Lts as lts
 
 cast-at : tie.Need-cast-at
 cast-at c = search needs

@@ -1,10 +1,7 @@
 use Rattle.matrix.specs.Questions.{noEntry}
-use native.Mathlib.Omega.{arith}
 use borrow.Author.Needs.{needs}
 use Rattle.questions.proofs.row_empty.Statement.{statement}
 use Rattle.questions.proofs.row_empty.Tie as tie
-use Rattle.questions.proofs.row_empty.Reads as reads
-use Rattle.questions.proofs.row_empty.Lts as lts
 
 cast-at : tie.Need-cast-at
 cast-at c = search needs

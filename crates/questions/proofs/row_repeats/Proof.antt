@@ -2,14 +2,9 @@ use mathlib.Core.Path.{_∙_}
 use Rattle.base.specs.Lists.{listAt}
 use Rattle.questions.specs.StampLaws.{repeats-is}
 use Rattle.questions.specs.SettledLaws.{row-under}
-use native.Mathlib.Omega.{arith}
 use borrow.Author.Needs.{needs}
 use Rattle.questions.proofs.row_repeats.Statement.{statement}
 use Rattle.questions.proofs.row_repeats.Tie as tie
-use Rattle.questions.proofs.row_repeats.Reads as reads
-use Rattle.questions.proofs.row_repeats.Lts as lts
-use Rattle.questions.proofs.first_fault.Reads as first-fault-reads
-use Rattle.questions.proofs.found.Reads as found-reads
 
 cast-at : tie.Need-cast-at
 cast-at c = search needs

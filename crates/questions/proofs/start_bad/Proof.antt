@@ -4,8 +4,6 @@ use native.Mathlib.Omega.{arith}
 use borrow.Author.Needs.{needs}
 use Rattle.questions.proofs.start_bad.Statement.{statement}
 use Rattle.questions.proofs.start_bad.Tie as tie
-use Rattle.questions.proofs.start_bad.Reads as reads
-use Rattle.questions.proofs.start_bad.Lts as lts
 
 cast-at : tie.Need-cast-at
 cast-at c = search needs

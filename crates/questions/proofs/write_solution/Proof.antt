@@ -9,8 +9,6 @@ use borrow.Author.Needs.{needs}
 use native.Mathlib.Omega.{arith}
 use Rattle.questions.proofs.write_solution.Statement.{statement}
 use Rattle.questions.proofs.write_solution.Tie as tie
-use Rattle.questions.proofs.write_solution.Reads as reads
-use Rattle.questions.proofs.write_solution.Lts as lts
 
 abbrev Inv-loop : tie.InvT-loop
 Inv-loop n c z x₀ k₀ x k = Scattered c n (λ (i : ℕ). getD z i nan) nan x₀ x k
