@@ -52,7 +52,8 @@ module _ (t : ℕ) (f : ℕ → List ℕ → List ℕ) where
   pub turn-start : (n k : ℕ) (s : List ℕ) (r : ℕ) → Blocks n t s → Next t s 0 k r → Turn n k s s r
   turn-start n k s r b x = record { size = refl; hit = x .hit; blocks = b; left = sym (visited-next s 0 k r x) ∙ rw sub-zero }
 
-  pub turn-more : (n k : ℕ) (s₀ s u : List ℕ) (i r : ℕ) → i < k → Turn n k s₀ s i → length u ≡ length s → u ≡ f i s → Blocks n t u → Next t u (i + 1) k r → Turn n k s₀ u r
+  pub turn-more : (n k : ℕ) (s₀ s u : List ℕ) (i r : ℕ) → i < k → Turn n k s₀ s i
+      → length u ≡ length s → u ≡ f i s → Blocks n t u → Next t u (i + 1) k r → Turn n k s₀ u r
   turn-more n k s₀ s u i r l h e eu b x = record { size = e ∙ h .size; hit = x .hit; blocks = b; left = visited-turn s u i k r l (h .hit l) eu x ∙ h .left }
 
   pub turn-end : (n k : ℕ) (s₀ s : List ℕ) (i : ℕ) → k ≤ i → Turn n k s₀ s i → s ≡ visited t f 0 k s₀

@@ -53,7 +53,8 @@ pub record Listed (P : Pattern) (n k at : ℕ) (s₀ s : List ℕ) (below above 
 -- T(k) is in the store and the cuts are those of place k + 1: any later stamp may be next
 pub record Renewed (n t k cuts : ℕ) (index runs starts s₀ s : List ℕ) : Type 0 where
   pub kept : But cuts (cuts + k + 1) s₀ s
-  pub held : (P : Pattern) → Holds n t s₀ (filled P k) → Stored P n (k + 1) index runs starts → Cuts P n k cuts s₀ → (later : ℕ) → t < later → Held P n (k + 1) later cuts s index runs starts
+  pub held : (P : Pattern) → Holds n t s₀ (filled P k) → Stored P n (k + 1) index runs starts → Cuts P n k cuts s₀
+      → (later : ℕ) → t < later → Held P n (k + 1) later cuts s index runs starts
 
 -- the products of row k: for each i of lower row k, the length of T(i)
 unfoldable pub rowSteps : Pattern → ℕ → ℕ → ℕ

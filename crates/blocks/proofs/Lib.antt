@@ -1,0 +1,4 @@
+pub mod AskLaws
+pub mod CheckLaws
+pub mod SealLaws
+pub mod FileLaws

@@ -1,0 +1,5 @@
+pub mod NumberLaws
+pub mod FloatLaws
+pub mod PutLaws
+pub mod PartLaws
+pub mod ZeroLaws

@@ -1,0 +1,21 @@
+use borrow.Author.Needs.{needs}
+use mathlib.Core.Path.{refl, sym, ap, _∙_}
+use lib.Ieee.{div, ofBits}
+use Rattle.fields.proofs.FloatLaws.{above-nan, not-above}
+use Rattle.fields.proofs.float_of.Statement.{statement}
+use Rattle.fields.proofs.float_of.Tie as tie
+use Rattle.fields.proofs.float_of.Reads as reads
+use Rattle.fields.proofs.float_of.Lts as lts
+
+float-from-bits-result : tie.Need-float-from-bits-result
+float-from-bits-result c = rw (not-above _ (c .if1 .left)) tt
+
+returns : tie.Need-returns
+unfolding div ofBits
+returns c = sym (above-nan _ (c .if1 .taken))
+
+returns-2 : tie.Need-returns-2
+returns-2 c = search needs
+
+pub float-of-spec : {M : Type 1} → statement M
+float-of-spec = tie.close (tie.spec float-from-bits-result returns returns-2)

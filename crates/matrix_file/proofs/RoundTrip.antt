@@ -1,0 +1,311 @@
+-- What is written is read, what is read is written: the three theorems of the matrix file.
+use mathlib.Core.Path.{_≡_, refl, sym, ap, ap₂, _∙_}
+use mathlib.Core.Logic.{_↔_}
+use mathlib.Core.Bool.{Bool, true, false, not}
+use mathlib.Core.List.{List, [], _∷_, _++_, map}
+use Prim.Native.Nat.{ℕ, zero, suc, _+_, _-_, _*_, _/_, _^_, _<_, _≤_}
+use native.Mathlib.Omega.{arith}
+use native.Mathlib.Nat.{not-suc-le-zero}
+use borrow.Author.Tests.{le-leb, eq-eqb}
+use lib.Dec.{T, leb}
+use lib.ListN.{length, getD, drop, length-map}
+use lib.Seq.{ext-getD}
+use lib.Ieee.{Float, nan, binary64, ofBits, toBits, nanBits, fits}
+use lib.Ieee.Bits.{ofBits-toBits, toBits-lt, toBits-ofBits, nanBits-is, ofBits-fits}
+use Rattle.base.specs.Lists.{table}
+use Rattle.base.specs.TableLaws.{getD-table, length-table, getD-map-lt}
+use Rattle.base.specs.Tests.{by-test}
+use Rattle.base.specs.Answers.{holds, andThen}
+use Rattle.base.specs.declared.Asked.the-variants.{Pass}
+use Rattle.base.specs.declared.Ended.the-variants.{Complete}
+use Rattle.matrix.specs.Limits.{maxRows, maxEntries}
+use Rattle.matrix.specs.Input.{Input, inputOf}
+use Rattle.matrix.specs.declared.Matrix.{Matrix}
+use Rattle.matrix.specs.declared.Shaped.the-variants.{Shape}
+use Rattle.fields.specs.Numbers.{le, Part, part, stream, Span, span, spansOf, extent}
+use Rattle.fields.specs.Payload.{payload, payloads, fieldAt, fieldsAt, floatsAt, bitsOf, quiet, partsAt}
+use Rattle.fields.proofs.FloatLaws.{nan-from, toBits-nan}
+use Rattle.fields.proofs.PartLaws.{Fits, parts-back, stream-of-parts, length-stream, length-fieldsAt, fields-fit}
+use Rattle.blocks.specs.Blocks.{blocksFor, fileOf}
+use Rattle.blocks.proofs.FileLaws.{payload-fileOf, fileOf-asked, fileOf-ends, asked-whole, file-back}
+use Rattle.matrix_file.specs.MatrixFile.{partsOf, written, Lists, listsIn, listsRight, left, askRead, readOutcome, sizeOf, fileLength, nOf, eOf, shapeIn, listsAt, listsFor, withRows, matrixAt, askHead, askFile, shaped, opened, askLengths, askWrite}
+use Rattle.matrix_file.proofs.CallLaws.{Long, n-range, e-most, written-long, Fitting, fitting, opened-pass}
+
+-- ---- the words of the theorems
+
+-- every float of a list is a binary64 number, or the NaN
+abbrev pub Binary64 : List Float → Type 0
+Binary64 [] = Unit {0}
+Binary64 (x ∷ xs) = T (fits binary64 x) × Binary64 xs
+
+-- the numbers of a matrix as its lists' types hold them: starts of 32 bits, columns and orders of 16, binary64 values
+pub record Widths (i : Input) : Type 0 where
+  pub starts-fit : Fits 4 (i .starts)
+  pub columns-fit : Fits 2 (i .columns)
+  pub values-fit : Binary64 (i .values)
+  pub r-fit : Fits 2 (i .r)
+  pub c-fit : Fits 2 (i .c)
+  pub b-fit : Binary64 (i .b)
+
+-- the numbers of a file are bytes
+abbrev pub Bytes : List ℕ → Type 0
+Bytes file = (i : ℕ) → getD file i 0 < 256
+
+-- every NaN among n words of 8 bytes from at on has the pattern that a NaN is written as
+abbrev pub QuietAt : List ℕ → ℕ → ℕ → Type 0
+QuietAt file at n = (k : ℕ) → k < n → nanBits binary64 (fieldAt 8 file at k) ≡ true → fieldAt 8 file at k ≡ quiet
+
+-- where values and b stand
+abbrev valuesAt : ℕ → ℕ → ℕ
+valuesAt n e = 8 + 4 * (n + 1) + 2 * e
+
+abbrev bAt : ℕ → ℕ → ℕ
+bAt n e = valuesAt n e + 8 * e + 2 * n + 2 * n
+
+pub record QuietNaNs (file : List ℕ) : Type 0 where
+  pub values-quiet : QuietAt file (valuesAt (nOf file) (eOf file)) (eOf file)
+  pub b-quiet : QuietAt file (bAt (nOf file) (eOf file)) (nOf file)
+
+abbrev pub shapeOf : Input → Matrix
+shapeOf i = record { rows = i .n; entries = length (i .columns) }
+
+-- ---- floats and their bits
+
+of-bits : (xs : List Float) → Binary64 xs → map (ofBits binary64) (bitsOf xs) ≡ xs
+of-bits [] a = refl
+of-bits (x ∷ xs) a = rw (ofBits-toBits binary64 x (a .0), of-bits xs (a .1))
+
+bits-small : (xs : List Float) → Binary64 xs → (k : ℕ) → getD (bitsOf xs) k 0 < 256 ^ 8
+bits-small [] a k = omega arith
+bits-small (x ∷ xs) a zero = omega (arith, toBits-lt binary64 x (a .0))
+bits-small (x ∷ xs) a (suc k) = bits-small xs (a .1) k
+
+floats-fit : (ws : List ℕ) → Binary64 (map (ofBits binary64) ws)
+floats-fit [] = tt
+floats-fit (w ∷ ws) = (ofBits-fits binary64 w, floats-fit ws)
+
+-- a word comes back exactly if it is no NaN's or the quiet one
+abbrev Exact : ℕ → Type 0
+Exact w = toBits binary64 (ofBits binary64 w) ≡ w
+
+exact-from : (w : ℕ) → w < 256 ^ 8 → (nanBits binary64 w ≡ true → w ≡ quiet) → Exact w
+exact-from w l q =
+    by-test (nanBits binary64 w)
+    (λ t. ap (toBits binary64) (nan-from (ofBits binary64 w) (sym (nanBits-is binary64 w) ∙ t)) ∙ (toBits-nan ∙ sym (q t)))
+    (λ f. toBits-ofBits binary64 w (omega arith) (rw (sym (nanBits-is binary64 w) ∙ f) tt))
+
+quiet-from : (w : ℕ) → Exact w → nanBits binary64 w ≡ true → w ≡ quiet
+quiet-from w x t = sym x ∙ (ap (toBits binary64) (nan-from (ofBits binary64 w) (sym (nanBits-is binary64 w) ∙ t)) ∙ toBits-nan)
+
+-- ---- the layout: parts one after another from the first payload byte
+
+abbrev spans : ℕ → ℕ → List Span
+spans n e = span 4 2 ∷ span 4 (n + 1) ∷ span 2 e ∷ span 8 e ∷ span 2 n ∷ span 2 n ∷ span 8 n ∷ []
+
+extent-spans : (n e : ℕ) → extent (spans n e) ≡ sizeOf n e
+unfolding extent
+extent-spans n e = omega arith
+
+-- the numbers of part k
+numbersOf : List Part → ℕ → List ℕ
+numbersOf [] k = []
+numbersOf (p ∷ ps) zero = p .numbers
+numbersOf (p ∷ ps) (suc k) = numbersOf ps k
+
+-- ---- a matrix that is written
+
+module _ (i : Input) (w : Widths i) (len : ℕ) (p : askWrite i len ≡ Pass) where
+  abbrev n : ℕ
+  n = i .n
+
+  abbrev e : ℕ
+  e = length (i .columns)
+
+  abbrev s : List ℕ
+  s = stream (partsOf i)
+
+  spans-are : spansOf (partsOf i) ≡ spans n e
+  spans-are =
+      let g = written-long i len p in
+      rw (g .starts-long, length-map, g .values-long, g .r-long, g .c-long, length-map, g .b-long)
+
+  length-s : length s ≡ sizeOf n e
+  length-s = length-stream (partsOf i) ∙ (ap extent spans-are ∙ extent-spans n e)
+
+  few : blocksFor (length s) ≤ 2 ^ 32
+  few = let a = n-range i len p in let b = e-most i len p in rw length-s (omega arith)
+
+  some : 0 < length s
+  some = rw length-s (omega arith)
+
+  head-fits : Fits 4 (n ∷ e ∷ [])
+  head-fits zero l = omega (arith, n-range i len p .1)
+  head-fits (suc zero) l = omega (arith, e-most i len p)
+  head-fits (suc (suc k)) l = absurd (omega arith)
+
+  parts-are : partsAt (written i) 0 (spans n e) ≡ partsOf i
+  unfolding written
+  parts-are =
+      rw (← spans-are) (parts-back (fileOf s) 0 (partsOf i)
+      (head-fits, (w .starts-fit, (w .columns-fit, ((λ k l. bits-small (i .values) (w .values-fit) k), (w .r-fit, (w .c-fit, ((λ k l. bits-small (i .b) (w .b-fit) k), tt)))))))
+      (λ j l. ap (payload (fileOf s)) (omega arith) ∙ payload-fileOf s j (omega arith)))
+
+  -- part k of the file is part k of the matrix
+  part-is : (k : ℕ) → numbersOf (partsAt (written i) 0 (spans n e)) k ≡ numbersOf (partsOf i) k
+  part-is k = ap (λ (ps : List Part). numbersOf ps k) parts-are
+
+  n-is : nOf (written i) ≡ n
+  unfolding partsAt fieldsAt table numbersOf
+  n-is = ap (λ (xs : List ℕ). getD xs 0 0) (part-is 0)
+
+  e-is : eOf (written i) ≡ e
+  unfolding partsAt fieldsAt table numbersOf
+  e-is = ap (λ (xs : List ℕ). getD xs 1 0) (part-is 0)
+
+  values-are : floatsAt (written i) (valuesAt n e) e ≡ i .values
+  unfolding partsAt floatsAt numbersOf
+  values-are = ap (map (ofBits binary64)) (part-is 3) ∙ of-bits (i .values) (w .values-fit)
+
+  b-is : floatsAt (written i) (bAt n e) n ≡ i .b
+  unfolding partsAt floatsAt numbersOf
+  b-is = ap (map (ofBits binary64)) (part-is 6) ∙ of-bits (i .b) (w .b-fit)
+
+  lists-are : withRows n (listsFor (written i) n e) ≡ i
+  unfolding partsAt listsAt numbersOf
+  lists-are = λ t. inputOf n (part-is 1 t) (part-is 2 t) (values-are t) (part-is 4 t) (part-is 5 t) (b-is t)
+
+  written-asked : askFile (written i) ≡ Pass
+  unfolding written askFile askHead
+  written-asked =
+      let r = n-range i len p in
+      let ends = fileOf-ends s in
+      rw (fileOf-asked s some few, n-is, e-is, le-leb 1 n (r .0), le-leb n maxRows (r .1), le-leb e maxEntries (e-most i len p), rw length-s at ends)
+
+-- ---- a matrix that is read
+
+-- words that come back from floats, and when they do
+exact-list : (ws : List ℕ) → ((k : ℕ) → k < length ws → Exact (getD ws k 0)) → bitsOf (map (ofBits binary64) ws) ≡ ws
+exact-list [] h = refl
+exact-list (w ∷ ws) h = ap₂ (λ (x : ℕ) (xs : List ℕ). x ∷ xs) (h 0 (omega arith)) (exact-list ws (λ k l. h (suc k) (omega arith)))
+
+exact-each : (ws : List ℕ) → bitsOf (map (ofBits binary64) ws) ≡ ws → (k : ℕ) → k < length ws → Exact (getD ws k 0)
+exact-each [] e k l = absurd (not-suc-le-zero l)
+exact-each (w ∷ ws) e zero l = ap (λ (xs : List ℕ). getD xs 0 0) e
+exact-each (w ∷ ws) e (suc k) l = exact-each ws (ap (drop 1) e) k (omega arith)
+
+field-is : (file : List ℕ) (at c k : ℕ) → k < c → getD (fieldsAt 8 file at c) k 0 ≡ fieldAt 8 file at k
+unfolding fieldsAt
+field-is file at c k l = getD-table (fieldAt 8 file at) c 0 k l
+
+module _ (file : List ℕ) (small : Bytes file) where
+  quiet-words : (at c : ℕ) → QuietAt file at c → bitsOf (floatsAt file at c) ≡ fieldsAt 8 file at c
+  unfolding floatsAt
+  quiet-words at c q = exact-list (fieldsAt 8 file at c) (λ k l.
+      let l′ : k < c = rw length-fieldsAt at l in
+      exact-from (getD (fieldsAt 8 file at c) k 0) (fields-fit file small 8 at c k l) (rw (field-is file at c k l′) (q k l′)))
+
+  words-quiet : (at c : ℕ) → bitsOf (floatsAt file at c) ≡ fieldsAt 8 file at c → QuietAt file at c
+  unfolding floatsAt
+  words-quiet at c e k l t =
+      rw (field-is file at c k l) at (quiet-from (getD (fieldsAt 8 file at c) k 0) (exact-each (fieldsAt 8 file at c) e k (rw length-fieldsAt l)) (rw (field-is file at c k l) t))
+
+  module _ (a : askFile file ≡ Pass) where
+    abbrev held : Input
+    held = matrixAt file
+
+    held-widths : Widths held
+    unfolding matrixAt listsAt floatsAt
+    held-widths = record {
+      starts-fit = fields-fit file small 4 _ _;
+      columns-fit = fields-fit file small 2 _ _;
+      values-fit = floats-fit (fieldsAt 8 file (valuesAt (nOf file) (eOf file)) (eOf file));
+      r-fit = fields-fit file small 2 _ _;
+      c-fit = fields-fit file small 2 _ _;
+      b-fit = floats-fit (fieldsAt 8 file (bAt (nOf file) (eOf file)) (nOf file));
+    }
+
+    e-held : length (held .columns) ≡ eOf file
+    unfolding matrixAt listsAt
+    e-held = length-fieldsAt 2 file _ (eOf file)
+
+    shape-held : Shape (shapeOf held) ≡ Shape (shapeIn file)
+    unfolding matrixAt
+    shape-held = ap (λ (k : ℕ). Shape (record { rows = nOf file; entries = k })) e-held
+
+    held-asked : askWrite held (length file) ≡ Pass
+    unfolding matrixAt listsAt floatsAt askWrite askLengths
+    held-asked =
+        let f = fitting file a in
+        let u = asked-whole file (f .asked) in
+        simp (length-fieldsAt, length-map)
+        (rw (
+          le-leb 1 (nOf file) (f .n-some),
+          le-leb (nOf file) maxRows (f .n-most),
+          le-leb (eOf file) maxEntries (f .e-most),
+          eq-eqb (nOf file + 1) (nOf file + 1) refl,
+          eq-eqb (eOf file) (eOf file) refl,
+          eq-eqb (nOf file) (nOf file) refl,
+          eq-eqb (length file) (fileLength (nOf file) (eOf file)) (omega arith),
+        ))
+
+    head-is : nOf file ∷ eOf file ∷ [] ≡ fieldsAt 4 file 0 2
+    unfolding fieldsAt table
+    head-is = refl
+
+    held-parts : QuietNaNs file → partsOf held ≡ partsAt file 0 (spans (nOf file) (eOf file))
+    unfolding matrixAt listsAt partsAt
+    held-parts q =
+        rw (
+          length-fieldsAt 2 file (8 + 4 * (nOf file + 1)) (eOf file),
+          head-is,
+          quiet-words (valuesAt (nOf file) (eOf file)) (eOf file) (q .values-quiet),
+          quiet-words (bAt (nOf file) (eOf file)) (nOf file) (q .b-quiet),
+        )
+
+    held-written : QuietNaNs file → written held ≡ file
+    unfolding written
+    held-written q =
+        let f = fitting file a in
+        rw (held-parts q, stream-of-parts file small (spans (nOf file) (eOf file)), extent-spans (nOf file) (eOf file))
+        (file-back file (sizeOf (nOf file) (eOf file)) small (f .asked) (f .ends))
+
+    -- the words of what is written are those of the file
+    module _ (same : written held ≡ file) where
+      part-held : (k : ℕ) → numbersOf (partsAt file 0 (spans (nOf file) (eOf file))) k ≡ numbersOf (partsOf held) k
+      unfolding matrixAt
+      part-held k =
+          sym (ap₂ (λ (f : List ℕ) (e : ℕ). numbersOf (partsAt f 0 (spans (nOf file) e)) k) same e-held) ∙ part-is held held-widths (length file) held-asked k
+
+      quiet-held : QuietNaNs file
+      unfolding matrixAt listsAt partsAt numbersOf
+      quiet-held = record {
+        values-quiet = words-quiet (valuesAt (nOf file) (eOf file)) (eOf file) (sym (part-held 3));
+        b-quiet = words-quiet (bAt (nOf file) (eOf file)) (nOf file) (sym (part-held 6));
+      }
+
+-- ---- the theorems
+
+-- A matrix that passes the writer's questions is written to a file that opens to its shape and holds it.
+pub written-read : (i : Input) → Widths i → (len : ℕ) → askWrite i len ≡ Pass → (opened (written i) ≡ Shape (shapeOf i)) × (matrixAt (written i) ≡ i)
+unfolding opened matrixAt
+written-read i w len p = (rw (written-asked i w len p, n-is i w len p, e-is i w len p), rw (n-is i w len p, e-is i w len p) (lists-are i w len p))
+
+-- The same of the calls: what was written is read into lists of the right lengths, whatever these held.
+pub written-read-call : (i : Input) (l : Lists) → Widths i → (len : ℕ) → askWrite i len ≡ Pass → listsRight (i .n) (length (i .columns)) l ≡ true
+    → readOutcome (written i) l ≡ left Complete (listsIn i)
+unfolding readOutcome askRead
+written-read-call i l w len p right =
+    rw (written-asked i w len p, n-is i w len p, e-is i w len p, right) (ap (λ (m : Input). left Complete (listsIn m)) (written-read i w len p .1))
+
+-- A file that opens is what its matrix is written as exactly if each of its NaNs has the pattern of a written one.
+pub file-written : (file : List ℕ) → Bytes file → (m : Matrix) → opened file ≡ Shape m → (written (matrixAt file) ≡ file) ↔ QuietNaNs file
+file-written file small m o =
+    let a = opened-pass file m (sym o) .0 in (quiet-held file small a, held-written file small a)
+
+-- A file that opens, read and written, opens to the same shape and holds the same matrix, whatever its NaNs.
+pub read-again : (file : List ℕ) → Bytes file → (m : Matrix) → opened file ≡ Shape m
+    → (opened (written (matrixAt file)) ≡ Shape m) × (matrixAt (written (matrixAt file)) ≡ matrixAt file)
+read-again file small m o =
+    let a = opened-pass file m (sym o) in
+    let again = written-read (matrixAt file) (held-widths file small (a .0)) (length file) (held-asked file small (a .0)) in
+    (again .0 ∙ (shape-held file small (a .0) ∙ ap Shape (sym (a .1))), again .1)

@@ -1,0 +1,50 @@
+use Rattle.matrix_file.proofs.CallLaws.{laid-matrix, none-laid}
+use native.Mathlib.Omega.{arith}
+use borrow.Author.Needs.{needs}
+use Rattle.matrix_file.proofs.lay_matrix.Statement.{statement}
+use Rattle.matrix_file.proofs.lay_matrix.Tie as tie
+use Rattle.matrix_file.proofs.lay_matrix.Reads as reads
+use Rattle.matrix_file.proofs.lay_matrix.Lts as lts
+use Rattle.fields.proofs.put_number.Reads as put-number-reads
+use Rattle.fields.proofs.write_f64s.Reads as write-f64s-reads
+use Rattle.fields.proofs.write_u16s.Reads as write-u16s-reads
+use Rattle.fields.proofs.write_u32s.Reads as write-u32s-reads
+
+put-number-requires : tie.Need-put-number-requires
+put-number-requires c κs = search needs
+
+put-number-requires-2 : tie.Need-put-number-requires-2
+put-number-requires-2 c κs = search needs
+
+write-u32s-requires : tie.Need-write-u32s-requires
+write-u32s-requires c κs = search needs
+
+write-u16s-requires : tie.Need-write-u16s-requires
+write-u16s-requires c κs = search needs
+
+write-f64s-requires : tie.Need-write-f64s-requires
+write-f64s-requires c κs = search needs
+
+same-length : tie.Need-same-length
+same-length c = search needs
+
+returns : tie.Need-returns
+returns c =
+    let n = c .before .before .before .before .before .before .before .before .before .before .before .before .before .before .before .before .before .before .put-number .ensures in
+    let e = c .before .before .before .before .before .before .before .before .before .before .before .before .before .before .put-number2 .ensures in
+    let s = c .before .before .before .before .before .before .before .before .before .before .write-u32s .ensures in
+    let j = c .before .before .before .before .before .before .write-u16s .ensures in
+    let v = c .before .before .write-f64s .ensures in
+    (omega arith, laid-matrix _ _ _ _ _ _ _ _ _ _ _ (none-laid (c .before .before .before .before .before .before .before .before .before .before .before .before .before .before .before .before .before .before .before .before .before .before .before .before .args .file .now)) (n .1) (e .1) (s .1) (j .1) (v .1))
+
+pub lay-matrix-spec : {M : Type 1} → statement M
+lay-matrix-spec =
+    tie.close
+    (tie.spec
+    put-number-requires
+    put-number-requires-2
+    write-u32s-requires
+    write-u16s-requires
+    write-f64s-requires
+    same-length
+    returns)

@@ -1,0 +1,2 @@
+pub mod MatrixFile
+pub mod Example

@@ -1,0 +1,106 @@
+use Rattle.numeric.proofs.Turns.{scratch-turn, scratch-stop, back-end}
+use Rattle.numeric.specs.Stores.{storeGiven}
+use Rattle.arithmetic.specs.Arith.{back}
+use denote.Ref.{now}
+use lib.Seq.{take-set-le}
+use lib.ListN.{length, take, drop, length-set}
+use Prim.Native.Nat.{_-_, _≤_, _+_}
+use mathlib.Core.Path.{_≡_, refl, sym, _∙_}
+use borrow.Author.Needs.{needs}
+use native.Mathlib.Omega.{arith}
+use Rattle.numeric.proofs.back_steps.Statement.{statement}
+use Rattle.numeric.proofs.back_steps.Tie as tie
+
+abbrev Inv-loop : tie.InvT-loop
+Inv-loop f₀ n upper runs starts u z k₀ f k =
+    (z ≡ n + n) × (k ≤ n) × (length f ≡ length f₀) × (take (n + n) f ≡ take (n + n) f₀)
+    × (back (storeGiven n f₀ upper runs starts u) k (drop (n + n) f) ≡ back (storeGiven n f₀ upper runs starts u) n (drop (n + n) f₀))
+
+abbrev μ-loop : tie.MeasureT-loop
+μ-loop f₀ n upper runs starts u z k₀ f k = k
+
+add-z : tie.Need-add-z Inv-loop μ-loop
+add-z c = search needs
+
+loop-holds : tie.Need-loop-holds Inv-loop μ-loop
+loop-holds c = search needs
+
+sub-i : tie.Need-sub-i Inv-loop μ-loop
+sub-i c = search needs
+
+cast-t13 : tie.Need-cast-t13 Inv-loop μ-loop
+cast-t13 c = search needs
+
+back-at-requires : tie.Need-back-at-requires Inv-loop μ-loop
+back-at-requires c κs = (omega arith, omega (arith, c .before .before .before .before .before .before .before .before .pre .0, c .before .before .loop .inv .2), c .before .before .before .before .before .before .before .before .pre .2)
+
+is-finite-requires : tie.Need-is-finite-requires Inv-loop μ-loop
+is-finite-requires c κs = search needs
+
+add-f : tie.Need-add-f Inv-loop μ-loop
+add-f c = search needs
+
+mul-f : tie.Need-mul-f Inv-loop μ-loop
+mul-f c = search needs
+
+slice-write-f : tie.Need-slice-write-f Inv-loop μ-loop
+slice-write-f c = search needs
+
+loop-less : tie.Need-loop-less Inv-loop μ-loop
+loop-less c = search needs
+
+loop-again : tie.Need-loop-again Inv-loop μ-loop
+loop-again c =
+    let l = c .before .before .before .before .before .loop in
+    let t = c .before .before .before .before .before .before .before .before .before .before .before in
+    let a = t .args in (
+      refl,
+      omega arith,
+      simp length-set (l .inv .2),
+      take-set-le (a .n + a .n) (l .f) (a .n + a .n + (l .k - 1)) (c .before .before .back-at .result) (omega arith) ∙ l .inv .3,
+      scratch-turn (a .n) (l .k) (l .k - 1) (now (a .upper)) (now (a .runs)) (now (a .starts)) (now (a .u)) (now (a .f)) (l .f) (c .before .before .back-at .result)
+          (omega arith) (omega arith) (l .inv .3) (t .pre .3 (l .k - 1) (omega arith)) (c .before .before .back-at .ensures) (sym (c .before .is-finite .ensures) ∙ c .if1 .taken) ∙ l .inv .4,
+    )
+
+same-length : tie.Need-same-length Inv-loop μ-loop
+same-length c = search needs
+
+returns : tie.Need-returns Inv-loop μ-loop
+returns c =
+    let l = c .before .before .before .before .before .loop in
+    let t = c .before .before .before .before .before .before .before .before .before .before .before in
+    let a = t .args in (
+      sym (scratch-stop (a .n) (l .k) (l .k - 1) (now (a .upper)) (now (a .runs)) (now (a .starts)) (now (a .u)) (now (a .f)) (l .f) (c .before .before .back-at .result)
+          (omega arith) (omega arith) (l .inv .3) (t .pre .3 (l .k - 1) (omega arith)) (c .before .before .back-at .ensures) (sym (c .before .is-finite .ensures) ∙ c .if1 .left)) ∙ l .inv .4,
+      l .inv .3,
+    )
+
+same-length-2 : tie.Need-same-length-2 Inv-loop μ-loop
+same-length-2 c = search needs
+
+returns-2 : tie.Need-returns-2 Inv-loop μ-loop
+returns-2 c =
+    let l = c .before .loop in
+    (sym (back-end _ (l .k) _ (omega arith)) ∙ l .inv .4, l .inv .3)
+
+pub back-steps-spec : {M : Type 1} → statement M
+back-steps-spec =
+    tie.close
+    (tie.spec
+    Inv-loop
+    μ-loop
+    add-z
+    loop-holds
+    sub-i
+    cast-t13
+    back-at-requires
+    is-finite-requires
+    add-f
+    mul-f
+    slice-write-f
+    loop-less
+    loop-again
+    same-length
+    returns
+    same-length-2
+    returns-2)

@@ -1,0 +1,7 @@
+pub mod Stores
+pub mod Rows
+pub mod StoreLaws
+pub mod RowLaws
+pub mod KeepLaws
+pub mod PassLaws
+pub mod Right

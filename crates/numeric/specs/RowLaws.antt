@@ -1,0 +1,221 @@
+-- Row k from what its steps leave: the multipliers are read off the working row, one test of the row tells 12 and 13, and the rest of the row is +0.
+use mathlib.Core.Path.{_≡_, refl, sym, _∙_}
+use mathlib.Core.Bool.{Bool, true, false, true≢false}
+use mathlib.Core.Logic.{_⊎_, ⊎-elim}
+use mathlib.Core.List.{List, [], _∷_, _++_, append-nil, append-assoc, List·Memᴰ, List·Memᴰ·head, List·Memᴰ·tail, List·Memᴰ·not-nil, List·Memᴰ·cases-cons}
+use Prim.Native.Nat.{ℕ, zero, suc, _+_, _-_, _<_}
+use native.Mathlib.Nat.{not-suc-le-zero, le-of-suc-le-suc}
+use native.Mathlib.Omega.{arith}
+use native.Mathlib.Decide.{ℕ-discrete}
+use lib.ListN.{length, getD, set, replicate, length-set, length-replicate, getD-replicate}
+use lib.Seq.{getD-set-same, getD-set-other, set-out}
+use lib.Dec.{eqb}
+use lib.Ieee.{Float, nan, binary64}
+use lib.Ieee.Scale.{finite}
+use borrow.Author.Tests.{eqb-true, eq-eqb}
+use Rattle.base.specs.Lists.{has, pairs, nought}
+use Rattle.base.specs.Tests.{by-test, or-cases, or-right}
+use Rattle.base.specs.AscLaws.{has-append}
+use Rattle.arithmetic.specs.Arith.{Out, ok, met, _>>=_, Check, any, at, load, System, Row, Given, given, Work, start, row, subtract, stepAt, steps}
+use Rattle.arithmetic.specs.RowEnd.{finiteOn, rowEnd}
+use Rattle.arithmetic.specs.Sticky.{ok-inj, subtract-any, after, step-any, row-at, sub-left, sub-right, mul-left}
+use Rattle.numeric.specs.Stores.{Ascending, gathered, work}
+use Rattle.numeric.specs.Rows.{filledRow, Closed, Lent}
+
+-- ---- membership
+
+pub has-mem : (l : List ℕ) (j : ℕ) → List·Memᴰ j l → has l j ≡ true
+unfolding has
+has-mem [] j m = absurd (List·Memᴰ·not-nil m)
+has-mem (x ∷ l) j m = ⊎-elim (λ e. rw (eq-eqb x j (sym e))) (λ t. or-right (eqb x j) (has l j) (has-mem l j t)) (List·Memᴰ·cases-cons m)
+
+pub mem-has : (l : List ℕ) (j : ℕ) → has l j ≡ true → List·Memᴰ j l
+unfolding has
+mem-has [] j h = absurd (true≢false (sym h))
+mem-has (x ∷ l) j h = ⊎-elim (λ e. List·Memᴰ·head (sym (eqb-true x j e))) (λ t. List·Memᴰ·tail (mem-has l j t)) (or-cases (eqb x j) (has l j) h)
+
+pub mem-at : (l : List ℕ) (p : ℕ) → p < length l → List·Memᴰ (getD l p 0) l
+mem-at [] p h = absurd (not-suc-le-zero h)
+mem-at (x ∷ l) zero h = List·Memᴰ·head refl
+mem-at (x ∷ l) (suc p) h = List·Memᴰ·tail (mem-at l p (le-of-suc-le-suc h))
+
+pub has-at : (l : List ℕ) (p : ℕ) → p < length l → has l (getD l p 0) ≡ true
+has-at l p h = has-mem l (getD l p 0) (mem-at l p h)
+
+index : (l : List ℕ) (j : ℕ) → List·Memᴰ j l → (p : ℕ) × (p < length l) × (getD l p 0 ≡ j)
+index [] j m = absurd (List·Memᴰ·not-nil m)
+index (x ∷ l) j m =
+    ⊎-elim (λ e. (0, omega arith, sym e)) (λ t. let r = index l j t in (suc (r .0), omega arith, r .2)) (List·Memᴰ·cases-cons m)
+
+pub asc-head : (i : ℕ) (is : List ℕ) → Ascending (i ∷ is) → (j : ℕ) → List·Memᴰ j is → i < j
+asc-head i is a j m = let r = index is j m in rw (r .2) at (a 0 (suc (r .0)) (omega arith) (omega arith))
+
+pub asc-tail : (i : ℕ) (is : List ℕ) → Ascending (i ∷ is) → Ascending is
+asc-tail i is a p q h g = a (suc p) (suc q) (omega arith) (omega arith)
+
+-- ---- step 2 reads the rows above only at the places listed
+
+pub bind-same : {A B : Type 0} (o : Out A) (f g : A → Out B) → ((a : A) → f a ≡ g a) → o >>= f ≡ o >>= g
+bind-same (ok a) f g e = e a
+bind-same (met q) f g e = refl
+
+abbrev pub Same : Given → Given → ℕ → Type 0
+Same G H i = (G .upper i ≡ H .upper i) × (G .u i ≡ H .u i) × (G .y i ≡ H .y i)
+
+step-same : (c : Check) (G H : Given) (i : ℕ) (a : Work) → Same G H i → stepAt c G i a ≡ stepAt c H i a
+unfolding stepAt
+step-same c G H i a h = rw (h .0, h .1, h .2)
+
+pub steps-same : (c : Check) (G H : Given) (is : List ℕ) (a : Work) → ((i : ℕ) → List·Memᴰ i is → Same G H i) → steps c G is a ≡ steps c H is a
+unfolding steps
+steps-same c G H [] a e = refl
+steps-same c G H (i ∷ is) a e =
+    rw (step-same c G H i a (e i (List·Memᴰ·head refl)))
+    (bind-same (stepAt c H i a) (steps c G is) (steps c H is) (λ b. steps-same c G H is b (λ h p. e h (List·Memᴰ·tail p))))
+
+-- ---- a slot that is not listed is left as it is
+
+subtract-keeps : (m : Float) (js : List ℕ) (us w X : List Float) (i : ℕ) → ((j : ℕ) → List·Memᴰ j js → i ≡ j → ⊥) → subtract any m js us w ≡ ok X
+    → getD X i nan ≡ getD w i nan
+unfolding subtract
+subtract-keeps m [] us w X i n e = rw (← ok-inj e)
+subtract-keeps m (j ∷ js) [] w X i n e = rw (← ok-inj e)
+subtract-keeps m (j ∷ js) (u ∷ us) w X i n e =
+    subtract-keeps m js us _ X i (λ j h. n j (List·Memᴰ·tail h)) e ∙ getD-set-other w j i _ nan (n j (List·Memᴰ·head refl))
+
+pub steps-keep : (G : Given) (is : List ℕ) (a F : Work) (i : ℕ) → ((h j : ℕ) → List·Memᴰ h is → List·Memᴰ j (G .upper h) → i ≡ j → ⊥) → steps any G is a ≡ ok F
+    → getD (F .w) i nan ≡ getD (a .w) i nan
+unfolding steps
+steps-keep G [] a F i n e = rw (← ok-inj e)
+steps-keep G (h ∷ is) a F i n e =
+    let m = getD (a .w) h nan in
+    let r = subtract-any m (G .upper h) (G .u h) (a .w) in
+    steps-keep G is (after G h a (r .0)) F i (λ h j p. n h j (List·Memᴰ·tail p)) (sym (step-any G h is a (r .0) (r .1)) ∙ e)
+    ∙ subtract-keeps m (G .upper h) (G .u h) (a .w) (r .0) i (λ j p. n h j (List·Memᴰ·head refl) p) (r .1)
+
+-- a sum once not finite stays so
+sum-stays : (G : Given) (is : List ℕ) (a F : Work) → steps any G is a ≡ ok F → finite (a .s) ≡ false → finite (F .s) ≡ false
+unfolding steps
+sum-stays G [] a F e h = rw (← ok-inj e) h
+sum-stays G (i ∷ is) a F e h =
+    let r = subtract-any (getD (a .w) i nan) (G .upper i) (G .u i) (a .w) in
+    sum-stays G is (after G i a (r .0)) F (sym (step-any G i is a (r .0) (r .1)) ∙ e) (sub-left binary64 (a .s) _ h)
+
+-- ---- the multipliers
+
+-- each multiplier stays in the working row at its place, and makes the sum not finite where it is not
+module _ (G : Given) where
+  pub multipliers : (is : List ℕ) (a F : Work) → Ascending is → ((i j : ℕ) → List·Memᴰ i is → List·Memᴰ j (G .upper i) → i < j) → steps any G is a ≡ ok F
+      → (F .l ≡ a .l ++ gathered is (F .w)) × (finite (F .s) ≡ true → finiteOn is (F .w) ≡ true)
+  unfolding steps
+  multipliers [] a F r up e = (rw (← ok-inj e) (sym (append-nil (a .l))), λ h. refl)
+  multipliers (i ∷ is) a F r up e =
+      let q = subtract-any (getD (a .w) i nan) (G .upper i) (G .u i) (a .w) in
+      let e′ : steps any G is (after G i a (q .0)) ≡ ok F = sym (step-any G i is a (q .0) (q .1)) ∙ e in
+      let kept : getD (F .w) i nan ≡ getD (a .w) i nan =
+      steps-keep G is (after G i a (q .0)) F i (λ h j p u w. omega (arith, asc-head i is r h p, up h j (List·Memᴰ·tail p) u)) e′
+      ∙ subtract-keeps (getD (a .w) i nan) (G .upper i) (G .u i) (a .w) (q .0) i (λ j u w. omega (arith, up i j (List·Memᴰ·head refl) u)) (q .1) in
+      let ih = multipliers is (after G i a (q .0)) F (asc-tail i is r) (λ i j p. up i j (List·Memᴰ·tail p)) e′ in
+      let m = getD (a .w) i nan in (
+        ih .0 ∙ append-assoc (a .l) (m ∷ []) (gathered is (F .w)) ∙ rw kept,
+        λ h. by-test (finite m)
+            (λ f. rw (kept, f) (ih .1 h))
+            (λ f. absurd (true≢false (sym h ∙ sum-stays G is (after G i a (q .0)) F e′ (sub-right binary64 (a .s) _ (mul-left binary64 m (G .y i) f))))),
+      )
+
+finiteOn-append : (is js : List ℕ) (w : List Float) → finiteOn is w ≡ true → finiteOn (is ++ js) w ≡ finiteOn js w
+finiteOn-append [] js w h = refl
+finiteOn-append (i ∷ is) js w h = by-test (finite (getD w i nan))
+    (λ f. rw f (finiteOn-append is js w (rw f at h)))
+    (λ f. let z : false ≡ true = rw f at h in absurd (true≢false (sym z)))
+
+-- so the row's end need not test them
+pub end-same : (k : ℕ) (is above : List ℕ) (a : Work) → (finite (a .s) ≡ true → finiteOn is (a .w) ≡ true) → rowEnd k is above a ≡ rowEnd k [] above a
+end-same k is above a h = by-test (finite (a .s)) (λ f. rw (f, finiteOn-append is (k ∷ above) (a .w) (h f))) (λ f. rw f)
+
+-- ---- step 1
+
+pub load-same : (c : Check) (es : List (ℕ × Float)) (w : List Float) → load c es w ≡ load any es w
+unfolding load
+load-same c [] w = refl
+load-same c (e ∷ es) w = load-same c es (set w (e .0) (e .1))
+
+-- what a slot holds after loading: what it held, or a finite value at a place listed
+load-cases : (js : List ℕ) (vs w W : List Float) (P : ℕ → Bool) → ((p : ℕ) → p < length js → P (getD js p 0) ≡ true) → ((p : ℕ) → p < length vs → finite (getD vs p nan) ≡ true)
+    → load any (pairs js vs) w ≡ ok W → (j : ℕ)
+    → (finite (getD w j nan) ≡ true → finite (getD W j nan) ≡ true) × (P j ≡ false → getD W j nan ≡ getD w j nan) × (length W ≡ length w)
+unfolding load pairs
+load-cases [] vs w W P hp hv e j = (λ f. rw (← ok-inj e) f, λ f. rw (← ok-inj e), rw (← ok-inj e))
+load-cases (i ∷ js) [] w W P hp hv e j = (λ f. rw (← ok-inj e) f, λ f. rw (← ok-inj e), rw (← ok-inj e))
+load-cases (i ∷ js) (v ∷ vs) w W P hp hv e j =
+    let ih = load-cases js vs (set w i v) W P (λ p h. hp (suc p) (omega arith)) (λ p h. hv (suc p) (omega arith)) e j in (
+      λ f. ih .0 (fine f (ℕ-discrete j i)),
+      λ f. ih .1 f ∙ getD-set-other w i j v nan (λ q. true≢false (sym (hp 0 (omega arith)) ∙ rw (← q) f)),
+      ih .2 ∙ length-set w i v,
+    )
+  where
+    fine : finite (getD w j nan) ≡ true → Dec (j ≡ i) → finite (getD (set w i v) j nan) ≡ true
+    fine f (no n) = rw (getD-set-other w i j v nan n) f
+    fine f (yes q) = elim (native.Mathlib.Decide.decLt i (length w)) [
+      | yes l ↦ rw (q, getD-set-same w i v nan l) (hv 0 (omega arith))
+      | no l ↦ rw (set-out w i v (omega arith)) f
+    ]
+
+finiteOn-all : (P : List ℕ) (w : List Float) → ((j : ℕ) → List·Memᴰ j P → finite (getD w j nan) ≡ true) → finiteOn P w ≡ true
+finiteOn-all [] w h = refl
+finiteOn-all (j ∷ P) w h = rw (h j (List·Memᴰ·head refl)) (finiteOn-all P w (λ i m. h i (List·Memᴰ·tail m)))
+
+-- ---- row k
+
+-- a filled place is in the lower row, k, or in T(k)
+pub filled-cases : {A : Type 0} (S : System) (k j : ℕ) → has (filledRow S k) j ≡ true → (has (S .lower k) j ≡ true → A) → (k ≡ j → A) → (has (S .upper k) j ≡ true → A) → A
+unfolding has
+filled-cases S k j m lower here upper =
+    ⊎-elim lower (λ a. ⊎-elim (λ e. here (eqb-true k j e)) upper (or-cases (eqb k j) (has (S .upper k) j) a))
+    (or-cases (has (S .lower k) j) (has (k ∷ S .upper k) j) (sym (has-append (S .lower k) (k ∷ S .upper k) j) ∙ m))
+
+module _ (S : System) (k : ℕ) (C : Closed S k) where
+  -- the filled places are below n
+  pub range : k < S .n → (j : ℕ) → has (filledRow S k) j ≡ true → j < S .n
+  range h j m =
+      filled-cases S k j m (λ a. omega (arith, C .left j a)) (λ e. omega (arith, e)) (λ b. C .range j b)
+
+  module _ (rows : List Row) (G : Given) (lower places : List ℕ) (vs : List Float) (b : Float) (W l w : List Float) (s : Float) (h : k < S .n)
+      (L : Lent S k lower places vs b) (loaded : load any (pairs places vs) (replicate (S .n) nought) ≡ ok W)
+      (same : (i : ℕ) → i < k → Same G (given S rows) i) (ran : steps any G lower (work [] W b) ≡ ok (work l w s)) where
+    each : (j : ℕ) → (finite (getD (replicate (S .n) nought) j nan) ≡ true → finite (getD W j nan) ≡ true)
+        × (has (filledRow S k) j ≡ false → getD W j nan ≡ getD (replicate (S .n) nought) j nan) × (length W ≡ length (replicate (S .n) nought))
+    each j = load-cases places vs (replicate (S .n) nought) W (has (filledRow S k)) (L .filled) (L .fine) loaded j
+
+    run : steps any (given S rows) (S .lower k) (work [] W b) ≡ ok (work l w s)
+    run = rw (L .below)
+        (sym (steps-same any G (given S rows) lower (work [] W b) (λ i m. same i (C .left i (has-mem (S .lower k) i (rw (L .below) m))))) ∙ ran)
+
+    ms : (l ≡ gathered (S .lower k) w) × (finite s ≡ true → finiteOn (S .lower k) w ≡ true)
+    ms = multipliers (given S rows) (S .lower k) (work [] W b) (work l w s) (C .ascending)
+        (λ i j p q. C .right i j (has-mem (S .lower k) i p) (has-mem (S .upper i) j q)) run
+
+    within : (i j : ℕ) → List·Memᴰ i (S .lower k) → List·Memᴰ j (S .upper i) → List·Memᴰ j (filledRow S k)
+    within i j p q = mem-has (filledRow S k) j (C .within i j (has-mem (S .lower k) i p) (has-mem (S .upper i) j q))
+
+    inside : (j : ℕ) → List·Memᴰ j (filledRow S k) → j < S .n
+    inside j m = range h j (has-mem (filledRow S k) j m)
+
+    began : start (at k) S k ≡ ok (work [] W b)
+    unfolding start
+    began = rw (L .entries, L .right, load-same (at k) (pairs places vs) (replicate (S .n) nought), loaded)
+
+    -- the row's answer from its end
+    pub row-is : rowEnd k [] (S .upper k) (work (gathered (S .lower k) w) w s) ≡ row S rows k
+    row-is =
+        rw (← ms .0)
+        (sym (end-same k (S .lower k) (S .upper k) (work l w s) (ms .1))
+        ∙ sym (row-at S rows k (filledRow S k) (work [] W b) (work l w s) began run within
+        (λ j m. omega (arith, each j .2, length-replicate (S .n) nought, inside j m)) (L .sum)
+        (finiteOn-all (filledRow S k) W (λ j m. each j .0 (rw (getD-replicate (S .n) j nought nan (inside j m)))))))
+
+    -- elsewhere the working row is +0
+    pub row-outside : (j : ℕ) → j < S .n → has (filledRow S k) j ≡ false → getD w j nan ≡ nought
+    row-outside j g e =
+        steps-keep (given S rows) (S .lower k) (work [] W b) (work l w s) j (λ i p u v q. true≢false (sym (rw (← q) at (has-mem (filledRow S k) p (within i p u v))) ∙ e)) run
+        ∙ each j .1 e ∙ getD-replicate (S .n) j nought nan g

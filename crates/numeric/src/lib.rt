@@ -1,0 +1,433 @@
+// The arithmetic of the elimination, row by row, and the back steps. The scratch f has the working row w in its first n slots, y in the next n
+// and z in the last n. T(i) is list i of an upper store (index, run starts, list starts), its u stand in a value store from list start i on.
+// Lower row k is lent, so that no step knows where it is kept.
+use base::OwnNumber;
+use base::Place;
+use base::RowSums;
+use base::is_finite;
+ghost use mathlib.Core.Path.{_≡_};
+ghost use mathlib.Core.Bool.{true, _&&_};
+ghost use mathlib.Core.List.{List, _∷_};
+ghost use Prim.Native.Nat.{ℕ, _+_, _-_, _<_, _≤_};
+ghost use lib.ListN.{length, getD, take, drop};
+ghost use lib.Seq.{sets};
+ghost use lib.Ieee.{nan};
+ghost use lib.Ieee.Scale.{finite};
+ghost use Rattle.base.specs.Lists.{listAt, rowOf, pairs};
+ghost use Rattle.arithmetic.specs.Arith.{ok, any, load, subtract, rest, back, System, Row};
+ghost use Rattle.arithmetic.specs.RowEnd.{finiteOn, finiteAll, products};
+ghost use Rattle.numeric.specs.Stores.{Below, ListIn, Shape, Loadable, Reducible, Closable, Spacious, Stepped, Eliminated, Finished, storeGiven, placesOf, gathered, zeroed, columns, keepColumns, numberedBack};
+ghost use Rattle.numeric.specs.Rows.{Held, Lent, Closed, Reduced, Shut};
+
+fn wide16(x: u16) -> usize
+    ensures { λ r. ⌜ r ≡ x ⌝ }
+{
+    x as usize
+}
+
+fn wide32(x: u32) -> usize
+    ensures { λ r. ⌜ r ≡ x ⌝ }
+{
+    x as usize
+}
+
+// An own column.
+fn own_number(c: u16) -> OwnNumber
+    ensures { λ r. ⌜ r .0 ≡ c ⌝ }
+{
+    OwnNumber(c as u32)
+}
+
+// The place of an own column, by the inverse order.
+fn place_of(ic: &[u32], c: OwnNumber) -> Place
+    requires { ⌜ c .0 < length (now ic) ⌝ }
+    ensures { λ r. ⌜ r .0 ≡ getD (now (ic .entry)) (c .0) 0 ⌝ }
+{
+    let j = wide32(c.0);
+    Place(ic[j])
+}
+
+// List i of an index store, as a part of it.
+fn index_part<'a>(index: &'a [u16], runs: &[u32], starts: &[u32], i: Place) -> &'a [u16]
+    requires { ⌜ ListIn (length (now index)) (now runs) (now starts) (i .0) ⌝ }
+    ensures { λ r. ⌜ now r ≡ listAt (now (index .entry)) (now (runs .entry)) (now (starts .entry)) (i .0) ⌝ }
+{
+    let at = i.0 as usize;
+    let run = wide32(runs[at]);
+    let from = wide32(starts[at]);
+    let to = wide32(starts[at + 1]);
+    let end = run + (to - from);
+    &index[run..end]
+}
+
+// The values of list i, as a part of their store.
+fn values_part<'a>(values: &'a [f64], starts: &[u32], i: Place) -> &'a [f64]
+    requires { ⌜ ListIn (length (now values)) (now starts) (now starts) (i .0) ⌝ }
+    ensures { λ r. ⌜ now r ≡ listAt (now (values .entry)) (now (starts .entry)) (now (starts .entry)) (i .0) ⌝ }
+{
+    let at = i.0 as usize;
+    let from = wide32(starts[at]);
+    let to = wide32(starts[at + 1]);
+    &values[from..to]
+}
+
+// Step 1: the entries of a row, own columns and values, over w at their places.
+pub fn load_row(w: &mut [f64], columns: &[u16], values: &[f64], ic: &[u32])
+    requires { ⌜ Loadable (length (now w)) (now ic) (now columns) (now values) ⌝ }
+    ensures { λ _. ⌜ load any (pairs (placesOf (now (ic .entry)) (now (columns .entry))) (now (values .entry))) (now (w .entry)) ≡ ok (now (w .exit)) ⌝ }
+{
+    let mut p = 0;
+    while p < columns.len() {
+        let j = place_of(ic, own_number(columns[p]));
+        let at = j.0 as usize;
+        w[at] = values[p];
+        p += 1;
+    }
+}
+
+// w[j] = w[j] - m * u for the listed j: a product and a difference, each rounded once.
+pub fn axpy(w: &mut [f64], columns: &[u16], u: &[f64], m: f64)
+    requires { ⌜ (length (now columns) ≡ length (now u)) × Below (length (now w)) (now columns) ⌝ }
+    ensures { λ _. ⌜ subtract any m (now (columns .entry)) (now (u .entry)) (now (w .entry)) ≡ ok (now (w .exit)) ⌝ }
+{
+    let n = columns.len();
+    let mut p = 0;
+    while p < n {
+        let j = columns[p] as usize;
+        w[j] = w[j] - m * u[p];
+        p += 1;
+    }
+}
+
+// Step 2 at i: the sum and the working row less row i times its multiplier w(i).
+fn step_at(
+    f: &mut [f64],
+    n: usize,
+    i: Place,
+    upper: &[u16],
+    runs: &[u32],
+    starts: &[u32],
+    u: &[f64],
+    row: RowSums,
+) -> RowSums
+    requires { ⌜ (i .0 < n) × (n + n ≤ length (now f)) × Shape n (now upper) (now runs) (now starts) (length (now u)) ⌝ }
+    ensures { λ r. ⌜ Stepped n (i .0) (storeGiven n (now (f .entry)) (now (upper .entry)) (now (runs .entry)) (now (starts .entry)) (now (u .entry)))
+        (now (f .entry)) (now (f .exit)) row r ⌝ }
+{
+    let at = i.0 as usize;
+    let m = f[at];
+    let y = f[n + at];
+    let above = index_part(upper, runs, starts, i);
+    let us = values_part(u, starts, i);
+    axpy(&mut f[..n], above, us, m);
+    RowSums {
+        sum: row.sum - m * y,
+        reciprocal: row.reciprocal,
+        y: row.y,
+    }
+}
+
+// Step 2: every i of the lower row, ascending. The multipliers stay in the working row, at the places of the lower row.
+pub fn eliminate(
+    f: &mut [f64],
+    n: usize,
+    lower: &[u32],
+    upper: &[u16],
+    runs: &[u32],
+    starts: &[u32],
+    u: &[f64],
+    row: RowSums,
+) -> RowSums
+    requires { ⌜ (n + n ≤ length (now f)) × Shape n (now upper) (now runs) (now starts) (length (now u)) × Below n (now lower) ⌝ }
+    ensures { λ r. ⌜ Eliminated n (now (lower .entry)) (storeGiven n (now (f .entry)) (now (upper .entry)) (now (runs .entry)) (now (starts .entry)) (now (u .entry)))
+        (now (f .entry)) (now (f .exit)) row r ⌝ }
+{
+    let mut s = row;
+    let mut p = 0;
+    while p < lower.len() {
+        let i = Place(lower[p]);
+        s = step_at(f, n, i, upper, runs, starts, u, s);
+        p += 1;
+    }
+    s
+}
+
+// Whether w is finite at each listed place.
+fn all_finite(w: &[f64], columns: &[u16]) -> bool
+    requires { ⌜ Below (length (now w)) (now columns) ⌝ }
+    ensures { λ r. ⌜ r ≡ finiteOn (now (columns .entry)) (now (w .entry)) ⌝ }
+{
+    let mut p = 0;
+    while p < columns.len() {
+        let j = wide16(columns[p]);
+        if is_finite(w[j]) {
+            p += 1;
+        } else {
+            return false;
+        }
+    }
+    true
+}
+
+// Whether row k's sum, its pivot and its working row above the diagonal are finite. (A multiplier that is not makes the sum not finite.)
+fn row_finite(w: &[f64], k: Place, above: &[u16], sum: f64) -> bool
+    requires { ⌜ (k .0 < length (now w)) × Below (length (now w)) (now above) ⌝ }
+    ensures { λ r. ⌜ r ≡ (finite sum && finiteOn (k .0 ∷ now (above .entry)) (now (w .entry))) ⌝ }
+{
+    let at = k.0 as usize;
+    if is_finite(sum) {
+        if is_finite(w[at]) {
+            return all_finite(w, above);
+        }
+    }
+    false
+}
+
+// u = w at the listed places times d, from slot `from` on, up to the first that is not finite; whether all are.
+fn scale(w: &[f64], columns: &[u16], u: &mut [f64], from: usize, d: f64) -> bool
+    requires { ⌜ (from + length (now columns) ≤ length (now u)) × Below (length (now w)) (now columns) ⌝ }
+    ensures { λ r. ⌜ (r ≡ finiteAll (products d (now (w .entry)) (now (columns .entry))))
+        × (r ≡ true → now (u .exit) ≡ sets (now (u .entry)) from (products d (now (w .entry)) (now (columns .entry)))) ⌝ }
+{
+    let mut p = 0;
+    while p < columns.len() {
+        let j = wide16(columns[p]);
+        let x = w[j] * d;
+        if is_finite(x) {
+            u[from + p] = x;
+            p += 1;
+        } else {
+            return false;
+        }
+    }
+    true
+}
+
+// What a row comes to.
+pub enum Pivot {
+    Kept(RowSums),
+    Zero,
+    Overflow,
+}
+
+// Step 3: one test of the row, the pivot, its reciprocal, y, and u into its slots.
+pub fn finish_row(
+    w: &[f64],
+    k: Place,
+    above: &[u16],
+    u: &mut [f64],
+    from: usize,
+    row: RowSums,
+) -> Pivot
+    requires { ⌜ (k .0 < length (now w)) × Below (length (now w)) (now above) × (from + length (now above) ≤ length (now u)) ⌝ }
+    ensures { λ r. ⌜ Finished (k .0) (now (above .entry)) from (now (w .entry)) (now (u .entry)) (now (u .exit)) (row .sum) r ⌝ }
+{
+    let at = k.0 as usize;
+    let sum = row.sum;
+    if row_finite(w, k, above, sum) {
+        let p = w[at];
+        if p == 0.0 {
+            return Pivot::Zero;
+        }
+        let d = 1.0 / p;
+        if is_finite(d) {
+            let y = sum * d;
+            if is_finite(y) {
+                if scale(w, above, u, from, d) {
+                    return Pivot::Kept(RowSums {
+                        sum,
+                        reciprocal: d,
+                        y,
+                    });
+                }
+            }
+        }
+    }
+    Pivot::Overflow
+}
+
+// Steps 1 to 3 of row k: its own columns and values, its right side, its lower row. A kept row's multipliers stand in the working row until
+// `close_row`, so that the caller keeps them where its form does.
+pub fn reduce_row(
+    f: &mut [f64],
+    n: usize,
+    k: Place,
+    columns: &[u16],
+    values: &[f64],
+    ic: &[u32],
+    b: f64,
+    lower: &[u32],
+    upper: &[u16],
+    runs: &[u32],
+    starts: &[u32],
+    u: &mut [f64],
+) -> Pivot
+    requires { ⌜ Reducible n (k .0) (length (now f)) (now ic) (now columns) (now values) (now lower) (now upper) (now runs) (now starts) (length (now u)) ⌝ }
+    ensures { λ r. ⌜ ((S : System) (rows : List Row)
+        → Held S rows n (k .0) (now (f .entry)) (now (upper .entry)) (now (runs .entry)) (now (starts .entry)) (now (u .entry))
+        → Lent S (k .0) (now (lower .entry)) (placesOf (now (ic .entry)) (now (columns .entry))) (now (values .entry)) b
+        → Closed S (k .0)
+        → Reduced S rows n (k .0) (now (starts .entry)) (now (f .entry)) (now (f .exit)) (now (u .entry)) (now (u .exit)) r) ⌝ }
+{
+    load_row(&mut f[..n], columns, values, ic);
+    let sums = RowSums {
+        sum: b,
+        reciprocal: 0.0,
+        y: 0.0,
+    };
+    let row = eliminate(f, n, lower, upper, runs, starts, u, sums);
+    let above = index_part(upper, runs, starts, k);
+    let at = k.0 as usize;
+    let from = wide32(starts[at]);
+    finish_row(&f[..n], k, above, u, from, row)
+}
+
+// +0 at the listed places.
+fn clear_lower(w: &mut [f64], places: &[u32])
+    requires { ⌜ Below (length (now w)) (now places) ⌝ }
+    ensures { λ _. ⌜ now (w .exit) ≡ zeroed (now (places .entry)) (now (w .entry)) ⌝ }
+{
+    let mut p = 0;
+    while p < places.len() {
+        w[wide32(places[p])] = 0.0;
+        p += 1;
+    }
+}
+
+fn clear_upper(w: &mut [f64], places: &[u16])
+    requires { ⌜ Below (length (now w)) (now places) ⌝ }
+    ensures { λ _. ⌜ now (w .exit) ≡ zeroed (now (places .entry)) (now (w .entry)) ⌝ }
+{
+    let mut p = 0;
+    while p < places.len() {
+        w[wide16(places[p])] = 0.0;
+        p += 1;
+    }
+}
+
+// y(k) and d(k) into their slots, and +0 at the filled places of row k, so that the working row is +0 again.
+pub fn close_row(
+    f: &mut [f64],
+    n: usize,
+    k: Place,
+    lower: &[u32],
+    upper: &[u16],
+    runs: &[u32],
+    starts: &[u32],
+    d: &mut [f64],
+    row: RowSums,
+)
+    requires { ⌜ Closable n (k .0) (length (now f)) (now lower) (now upper) (now runs) (now starts) (length (now d)) ⌝ }
+    ensures { λ _. ⌜ Shut n (k .0) (now (lower .entry)) (listAt (now (upper .entry)) (now (runs .entry)) (now (starts .entry)) (k .0))
+        (now (f .entry)) (now (f .exit)) (now (d .entry)) (now (d .exit)) row ⌝ }
+{
+    let at = k.0 as usize;
+    let above = index_part(upper, runs, starts, k);
+    f[at] = 0.0;
+    clear_lower(f, lower);
+    clear_upper(f, above);
+    f[n + at] = row.y;
+    d[at] = row.reciprocal;
+}
+
+// Row k's multipliers, from slot `from` on.
+pub fn keep_by_rows(w: &[f64], lower: &[u32], l: &mut [f64], from: usize)
+    requires { ⌜ (from + length (now lower) ≤ length (now l)) × Below (length (now w)) (now lower) ⌝ }
+    ensures { λ _. ⌜ now (l .exit) ≡ sets (now (l .entry)) from (gathered (now (lower .entry)) (now (w .entry))) ⌝ }
+{
+    let mut p = 0;
+    while p < lower.len() {
+        l[from + p] = w[wide32(lower[p])];
+        p += 1;
+    }
+}
+
+// Row k's multipliers, each in the next slot of its column. The cursors count the slots used.
+pub fn keep_by_columns(w: &[f64], lower: &[u32], starts: &[u32], cursors: &mut [u32], l: &mut [f64])
+    requires { ⌜ Spacious (length (now w)) (now lower) (now starts) (now cursors) (length (now l)) ⌝ }
+    ensures { λ _. ⌜ columns (now (cursors .exit)) (now (l .exit))
+        ≡ keepColumns (now (starts .entry)) (now (w .entry)) (now (lower .entry)) (columns (now (cursors .entry)) (now (l .entry))) ⌝ }
+{
+    let mut p = 0;
+    while p < lower.len() {
+        let i = wide32(lower[p]);
+        let used = cursors[i];
+        l[wide32(starts[i]) + wide32(used)] = w[i];
+        cursors[i] = used + 1;
+        p += 1;
+    }
+}
+
+// t less the products of the factors and z at the listed places, one after the other: the back steps take u and z so, another right side L and y.
+pub fn less_products(t: f64, places: &[u16], factors: &[f64], z: &[f64]) -> f64
+    requires { ⌜ (length (now places) ≡ length (now factors)) × Below (length (now z)) (now places) ⌝ }
+    ensures { λ r. ⌜ rest any t (now (places .entry)) (now (factors .entry)) (now (z .entry)) ≡ ok r ⌝ }
+{
+    let mut s = t;
+    let mut p = 0;
+    while p < places.len() {
+        let j = wide16(places[p]);
+        s = s - factors[p] * z[j];
+        p += 1;
+    }
+    s
+}
+
+// The back step at k: y(k) less u(k, j) times z(j).
+fn back_at(
+    f: &[f64],
+    n: usize,
+    k: Place,
+    upper: &[u16],
+    runs: &[u32],
+    starts: &[u32],
+    u: &[f64],
+) -> f64
+    requires { ⌜ (k .0 < n) × (length (now f) ≡ n + n + n) × Shape n (now upper) (now runs) (now starts) (length (now u)) ⌝ }
+    ensures { λ r. ⌜ rest any (getD (now (f .entry)) (n + k .0) nan) (listAt (now (upper .entry)) (now (runs .entry)) (now (starts .entry)) (k .0))
+        (rowOf (now (starts .entry)) (now (u .entry)) (k .0)) (drop (n + n) (now (f .entry))) ≡ ok r ⌝ }
+{
+    let at = k.0 as usize;
+    let t = f[n + at];
+    let above = index_part(upper, runs, starts, k);
+    let us = values_part(u, starts, k);
+    let z = n + n;
+    less_products(t, above, us, &f[z..])
+}
+
+// What the back steps find: every z, or the place at which a result is not finite.
+pub enum Back {
+    Complete,
+    Stopped(Place),
+}
+
+// The back steps, from n - 1 down to 0: z(k) into its slot.
+pub fn back_steps(
+    f: &mut [f64],
+    n: usize,
+    upper: &[u16],
+    runs: &[u32],
+    starts: &[u32],
+    u: &[f64],
+) -> Back
+    requires { ⌜ (length (now f) ≡ n + n + n) × (n < 4294967296) × Shape n (now upper) (now runs) (now starts) (length (now u))
+        × ((k : ℕ) → k < n → finite (getD (now f) (n + k) nan) ≡ true) ⌝ }
+    ensures { λ r. ⌜ (numberedBack (drop (n + n) (now (f .exit))) r
+        ≡ back (storeGiven n (now (f .entry)) (now (upper .entry)) (now (runs .entry)) (now (starts .entry)) (now (u .entry))) n (drop (n + n) (now (f .entry))))
+        × (take (n + n) (now (f .exit)) ≡ take (n + n) (now (f .entry))) ⌝ }
+{
+    let z = n + n;
+    let mut k = n;
+    while 0 < k {
+        let i = k - 1;
+        let place = Place(i as u32);
+        let t = back_at(f, n, place, upper, runs, starts, u);
+        if is_finite(t) {
+            f[z + i] = t;
+            k = i;
+        } else {
+            return Back::Stopped(place);
+        }
+    }
+    Back::Complete
+}
