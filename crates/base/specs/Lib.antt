@@ -1,6 +1,7 @@
 pub mod Lists
 pub mod First
 pub mod All
+pub mod AllLaws
 pub mod Answers
 pub mod Tests
 pub mod AscLaws

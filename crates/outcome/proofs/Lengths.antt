@@ -13,7 +13,8 @@ use Rattle.outcome.specs.Structure.{sidePlaced, fits, askPlaces, runsKep
 use Rattle.outcome.specs.Solve.{valuesKept, pivotsKept, system, listed, shape, multiplier, valuesOf, kept, left, concluded, solve}
 use Rattle.outcome.proofs.Asking.{then-pass, holds-pass, stop-pass}
 use Rattle.base.specs.Answers.{holds}
-use Rattle.base.specs.All.{all, all-true}
+use Rattle.base.specs.All.{all}
+use Rattle.base.specs.AllLaws.{all-true}
 use Rattle.matrix.specs.Limits.{rowsWithin}
 use Rattle.outcome.specs.Buffers.{askShape, SideBuffers, Buffers, SideSizes, Sizes, sideSizes, sizes, sideOf, matrixTests, bufferTests, Outcome, stop, scratchCleared, sideCleared, cleared}
 use Rattle.base.specs.ZerosLaws.{padded-length}
