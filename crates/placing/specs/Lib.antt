@@ -1,0 +1,11 @@
+pub mod Ways
+pub mod FillNested
+pub mod Slices
+pub mod LoopLaws
+pub mod TailLaws
+pub mod PlanLaws
+pub mod LookLaws
+pub mod Held
+pub mod HeldLaws
+pub mod StepLaws
+pub mod CheckLaws

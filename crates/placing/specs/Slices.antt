@@ -1,0 +1,158 @@
+-- What the contracts say: the definitions of the placing over what the lent slices hold. Definitions only.
+use Prim.Native.Nat.{ℕ, _+_, _-_, _≤_, _<_}
+use mathlib.Core.Path.{_≡_}
+use mathlib.Core.Bool.{Bool, _&&_, cond}
+use mathlib.Core.List.{List, List·Memᴰ}
+use lib.ListN.{length, take, drop, getD, set}
+use lib.Seq.{paste}
+use lib.Dec.{ltb, leb, eqb}
+use Rattle.base.specs.Lists.{listAt}
+use Rattle.placement.specs.Placing.{tails, agree, runAt}
+use Rattle.placement.specs.Placing as placement
+use Rattle.placement.specs.ListLaws.{Ascends}
+use Rattle.placing.specs.Ways.{wayOf}
+use Rattle.placing.specs.declared.Way.{Way}
+use Rattle.placing.specs.declared.Way.the-variants.{OneAfterAnother, Sharing}
+use Rattle.placing.specs.declared.Plan.{Plan}
+use Rattle.placing.specs.declared.Extent.{Extent}
+use Rattle.placing.specs.declared.Look.{Look}
+use Rattle.placing.specs.declared.Look.the-variants.{Fits, Short}
+use Rattle.placing.specs.declared.Put.{Put}
+use Rattle.placing.specs.declared.Put.the-variants.{Done, Full}
+use Rattle.placing.specs.declared.Match.{Match}
+use Rattle.placing.specs.declared.Match.the-variants.{Same, Differs}
+
+-- place i's starts are in their slices, and its run is in the store
+pub record Readable (slots runs starts : List ℕ) (i : ℕ) : Type 0 where
+  pub run-in : i < length runs
+  pub start-in : i + 1 < length starts
+  pub rises : getD starts i 0 ≤ getD starts (i + 1) 0
+  pub inside : getD runs i 0 + (getD starts (i + 1) 0 - getD starts i 0) ≤ length slots
+
+-- place i's list ascends, and has at most count entries above k
+pub record Tailed (slots runs starts : List ℕ) (k count i : ℕ) : Type 0 where
+  pub readable : Readable slots runs starts i
+  pub ascends : Ascends 0 (listAt slots runs starts i)
+  pub most : tails (listAt slots runs starts) k i ≤ count
+
+abbrev pub AllTailed : List ℕ → List ℕ → List ℕ → ℕ → ℕ → List ℕ → Type 0
+AllTailed slots runs starts k count row = (i : ℕ) → List·Memᴰ i row → Tailed slots runs starts k count i
+
+-- the list of the row's place j has count entries above k
+unfoldable pub fullAt : List ℕ → List ℕ → List ℕ → ℕ → ℕ → List ℕ → ℕ → Bool
+fullAt slots runs starts k count row j = eqb (tails (listAt slots runs starts) k (getD row j 0)) count
+
+-- a tail by its numbers
+pub record IsTail (t : placement.Tail) (at most : ℕ) : Type 0 where
+  pub at-is : at ≡ t .at
+  pub most-is : most ≡ t .most
+
+-- a plan as the code hands it on
+abbrev pub asPlan : placement.Plan → Plan
+asPlan p = record { start = p .start; have = p .have }
+
+-- what the code asks of its row: nothing in the plain way, which reads no list
+abbrev pub Reads : Way → List ℕ → List ℕ → List ℕ → ℕ → List ℕ → List ℕ → Type 0
+Reads OneAfterAnother slots runs starts k row list = Unit {0}
+Reads Sharing slots runs starts k row list = AllTailed slots runs starts k (length list) row
+
+pub record TailIn (runs starts : List ℕ) (i most : ℕ) : Type 0 where
+  pub run-in : i < length runs
+  pub start-in : i + 1 < length starts
+  pub fits : getD starts i 0 + most ≤ getD starts (i + 1) 0
+
+pub record Planning (way : Way) (slots runs starts : List ℕ) (last k : ℕ) (row list : List ℕ) : Type 0 where
+  pub readable : Reads way slots runs starts k row list
+  pub last-in : last ≤ length slots
+
+-- the plan for place k over what the slices hold
+unfoldable pub planOver : Way → List ℕ → List ℕ → List ℕ → ℕ → ℕ → List ℕ → List ℕ → placement.Plan
+planOver way slots runs starts last k row list = wayOf way (listAt slots runs starts) (runAt runs) slots last k row list
+
+-- a plan, with its start within the used slots and what stands already within the list
+pub record Planned (slots list : List ℕ) (p : placement.Plan) (r : Plan) : Type 0 where
+  pub is : r ≡ asPlan p
+  pub start-in : r .start ≤ length slots
+  pub have-in : r .have ≤ length list
+
+-- each entry fits a slot of an index store
+abbrev pub Small : List ℕ → Type 0
+Small list = (j : ℕ) → j < length list → getD list j 0 < 65536
+
+-- what the code asks of the slices before it places or compares the list of place k
+pub record Ready (way : Way) (index runs starts : List ℕ) (values : ℕ) (row list : List ℕ) (k : ℕ) (s : Extent) : Type 0 where
+  pub readable : Reads way (take (s .used) index) runs starts k row list
+  pub used-in : s .used ≤ length index
+  pub last-in : s .last ≤ s .used
+  pub entries-in : s .entries ≤ values
+  pub run-room : k < length runs
+  pub start-room : k + 1 < length starts
+  pub index-limit : length index < 4294967296
+  pub value-limit : values < 4294967296
+  pub small : Small list
+
+module _ (way : Way) (index runs starts : List ℕ) (values : ℕ) (row list : List ℕ) (k : ℕ) (s : Extent) where
+  -- the plan over the used slots
+  unfoldable pub planOf : placement.Plan
+  planOf = planOver way (take (s .used) index) runs starts (s .last) k row list
+
+  -- questions 10 and 11: does the list fit the index and the value store?
+  unfoldable pub fitsOf : Bool
+  fitsOf = leb (s .used + (length list - planOf .have)) (length index) && leb (s .entries + length list) values
+
+  -- how much is placed once the list is
+  unfoldable pub extentOf : Extent
+  extentOf =
+      record {
+        used = s .used + (length list - planOf .have);
+        last = cond (ltb (planOf .have) (length list)) (planOf .start) (s .last);
+        entries = s .entries + length list;
+      }
+
+  -- where the list would go, or that it does not fit
+  unfoldable pub lookOf : Look
+  lookOf = cond fitsOf (Fits (asPlan planOf) extentOf) Short
+
+-- ---- writing
+
+pub record Writable (index starts list : List ℕ) (k : ℕ) (s : Extent) (have : ℕ) : Type 0 where
+  pub have-in : have ≤ length list
+  pub index-room : s .used + (length list - have) ≤ length index
+  pub start-room : k + 1 < length starts
+  pub entries-limit : s .entries + length list < 4294967296
+  pub small : Small list
+
+-- the slots after the used ones hold what the list lacks, list start k + 1 the entries so far; all else is as it was
+pub record WrittenBy (index starts list : List ℕ) (k : ℕ) (s : Extent) (have : ℕ) (index′ starts′ : List ℕ) : Type 0 where
+  pub index-is : index′ ≡ paste index (s .used) (drop have list) (length list - have)
+  pub starts-are : starts′ ≡ set starts (k + 1) (s .entries + length list)
+
+-- the answer of placing place k's list, and the index store and the list starts at exit
+pub record Writes (way : Way) (index runs starts : List ℕ) (values : ℕ) (row list : List ℕ) (k : ℕ) (s : Extent) (r : Put) (index′ starts′ : List ℕ) : Type 0 where
+  pub answer : r ≡ cond (fitsOf way index runs starts values row list k s) (Done (extentOf way index runs starts values row list k s)) Full
+  pub index-is : index′ ≡ cond (fitsOf way index runs starts values row list k s)
+      (paste index (s .used) (drop (planOf way index runs starts values row list k s .have) list) (length list - planOf way index runs starts values row list k s .have))
+      index
+  pub starts-are : starts′ ≡ cond (fitsOf way index runs starts values row list k s) (set starts (k + 1) (s .entries + length list)) starts
+
+-- ---- comparing
+
+pub record Standing (index runs starts list : List ℕ) (k : ℕ) (s : Extent) (p : Plan) : Type 0 where
+  pub have-in : p .have ≤ length list
+  pub index-room : s .used + (length list - p .have) ≤ length index
+  pub run-room : k < length runs
+  pub start-room : k + 1 < length starts
+  pub entries-limit : s .entries + length list < 4294967296
+
+-- run start k, list starts k and k + 1 and what would be appended stand in the stores already
+unfoldable pub sameAt : List ℕ → List ℕ → List ℕ → List ℕ → ℕ → Extent → Plan → Bool
+sameAt index runs starts list k s p =
+    eqb (getD runs k 0) (p .start) && eqb (getD starts k 0) (s .entries) && eqb (getD starts (k + 1) 0) (s .entries + length list)
+    && agree (take (length list - p .have) (drop (s .used) index)) (drop (p .have) list)
+
+-- the answer of comparing
+unfoldable pub matchOf : Way → List ℕ → List ℕ → List ℕ → ℕ → List ℕ → List ℕ → ℕ → Extent → Match
+matchOf way index runs starts values row list k s =
+    cond (fitsOf way index runs starts values row list k s)
+    (cond (sameAt index runs starts list k s (asPlan (planOf way index runs starts values row list k s))) (Same (extentOf way index runs starts values row list k s)) Differs)
+    Differs
