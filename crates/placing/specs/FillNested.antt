@@ -1,6 +1,6 @@
 -- The lists of a fill are nested, on both sides; so every run reads its list after any later placing.
 use Prim.Native.Nat.{ℕ, zero, suc, _+_, _≤_, _<_}
-use mathlib.Core.Path.{_≡_, refl, _∙_}
+use mathlib.Core.Path.{_≡_, refl, _∙_, sym}
 use mathlib.Core.Logic.{⊎-elim}
 use mathlib.Core.Bool.{Bool, true, false}
 use mathlib.Core.List.{List, [], _∷_, _++_, append-nil, List·Memᴰ, List·Memᴰ·head, List·Memᴰ·tail, List·Memᴰ·not-nil, Memᴰ·append-left, Memᴰ·append-right, List·Memᴰ·append-cases, List·Memᴰ·eq-of-singleton}
@@ -12,8 +12,9 @@ use lib.Dec.{ltb}
 use borrow.Author.Tests.{ltb-true, lt-ltb}
 use Rattle.base.specs.Lists.{asc, keep}
 use Rattle.base.specs.Tests.{by-test, and-cases}
-use Rattle.fill.specs.Fill.{Pattern, filled, upper, upperRow, lowerRow}
+use Rattle.fill.specs.Fill.{Pattern, filled, upper, upperRow, lowerRow, lowerColumn}
 use Rattle.fill.specs.RowRule.{filled-through}
+use Rattle.fill.specs.ListLaws.{lower-is-upper}
 use Rattle.placement.specs.Placing.{planAt, runOf, placed, after, startOf}
 use Rattle.placement.specs.PlacingLaws.{Nested, Kept, SoundWay, shared-way, plain-way, placed-kept}
 use Rattle.placement.specs.ListLaws.{Ascends}
@@ -22,11 +23,16 @@ use Rattle.placing.specs.Ways.{wayOf, Suited, listsOf, rowsOf, turned}
 use Rattle.placing.specs.declared.Way.{Way}
 use Rattle.placing.specs.declared.Way.the-variants.{OneAfterAnother, Sharing}
 use Rattle.base.specs.declared.Side.{Side}
+use Rattle.base.specs.declared.Side.the-variants.{Lower}
 
 -- a fill's lists suit both ways, on both sides
 pub fill-suited : (way : Way) (side : Side) (stored : Pattern) (n : ℕ) → Suited way (listsOf side stored n) (rowsOf side stored) n
 fill-suited OneAfterAnother side stored n = tt
 fill-suited Sharing side stored n = fill-nested (turned side stored) n
+
+-- the lower side's lists are the lower columns
+pub lists-lower : (stored : Pattern) (n k : ℕ) → listsOf Lower stored n k ≡ lowerColumn stored n k
+lists-lower stored n k = sym (lower-is-upper stored n k)
 
 -- ---- every run reads its list
 

@@ -56,11 +56,13 @@ abbrev pub Reads : Way → List ℕ → List ℕ → List ℕ → ℕ → List �
 Reads OneAfterAnother slots runs starts k row list = Unit {0}
 Reads Sharing slots runs starts k row list = AllTailed slots runs starts k (length list) row
 
+-- place i's starts are in their slices, and its list has that many entries or more
 pub record TailIn (runs starts : List ℕ) (i most : ℕ) : Type 0 where
   pub run-in : i < length runs
   pub start-in : i + 1 < length starts
   pub fits : getD starts i 0 + most ≤ getD starts (i + 1) 0
 
+-- what the code asks before it plans
 pub record Planning (way : Way) (slots runs starts : List ℕ) (last k : ℕ) (row list : List ℕ) : Type 0 where
   pub readable : Reads way slots runs starts k row list
   pub last-in : last ≤ length slots
@@ -115,6 +117,7 @@ module _ (way : Way) (index runs starts : List ℕ) (values : ℕ) (row list : L
 
 -- ---- writing
 
+-- what the code asks before it writes: the list has room, and its entries fit their slots
 pub record Writable (index starts list : List ℕ) (k : ℕ) (s : Extent) (have : ℕ) : Type 0 where
   pub have-in : have ≤ length list
   pub index-room : s .used + (length list - have) ≤ length index
@@ -137,6 +140,7 @@ pub record Writes (way : Way) (index runs starts : List ℕ) (values : ℕ) (row
 
 -- ---- comparing
 
+-- what the code asks before it compares
 pub record Standing (index runs starts list : List ℕ) (k : ℕ) (s : Extent) (p : Plan) : Type 0 where
   pub have-in : p .have ≤ length list
   pub index-room : s .used + (length list - p .have) ≤ length index

@@ -1,21 +1,21 @@
 -- One turn: from the stores that hold the lists before place k to those that hold its list too.
 use Prim.Native.Nat.{ℕ, suc, _+_, _-_, _≤_, _<_}
 use mathlib.Core.Path.{_≡_, refl, sym, ap, _∙_}
-use mathlib.Core.Bool.{true, false, true≢false}
+use mathlib.Core.Bool.{true, false, true≢false, Bool}
 use mathlib.Core.List.{List, [], _∷_, _++_, List·Memᴰ}
 use native.Mathlib.Omega.{arith}
 use native.Mathlib.Numerals.{add-one}
-use lib.ListN.{length, take, drop, set, length-drop}
+use lib.ListN.{getD, length, take, drop, set, length-drop}
 use lib.Seq.{paste, take-suc-set, take-set-le, take-suc, drop-append-add, drop-drop}
 use lib.Dec.{eqb}
 use borrow.Author.Tests.{eqb-true, eqb-false}
-use Rattle.base.specs.Lists.{listAt, table}
+use Rattle.base.specs.Lists.{asc, listAt, table}
 use Rattle.base.specs.Tests.{by-test}
 use Rattle.placement.specs.Placing.{countAbove, tails, Tail, best, tailOr, shared, plain, appendAll, runAt, runOf, after, planAt, placed, startOf}
 use Rattle.placement.specs.PlacingLaws.{best-at, best-same, Nested, Kept, after-length, room, plain-starts}
-use Rattle.placement.specs.ListLaws.{asc-least, asc-weaken, among-asc, among-drop, count-tail, count-le}
+use Rattle.placement.specs.ListLaws.{mem-at, asc-least, asc-weaken, among-asc, among-drop, count-tail, count-le}
 use Rattle.placing.specs.Ways.{wayOf, Suited}
-use Rattle.placing.specs.FillNested.{kept}
+use Rattle.placing.specs.FillNested.{kept, mem-asc}
 use Rattle.placing.specs.Slices.{Readable, Reads, Small, Ready, planOver, planOf, fitsOf, extentOf, Writes, WrittenBy}
 use Rattle.placing.specs.LoopLaws.{take-rest}
 use Rattle.placing.specs.LookLaws.{Looked, fits-room}
@@ -88,6 +88,10 @@ reads-way Sharing T R n k h l row list e q slots runs starts f g = λ i d.
       ascends = rw (g i b) (asc-weaken (suc i) 0 (T i) (omega arith) (h .asc i (omega arith)));
       most = rw (g i b, q) (tail-most T R n k i h l m);
     }
+
+-- an ascending list of numbers below n fits 16-bit slots
+pub small-asc : (p : ℕ → Bool) (n : ℕ) → n ≤ 65536 → Small (asc p n)
+small-asc p n h j l = omega (arith, mem-asc p n (getD (asc p n) j 0) (mem-at (asc p n) j l) .0)
 
 -- ---- a turn
 
