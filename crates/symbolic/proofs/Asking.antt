@@ -1,0 +1,81 @@
+-- Questions 9, 10 and 11 at a place, by what the code finds.
+use mathlib.Core.Path.{_≡_, refl, sym, ap, _∙_}
+use mathlib.Core.Bool.{Bool, true, false, _&&_}
+use mathlib.Core.List.{List, []}
+use Prim.Native.Nat.{ℕ, zero, suc, _+_, _<_, _≤_}
+use native.Mathlib.Omega.{arith}
+use lib.ListN.{length}
+use lib.Dec.{leb}
+use borrow.Author.Tests.{le-leb}
+use Rattle.base.specs.Answers.{spot, holds, andThen}
+use Rattle.base.specs.declared.Form.{Form}
+use Rattle.base.specs.declared.Form.the-variants.{Plain, Shared, ByRow}
+use Rattle.base.specs.declared.Side.the-variants.{Lower, Upper}
+use Rattle.base.specs.declared.Refusal.{Refusal}
+use Rattle.base.specs.declared.Refusal.the-variants.{NullPivot, LowerSlots, UpperSlots}
+use Rattle.base.specs.declared.Asked.{Asked}
+use Rattle.base.specs.declared.Asked.the-variants.{Pass, Stop}
+use Rattle.fill.specs.Fill.{Pattern, filled, upperRow, lowerRow, flip}
+use Rattle.placement.specs.Placing.{plain, shared, startOf}
+use Rattle.placement.specs.PlacingLaws.{room}
+use Rattle.placing.specs.Ways.{wayOf}
+use Rattle.outcome.specs.Buffers.{Sizes}
+use Rattle.outcome.specs.Forms.{placedTo, indexNeed, valueNeed}
+use Rattle.outcome.specs.Structure.{fits, askPlace, askPlaces}
+use Rattle.outcome.specs.Placed.{lists-kept}
+use Rattle.outcome.proofs.Places.{places-hit, places-more}
+use Rattle.symbolic.specs.Pass.{placingOf, slotsOf}
+
+-- ---- the slots that a side needs
+
+module _ (P : Pattern) (n li lv ui uv k : ℕ) where
+  pub fits-upper : (f : Form) → fits f Upper P n (slotsOf li lv ui uv) k ≡ room (wayOf (placingOf f)) (upperRow P n) (lowerRow P) ui uv k
+  unfolding fits indexNeed valueNeed placedTo
+  fits-upper Plain = refl
+  fits-upper Shared = refl
+  fits-upper ByRow = refl
+
+  pub fits-plain : fits Plain Lower P n (slotsOf li lv ui uv) k ≡ room plain (lowerRow P) (lowerRow (flip P)) li lv k
+  unfolding fits indexNeed valueNeed placedTo
+  fits-plain = refl
+
+  pub fits-shared : fits Shared Lower P n (slotsOf li lv ui uv) k ≡ room shared (upperRow (flip P) n) (lowerRow (flip P)) li lv k
+  unfolding fits indexNeed valueNeed placedTo
+  fits-shared = refl
+
+-- ---- one place
+
+module _ (f : Form) (P : Pattern) (n : ℕ) (z : Sizes) (k : ℕ) where
+  asked-null : filled P k k ≡ false → askPlace f P n z k ≡ Stop (NullPivot (spot k))
+  unfolding askPlace
+  asked-null a = rw a
+
+  asked-lower : filled P k k ≡ true → fits f Lower P n z k ≡ false → askPlace f P n z k ≡ Stop (LowerSlots (spot k))
+  unfolding askPlace
+  asked-lower a b = rw (a, b)
+
+  asked-upper : filled P k k ≡ true → fits f Lower P n z k ≡ true → fits f Upper P n z k ≡ false → askPlace f P n z k ≡ Stop (UpperSlots (spot k))
+  unfolding askPlace
+  asked-upper a b c = rw (a, b, c)
+
+  asked-pass : filled P k k ≡ true → fits f Lower P n z k ≡ true → fits f Upper P n z k ≡ true → askPlace f P n z k ≡ Pass
+  unfolding askPlace
+  asked-pass a b c = rw (a, b, c)
+
+module _ (f : Form) (P : Pattern) (n : ℕ) (z : Sizes) (k : ℕ) (place : k < n) (before : askPlaces f P n z k ≡ Pass) where
+  stops : (q : Refusal) → askPlace f P n z k ≡ Stop q → askPlaces f P n z n ≡ Stop q
+  stops q e = places-hit f P n z k n q place before e
+
+  pub stop-null : filled P k k ≡ false → askPlaces f P n z n ≡ Stop (NullPivot (spot k))
+  stop-null a = stops (NullPivot (spot k)) (asked-null f P n z k a)
+
+  module _ (diagonal : filled P k k ≡ true) where
+    pub stop-lower : fits f Lower P n z k ≡ false → askPlaces f P n z n ≡ Stop (LowerSlots (spot k))
+    stop-lower b = stops (LowerSlots (spot k)) (asked-lower f P n z k diagonal b)
+
+    module _ (lower : fits f Lower P n z k ≡ true) where
+      pub stop-upper : fits f Upper P n z k ≡ false → askPlaces f P n z n ≡ Stop (UpperSlots (spot k))
+      stop-upper c = stops (UpperSlots (spot k)) (asked-upper f P n z k diagonal lower c)
+
+      pub goes-on : fits f Upper P n z k ≡ true → askPlaces f P n z (k + 1) ≡ Pass
+      goes-on c = places-more f P n z k before (asked-pass f P n z k diagonal lower c)

@@ -1,0 +1,8 @@
+-- Laws of the structure pass.
+pub mod Opening
+pub mod Keeping
+pub mod Sides
+pub mod Asking
+pub mod Plain
+pub mod Starts
+pub mod Ends

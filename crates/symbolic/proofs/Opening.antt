@@ -1,0 +1,255 @@
+-- Opening a place: what its steps leave, one after another, from the load to the lists.
+use mathlib.Core.Path.{_≡_, refl, sym, ap, _∙_}
+use mathlib.Core.Bool.{Bool, true, false}
+use mathlib.Core.List.{List, []}
+use Prim.Native.Nat.{ℕ, suc, _+_, _-_, _*_, _<_, _≤_, _/_}
+use native.Mathlib.Omega.{arith}
+use native.Mathlib.Decide.{ℕ-discrete, decLt}
+use lib.ListN.{length, getD, set, take, drop, length-take, length-drop}
+use lib.Seq.{getD-set-other, getD-set-same, set-out, ext-getD, getD-take, getD-drop}
+use Rattle.base.specs.declared.Side.{Side}
+use Rattle.base.specs.declared.Side.the-variants.{Lower, Upper}
+use Rattle.fill.specs.Fill.{Pattern, filled, upperRow, lowerRow}
+use Rattle.matrix.specs.Input.{Input, stored}
+use Rattle.marks.specs.Marks.{Room, Base, Blocks, Fresh, Holds, Free, Same, Parts}
+use Rattle.marks.specs.MarkLaws.{holds-kept}
+use Rattle.rows.specs.Rows.{Stored, Cuts, Held, Closed, Listed, But}
+use Rattle.rows.specs.CutLaws.{cuts-kept, cuts-same, cuts-but}
+use Rattle.rows.specs.FillLaws.{held-parts}
+use Rattle.rows.specs.ListLaws.{listed-lower, listed-upper, listed-but, lower-le, upper-le}
+use Rattle.columns.specs.Marks.{Below, markAt, stamped}
+use Rattle.columns.specs.Columns.{Space, orderOf, Outside, Unmarked, Untouched, Steady, Given, Ready, rowsOf}
+use Rattle.columns.specs.Sides.{sidePattern, sideRow, SideReady, SideLoaded, Inverse, Sound, rowsIn}
+use Rattle.columns.proofs.Keeps.{order-read, stamped-keeps, unmarked-stamped, rows-same}
+use Rattle.columns.proofs.WindowLaws.{ready-steady}
+use Rattle.columns.proofs.SideLaws.{side-marks, side-below, side-untouched}
+use Rattle.columns.proofs.Stored.{given-sound, side-set, side-blocks}
+use Rattle.symbolic.specs.Places.{patternOf, cutsOf, Foreign, Apart, Begun, Open, Listing, RowFound}
+use Rattle.symbolic.specs.declared.OpenRow.{OpenRow}
+
+-- ---- what is not written
+
+pub base-of : (side : Side) (n : ℕ) → Base n (cutsOf side n)
+base-of Upper n = record { low = omega arith; high = omega arith }
+base-of Lower n = record { low = omega arith; high = omega arith }
+
+pub room-of : {n : ℕ} {s : List ℕ} → Space n s → Room n s
+room-of p = record { small = p .small; long = p .fits }
+
+pub apart-then : {side : Side} {n : ℕ} {s u v : List ℕ} → Apart side n s u → Apart side n u v → Apart side n s v
+apart-then a b = record {
+  size = b .size ∙ a .size;
+  order = λ q h g. b .order q h g ∙ a .order q h g;
+  foreign = λ q f. b .foreign q f ∙ a .foreign q f;
+}
+
+-- slots written that are neither the order's nor the other side's
+apart-of : (side : Side) (n : ℕ) (s u : List ℕ) → length u ≡ length s → ((q : ℕ) → n ≤ q → (n + n ≤ q → Foreign side n q) → getD u q 0 ≡ getD s q 0) → Apart side n s u
+apart-of side n s u e k = record {
+  size = e;
+  order = λ q h g. k q h (λ w. absurd (omega arith));
+  foreign = λ q f. k q (far side q f) (λ w. f);
+}
+  where
+    far : (side : Side) (q : ℕ) → Foreign side n q → n ≤ q
+    far Upper q f = omega (arith, f .0)
+    far Lower q f = omega (arith, f .0)
+
+foreign-free : (side : Side) (n q : ℕ) → n ≤ q → (n + n ≤ q → Foreign side n q) → Free n q
+foreign-free Upper n q h f = record { past = h; away = λ w. let g = f w in omega (arith, g .0) }
+foreign-free Lower n q h f = record { past = h; away = λ w. let g = f w in omega (arith, g .0) }
+
+pub apart-same : (side : Side) (n : ℕ) (s u : List ℕ) → length u ≡ length s → Same n s u → Apart side n s u
+apart-same side n s u e k = apart-of side n s u e (λ q h f. k q (foreign-free side n q h f))
+
+foreign-list : (side : Side) (n q : ℕ) → (n + n ≤ q → Foreign side n q) → 5 * n ≤ q → 6 * n ≤ q
+foreign-list Upper n q f w = let g = f (omega arith) in g .1 w
+foreign-list Lower n q f w = let g = f (omega arith) in absurd (omega (arith, g .1))
+
+pub apart-list : (side : Side) (n hi : ℕ) (s u : List ℕ) → length u ≡ length s → hi ≤ 6 * n → But (5 * n) hi s u → Apart side n s u
+apart-list side n hi s u e l k = apart-of side n s u e (λ q h f. k q (λ w. let g = foreign-list side n q f w in omega arith))
+
+foreign-cuts : (side : Side) (n k q : ℕ) → k < n → n ≤ q → (n + n ≤ q → Foreign side n q) → cutsOf side n ≤ q → cutsOf side n + k + 1 ≤ q
+foreign-cuts Upper n k q l h f w = let g = f (omega arith) in omega (arith, g .0)
+foreign-cuts Lower n k q l h f w = let g = f (omega arith) in absurd (omega (arith, g .1))
+
+-- renewed cuts
+pub apart-cuts : (side : Side) (n k : ℕ) (s u : List ℕ) → length u ≡ length s → k < n → But (cutsOf side n) (cutsOf side n + k + 1) s u → Apart side n s u
+apart-cuts side n k s u e l b = apart-of side n s u e (λ q h f. b q (foreign-cuts side n k q l h f))
+
+-- the order that stands in scratch
+pub order-apart : {side : Side} {n : ℕ} {s u : List ℕ} → Apart side n s u → (c : ℕ) → c < n → getD (orderOf n u) c 0 ≡ getD (orderOf n s) c 0
+order-apart {side} {n} {s} {u} a c h = sym (order-read n u c h) ∙ a .order (n + c) (omega arith) (omega arith) ∙ order-read n s c h
+
+pub begun-apart : {side : Side} {i : Input} {s u : List ℕ} → Apart side (i .n) s u → Begun i s → Begun i u
+begun-apart a b = record {
+  few = b .few;
+  sound = b .sound;
+  inverse = record { place = λ j h. order-apart a j h ∙ b .inverse .place j h };
+  space = record { small = b .space .small; fits = omega (arith, b .space .fits, a .size) };
+}
+
+-- a part of scratch whose slots are as they were
+pub part-kept : (a b : ℕ) (s u : List ℕ) → length u ≡ length s → ((q : ℕ) → a ≤ q → q < a + b → getD u q 0 ≡ getD s q 0) → take b (drop a u) ≡ take b (drop a s)
+part-kept a b s u z k =
+    ext-getD 0 (take b (drop a u)) (take b (drop a s)) (simp (length-take, length-drop, z))
+    (λ j h.
+    let c : j < b = omega (arith, simp length-take at h) in
+    rw (getD-take b (drop a u) j 0 c, getD-take b (drop a s) j 0 c, getD-drop a u j 0, getD-drop a s j 0) (k (a + j) (omega arith) (omega arith)))
+
+pub order-same : {side : Side} {n : ℕ} {s u : List ℕ} → Apart side n s u → orderOf n u ≡ orderOf n s
+unfolding orderOf
+order-same {side} {n} {s} {u} a = part-kept n n s u (a .size) (a .order)
+
+pub rows-apart : (side : Side) (i : Input) (s u : List ℕ) → Apart side (i .n) s u → rowsIn i u ≡ rowsIn i s
+rows-apart side i s u a = rows-same (i .n) (i .columns) (i .starts) (i .r) s u (order-same a)
+
+-- columns can be handed out as before
+pub ready-kept : {n k hi : ℕ} {R : ℕ → List ℕ} {s u : List ℕ} → ((q : ℕ) → 4 * n + k ≤ q → q < 8 * n → (5 * n ≤ q → 6 * n ≤ q) → getD u q 0 ≡ getD s q 0) → Ready n k hi R s → Ready n k hi R u
+ready-kept {n} {k} e r = ready-steady (record {
+  heads = λ j a b. e (4 * n + j) (omega arith) (omega arith) (λ w. omega arith);
+  nodes = λ x a b. e x (omega arith) b (λ w. a);
+}) r
+
+-- ---- the load
+
+fresh-mark : (n t : ℕ) (s : List ℕ) (j : ℕ) → j < n → Fresh n (suc t) s → Fresh n (suc t) (markAt n t s j)
+fresh-mark n t s j h f x l = rw (getD-set-other (set s j t) (n + n + j / 64) x t 0 (omega arith)) (go (ℕ-discrete x j))
+  where
+    go : Dec (x ≡ j) → getD (set s j t) x 0 < suc t
+    go (yes e) = rw e (elim (decLt j (length s)) [
+      | yes a ↦ omega (arith, getD-set-same s j t 0 a)
+      | no b ↦ rw (set-out s j t (omega arith)) (f j h)
+    ])
+    go (no e) = rw (getD-set-other s j x t 0 e) (f x l)
+
+module _ (side : Side) (i : Input) (k t window : ℕ) (index runs lists s₀ : List ℕ) (o : Open side i k t window index runs lists s₀) where
+  abbrev n : ℕ
+  n = i .n
+
+  abbrev P : Pattern
+  P = patternOf side i
+
+  abbrev cuts : ℕ
+  cuts = cutsOf side (i .n)
+
+  pub open-given : Given (i .n) (i .columns) (i .starts) (i .r) s₀
+  open-given = given-sound i s₀ (o .begun .sound) (o .begun .inverse) (o .begun .space)
+
+  module _ (hi : ℕ) (s₁ : List ℕ) (loaded : SideLoaded side n t k window hi (rowsIn i s₀) s₀ s₁) where
+    abbrev row : List ℕ
+    row = sideRow side (rowsIn i s₀) n k
+
+    row-under : Below n row
+    row-under = side-below side n k (i .columns) (i .starts) (i .r) s₀ open-given (o .below)
+
+    kept : Untouched n k s₀ s₁
+    kept = side-untouched side n t k window hi (i .columns) (i .starts) (i .r) s₀ s₁ open-given (o .below) loaded
+
+    pub loaded-room : Room n s₁
+    loaded-room = record { small = o .begun .space .small; long = omega (arith, o .begun .space .fits, kept .size) }
+
+    loaded-fresh : Fresh n (suc t) s₁
+    loaded-fresh j l =
+        rw (side-marks side n t k window hi (rowsIn i s₀) s₀ s₁ loaded .slots j (λ a. omega arith) (λ a. omega arith))
+        (stamped-keeps (Fresh n (suc t)) n t (λ u x h f. fresh-mark n t u x h f) s₀ row row-under (λ x h. let f = o .held .fresh x h in omega arith) j l)
+
+    -- the marks are row k of the side's pattern
+    pub loaded-marks : Holds n t s₁ (P k)
+    loaded-marks = record {
+      blocks = side-blocks i side t k window hi s₀ s₁ (o .begun .sound) (o .begun .inverse) (o .begun .space) (o .below) (o .held .fresh) loaded;
+      exact = side-set i side t k window hi s₀ s₁ (o .begun .sound) (o .begun .inverse) (o .begun .space) (o .below) (o .held .fresh) loaded;
+      last = loaded-fresh;
+    }
+
+    cut-slot : (side : Side) (j : ℕ) → j < k → (3 * n ≤ cutsOf side n + j) × (cutsOf side n + j < 4 * n + k)
+    cut-slot Upper j l = let b = o .below in (omega arith, omega arith)
+    cut-slot Lower j l = (omega arith, omega arith)
+
+    pub loaded-cuts : Cuts P n k cuts s₁
+    loaded-cuts = cuts-kept P n k cuts s₀ s₁ (λ j l. let w = cut-slot side j l in kept .cuts (cuts + j) (w .0) (w .1)) (o .held .cut)
+
+    pub loaded-parts : Parts n k s₁ cuts index runs
+    loaded-parts = held-parts P n k index runs lists (o .held .store) cuts s₁ loaded-cuts (omega (arith, o .below))
+
+    -- the slots of the order and of the other side
+    load-foreign : (side : Side) → SideLoaded side n t k window hi (rowsIn i s₀) s₀ s₁ → Untouched n k s₀ s₁ → (q : ℕ) → Foreign side n q → getD s₁ q 0 ≡ getD s₀ q 0
+    load-foreign Upper l u q f =
+        let w = unmarked-stamped n t s₀ (rowsIn i s₀ k) (side-below Upper n k (i .columns) (i .starts) (i .r) s₀ open-given (o .below)) in
+        rw (l .0) (w .slots q (λ a. omega (arith, f .0)) (λ a. omega (arith, f .0)))
+    load-foreign Lower l u q f = u .cuts q (f .0) (omega (arith, f .1))
+
+    loaded-apart : Apart side n s₀ s₁
+    loaded-apart = record {
+      size = kept .size;
+      order = λ q h g.
+          let e : n + (q - n) ≡ q = omega arith in
+          rw (← e) (order-read n s₁ (q - n) (omega arith) ∙ ap (λ l. getD l (q - n) 0) (kept .order) ∙ sym (order-read n s₀ (q - n) (omega arith)));
+      foreign = load-foreign side loaded kept;
+    }
+
+    module _ (s₂ : List ℕ) (size₂ : length s₂ ≡ length s₁) (closed : Closed n t k cuts index runs s₁ s₂) where
+      -- the marks are row k of the fill
+      pub closed-marks : Holds n t s₂ (filled P k)
+      closed-marks = closed .fill P lists (o .held .store) loaded-cuts loaded-marks
+
+      pub closed-room : Room n s₂
+      closed-room = record { small = loaded-room .small; long = omega (arith, loaded-room .long) }
+
+      module _ (s₃ : List ℕ) (size₃ : length s₃ ≡ length s₂) (below above : ℕ) (listed : Listed P n k (5 * n) s₂ s₃ below above) where
+        fits : 5 * n + n ≤ length s₂
+        fits = omega (arith, closed-room .long)
+
+        short : below + above < n
+        short = omega (arith, listed .lower, listed .upper, lower-le P k, upper-le P n k (o .below))
+
+        others : But (5 * n) (5 * n + below + above) s₂ s₃
+        others = listed-but P n k (5 * n) s₂ s₃ below above listed fits (o .below)
+
+        apart : Apart side n s₀ s₃
+        apart = apart-then loaded-apart (apart-then (apart-same side n s₁ s₂ size₂ (closed .same)) (apart-list side n (5 * n + below + above) s₂ s₃ size₃ (omega (arith, short)) others))
+
+        next-ready : (side : Side) → SideLoaded side n t k window hi (rowsIn i s₀) s₀ s₁ → rowsIn i s₃ ≡ rowsIn i s₀ → SideReady side n (k + 1) hi (rowsIn i s₃) s₃
+        next-ready Upper l e = tt
+        next-ready Lower l e =
+            rw e (ready-kept (λ q a b c.
+            others q (λ w. omega (arith, short, c w)) ∙ closed .same q (record { past = omega arith; away = λ w. omega arith }))
+            (l .ready))
+
+        pub row-found : filled P k k ≡ true → RowFound side i k t s₀ s₃ (record { below = below; above = above; window = hi })
+        row-found d = record {
+          diagonal = d;
+          lists = record {
+            marks = holds-kept n t s₂ s₃ (filled P k) (λ q l. others q (λ w. absurd (omega arith))) closed-marks;
+            below-is = listed .lower;
+            above-is = listed .upper;
+            lower = listed-lower P n k (5 * n) s₂ s₃ below above listed fits (o .below);
+            upper = listed-upper P n k (5 * n) s₂ s₃ below above listed fits (o .below);
+          };
+          cut = cuts-kept P n k cuts s₀ s₃ (λ j l. keep-cut j l) (o .held .cut);
+          ready = next-ready side loaded (rows-apart side i s₀ s₃ apart);
+          apart = apart;
+        }
+          where
+            keep-cut : (j : ℕ) → j < k → getD s₃ (cuts + j) 0 ≡ getD s₀ (cuts + j) 0
+            keep-cut j l =
+                let w = cut-slot side j l in
+                let b = o .below in
+                others (cuts + j) (λ v. absurd (omega (arith, w .1))) ∙ closed .same (cuts + j) (record { past = omega (arith, w .0); away = λ v. omega (arith, w .0) }) ∙ kept .cuts (cuts + j) (w .0) (w .1)
+
+-- ---- by what the code reads
+
+pub cuts-upper : (side : Side) (n : ℕ) → side ≡ Upper → n + n + n ≡ cutsOf side n
+cuts-upper side n e = rw e
+
+pub cuts-lower : (side : Side) (n : ℕ) → side ≡ Lower → n + n + n + n ≡ cutsOf side n
+cuts-lower side n e = rw e
+
+pub parts-at : (n k : ℕ) (s : List ℕ) (a b : ℕ) (index runs : List ℕ) → a ≡ b → Parts n k s b index runs → Parts n k s a index runs
+parts-at n k s a b index runs e p = rw e p
+
+pub base-at : (n a b : ℕ) → a ≡ b → Base n b → Base n a
+base-at n a b e p = rw e p
+
+pub closed-at : (n t k a b : ℕ) (index runs s u : List ℕ) → a ≡ b → Closed n t k a index runs s u → Closed n t k b index runs s u
+closed-at n t k a b index runs s u e p = rw e at p

@@ -1,0 +1,124 @@
+-- Before place 0: the stores are cleared, and scratch holds the inverse column order.
+use mathlib.Core.Path.{_≡_, refl, sym, ap, _∙_}
+use mathlib.Core.List.{List, []}
+use Prim.Native.Nat.{ℕ, zero, suc, _+_, _-_, _*_, _<_, _≤_}
+use native.Mathlib.Omega.{arith}
+use lib.ListN.{length, getD, take, drop, length-append, length-take, length-drop}
+use lib.Seq.{getD-take}
+use Rattle.base.specs.Lists.{blank, table, sum}
+use Rattle.base.specs.TableLaws.{getD-table, length-table}
+use Rattle.base.specs.ZerosLaws.{blank-length, blank-at, blank-same}
+use Rattle.base.specs.declared.Form.{Form}
+use Rattle.base.specs.declared.Form.the-variants.{Plain, Shared, ByRow}
+use Rattle.fill.specs.Fill.{Pattern, upperRow, lowerRow, flip}
+use Rattle.matrix.specs.Limits.{maxRows}
+use Rattle.matrix.specs.Input.{Input, ic, stored}
+use Rattle.marks.specs.Marks.{Fresh}
+use Rattle.columns.specs.Columns.{orderOf}
+use Rattle.columns.specs.Sides.{Inverse, Sound}
+use Rattle.questions.specs.Settled.{Under, Distinct, Structured}
+use Rattle.questions.specs.Lent.{inverted, invertedAt, InverseLent}
+use Rattle.questions.specs.ScatterLaws.{placed-front, placed-inverse}
+use Rattle.outcome.proofs.Places.{places-none}
+use Rattle.placing.specs.Held.{Holding}
+use Rattle.placing.specs.HeldLaws.{holding-none}
+use Rattle.placing.specs.declared.Way.{Way}
+use Rattle.placing.specs.declared.Way.the-variants.{OneAfterAnother, Sharing}
+use Rattle.symbolic.specs.Places.{runCount, Begun, Stores, ListsAt}
+use Rattle.symbolic.specs.declared.Progress.{Progress}
+use Rattle.symbolic.specs.Pass.{nothing, noProgress, slotsOf, At, placingOf, MatrixLent, PlainLent}
+
+-- what the questions settle, as the columns ask for it
+sound-of : (i : Input) (m : ℕ) → MatrixLent i m → Sound i
+unfolding Under Distinct
+sound-of i m l =
+    let q = l .structured .readable in
+    record {
+      starts-long = l .starts-size;
+      order-long = l .rows-size;
+      rise = λ j h. q .rows j h .up;
+      within = λ j h. q .rows j h .within;
+      columns-below = q .columns;
+      row-order = q .row-order;
+      column-order = q .column-order;
+      distinct = λ k h. record { apart = λ a b x y e. l .structured .distinct k h a b x y e };
+    }
+
+pub inverse-lent : (i : Input) (m : ℕ) → MatrixLent i m → InverseLent (i .n) (i .c) (m - i .n)
+inverse-lent i m l = record { few = l .few; size = l .columns-size; slots = omega (arith, l .scratch); order = l .structured .readable .column-order }
+
+inverted-length : (o : List ℕ) (n : ℕ) (s : List ℕ) → n + n ≤ length s → length (invertedAt o n s) ≡ length s
+unfolding invertedAt inverted
+inverted-length o n s h = simp (length-append, length-take, length-drop, length-table) (omega arith)
+
+pub inverted-after : (o : List ℕ) (n : ℕ) (s u v : List ℕ) → u ≡ blank 0 s → v ≡ invertedAt o n u → v ≡ invertedAt o n (blank 0 s)
+inverted-after o n s u v a b = rw (b, a)
+
+module _ (i : Input) (s₀ s : List ℕ) (l : MatrixLent i (length s₀)) (e : s ≡ invertedAt (i .c) (i .n) (blank 0 s₀)) where
+  long : 8 * i .n ≤ length s₀
+  long = omega (arith, l .scratch)
+
+  zeros : i .n + i .n ≤ length (blank 0 s₀)
+  zeros = omega (arith, blank-length 0 s₀, long)
+
+  pub begun-of : Begun i s
+  unfolding orderOf
+  begun-of = record {
+    few = l .few;
+    sound = sound-of i (length s₀) l;
+    inverse = record { place = λ j h.
+        rw (e, placed-inverse (i .c) (i .n) (blank 0 s₀) (omega (arith, zeros))) (getD-table (ic (i .c) (i .n)) (i .n) 0 j h) };
+    space = record { small = omega (arith, l .few); fits = rw e (omega (arith, inverted-length (i .c) (i .n) (blank 0 s₀) zeros, blank-length 0 s₀, long)) };
+  }
+
+  pub fresh-of : Fresh (i .n) 1 s
+  fresh-of j h =
+      let a : getD s j 0 ≡ getD (blank 0 s₀) j 0
+      = sym (getD-take (i .n) s j 0 h) ∙ ap (λ x. getD x j 0) (ap (take (i .n)) e ∙ placed-front (i .c) (i .n) (blank 0 s₀) (omega (arith, zeros))) ∙ getD-take (i .n) (blank 0 s₀) j 0 h in
+      omega (arith, a, blank-at 0 s₀ j 0 (omega (arith, long)))
+
+-- ---- stores
+
+blank-twice : (l l′ : List ℕ) → l′ ≡ blank 0 l → l′ ≡ blank 0 l′
+blank-twice l l′ e = e ∙ blank-same 0 l l′ (sym (ap length e ∙ blank-length 0 l))
+
+cleared-held : (way : Way) (T R : ℕ → List ℕ) (n values : ℕ) (index index′ runs starts starts′ : List ℕ) → length starts ≡ n + 1
+    → index′ ≡ blank 0 index → starts′ ≡ blank 0 starts → Holding way T R values 0 (blank 0 index′) index′ runs starts′ nothing
+cleared-held way T R n values index index′ runs starts starts′ l a b =
+    rw (← blank-twice index index′ a)
+    (holding-none way T R values index′ runs starts′ (rw (b, blank-length) (omega arith)) (ap (λ x. getD x 0 0) b ∙ blank-at 0 starts 0 0 (omega arith)))
+
+pub cleared-stores : (way : Way) (n values : ℕ) (index index′ starts starts′ runs runs′ : List ℕ) → Stores way n index values starts runs → length starts′ ≡ length starts → length runs′ ≡ length runs
+    → length index′ ≡ length index → Stores way n index′ values starts′ runs′
+cleared-stores way n values index index′ starts starts′ runs runs′ z a b c =
+    record { starts-size = a ∙ z .starts-size; runs-size = b ∙ z .runs-size; slots-fit = omega (arith, z .slots-fit); values-fit = z .values-fit }
+
+blank-long : (l l′ : List ℕ) → l′ ≡ blank 0 l → length l′ ≡ length l
+blank-long l l′ e = ap length e ∙ blank-length 0 l
+
+cleared-lists : (way : Way) (P : Pattern) (n cuts values : ℕ) (starts starts′ runs runs′ index index′ s : List ℕ) → Stores way n index values starts runs
+    → starts′ ≡ blank 0 starts → length runs′ ≡ length runs → index′ ≡ blank 0 index → ListsAt way P n 0 cuts index′ values starts′ runs′ index′ s nothing
+cleared-lists way P n cuts values starts starts′ runs runs′ index index′ s z a b c = record {
+  held = cleared-held way (upperRow P n) (lowerRow P) n values index index′ runs′ starts starts′ (z .starts-size) c a;
+  cut = λ j l. absurd (omega arith);
+  stores = cleared-stores way n values index index′ starts starts′ runs runs′ z (blank-long starts starts′ a) b (blank-long index index′ c);
+}
+
+-- ---- the plain form
+
+pub plain-start : (i : Input) (ls ls′ li li′ : List ℕ) (lv : ℕ) (us us′ ui ui′ : List ℕ) (uv : ℕ) (s₀ s : List ℕ) → PlainLent i ls li lv us ui uv (length s₀)
+    → ls′ ≡ blank 0 ls → li′ ≡ blank 0 li → us′ ≡ blank 0 us → ui′ ≡ blank 0 ui → s ≡ invertedAt (i .c) (i .n) (blank 0 s₀)
+    → (g : Progress) → g ≡ noProgress → At Plain i li′ lv ui′ uv 0 ls′ ls′ li′ us′ us′ ui′ s g
+unfolding sum
+plain-start i ls ls′ li li′ lv us us′ ui ui′ uv s₀ s l a b c d e g q = rw q (record {
+  passed = sym (places-none Plain (stored i) (i .n) (slotsOf (length li′) lv (length ui′) uv));
+  most = omega arith;
+  begun = begun-of i s₀ s (l .matrix) e;
+  fresh = fresh-of i s₀ s (l .matrix) e;
+  lower = (
+    cleared-held OneAfterAnother (lowerRow (stored i)) (lowerRow (flip (stored i))) (i .n) lv li li′ ls′ ls ls′ (l .lower .starts-size) b a,
+    cleared-stores OneAfterAnother (i .n) lv li li′ ls ls′ ls ls′ (l .lower) (blank-long ls ls′ a) (blank-long ls ls′ a) (blank-long li li′ b),
+  );
+  upper = cleared-lists OneAfterAnother (stored i) (i .n) (i .n + i .n + i .n) uv us us′ us us′ ui ui′ s (l .upper) c (blank-long us us′ c) d;
+  products-are = refl;
+})

@@ -1,0 +1,71 @@
+use Rattle.symbolic.proofs.Keeping.{keep-fits, keep-list, keep-turn, keep-ready, kept-next, next-lists, stepped-done, stepped-full}
+use Rattle.symbolic.specs.Places.{Keep}
+use Rattle.fill.specs.Fill.{Pattern, upperRow, lowerRow}
+use Rattle.base.specs.Lists.{blank}
+use Rattle.placing.specs.Held.{Stepped}
+use Rattle.placing.specs.declared.Way.the-variants.{OneAfterAnother}
+use mathlib.Core.List.{List}
+use Prim.Native.Nat.{ℕ, _+_}
+use native.Mathlib.Omega.{arith}
+use borrow.Author.Needs.{needs}
+use Rattle.symbolic.proofs.keep_plain.Statement.{statement}
+use Rattle.symbolic.proofs.keep_plain.Tie as tie
+
+abbrev Begin : tie.After-place-plain → tie.Start
+Begin p = p .before .before .before .before .before .before .before .before .before .before
+
+-- what the caller holds, for a pattern and a store
+abbrev Held : tie.Start → Pattern → List ℕ → Type 0
+Held s P store = let a = s .args in
+    Keep OneAfterAnother P (a .n) (a .k .0) (a .stamp) (a .n + a .n + a .n) store (a .values) (a .starts .now) (a .starts .now) (a .index .now) (a .marks .now) (a .row) (a .e)
+
+add-mid : tie.Need-add-mid
+add-mid c = let h = c .before .before .before .before .pre .keep in omega (arith, keep-fits h, h .few)
+
+add-end : tie.Need-add-end
+add-end c = let h = c .before .before .before .before .before .pre .keep in omega (arith, keep-fits h, h .few)
+
+mul-place-plain : tie.Need-mul-place-plain
+mul-place-plain c = let h = c .before .before .before .before .before .before .before .pre .keep in omega (arith, keep-fits h, h .few)
+
+part-place-plain-end : tie.Need-part-place-plain-end
+part-place-plain-end c = let h = c .before .before .before .before .before .before .before .before .pre .keep in omega (arith, keep-fits h, h .space .long)
+
+place-plain-requires : tie.Need-place-plain-requires
+place-plain-requires c κs =
+    let h = c .before .before .before .before .before .before .before .before .before .pre .keep in
+    keep-ready h _ _ tt (keep-list h)
+
+-- what placing tells
+step : (p : tie.After-place-plain) (P : Pattern) (store : List ℕ) → Held (Begin p) P store
+    → Stepped OneAfterAnother (upperRow P (Begin p .args .n)) (lowerRow P) (Begin p .args .values) (Begin p .args .k .0) (blank 0 store) (p .place-plain .last .0) (p .place-plain .last .1 .0) (p .place-plain .last .1 .0) (p .place-plain .result)
+step p P store h = p .place-plain .ensures .steps (upperRow P (Begin p .args .n)) (lowerRow P) (Begin p .args .n) (blank 0 store) (keep-turn h _ _ tt (keep-list h))
+
+renew-cuts-requires : tie.Need-renew-cuts-requires
+renew-cuts-requires c κs =
+    let a = c .before .before .before .before in
+    let p = a .before .before .before .before .before .before in
+    let s = Begin p in
+    let h = s .pre .keep in
+    let d = stepped-done _ _ _ _ _ _ _ _ _ _ _ (a .put .given .1) (step p (s .pre .pattern) (s .pre .store) h) in
+    (next-lists h _ _ _ _ (d .1), ((h .below, h .base, h .space), h .lists .marks .blocks))
+
+returns : tie.Need-returns
+returns c =
+    let a = c .before .before .before .before .before .before .before in
+    let p = a .before .before .before .before .before .before in
+    λ P store h.
+    let d = stepped-done _ _ _ _ _ _ _ _ _ _ _ (a .put .given .1) (step p P store h) in
+    kept-next h _ _ _ _ (d .1) (d .0) (p .place-plain .kept .1 .0) (p .place-plain .kept .1 .0) _ (c .before .before .renew-cuts .ensures)
+
+returns-2 : tie.Need-returns-2
+returns-2 c =
+    let p = c .before .before .before .before .before .before in
+    λ P store h. stepped-full _ _ _ _ _ _ _ _ _ _ (c .enum-told .given .1) (step p P store h)
+
+pub keep-plain-spec : {M : Type 1} → statement M
+keep-plain-spec =
+    tie.close
+    (tie.spec (λ c. search needs) add-mid add-end mul-place-plain (λ c. search needs) (λ c. search needs) part-place-plain-end place-plain-requires
+    (λ c. search needs) (λ c. search needs) (λ c. search needs) renew-cuts-requires (λ c. search needs) (λ c. search needs) (λ c. search needs) (λ c. search needs)
+    returns (λ c. search needs) (λ c. search needs) (λ c. search needs) returns-2)

@@ -1,0 +1,93 @@
+use Rattle.symbolic.proofs.Opening.{open-given, loaded-room, loaded-marks, loaded-parts, closed-marks, closed-room, row-found, base-of, base-at, parts-at, closed-at}
+use Rattle.symbolic.specs.Places.{Open, patternOf, cutsOf}
+use Rattle.matrix.specs.Input.{Input, inputOf}
+use Rattle.rows.specs.Rows.{Closed}
+use mathlib.Core.Path.{_≡_, sym, _∙_}
+use mathlib.Core.List.{List, []}
+use Prim.Native.Nat.{ℕ}
+use native.Mathlib.Omega.{arith}
+use borrow.Author.Needs.{needs}
+use Rattle.symbolic.proofs.open_place.Statement.{statement}
+use Rattle.symbolic.proofs.open_place.Tie as tie
+
+abbrev Begin : tie.After-load → tie.Start
+Begin l = l .before .before .before .before .before .before .before .before .before
+
+abbrev Load : tie.After-close-place → tie.After-load
+Load p = p .before .before .before .before .before
+
+-- what was lent, with some column order
+abbrev given : tie.Start → List ℕ → Input
+given s c = inputOf (s .args .n) (s .args .starts .now) (s .args .columns .now) [] (s .args .r .now) c []
+
+load-requires : tie.Need-load-requires
+load-requires c κs =
+    let s = c .before .before .before .before .before .before .before .before in
+    let o = s .pre .due in
+    (open-given _ (given s (s .pre .order)) _ _ _ _ _ _ _ o, (o .ready, o .below))
+
+close-place-requires : tie.Need-close-place-requires
+close-place-requires c κs =
+    let e = c .before .cuts-of .ensures in
+    let l = c .before .before .before .before in
+    let s = Begin l in
+    let o = s .pre .due in
+    let i = given s (s .pre .order) in (
+      parts-at _ _ _ _ _ _ _ e (loaded-parts _ i _ _ _ _ _ _ _ o _ _ (l .load .ensures)),
+      ((o .below, base-at _ _ _ e (base-of (s .args .side) (s .args .n)), loaded-room _ i _ _ _ _ _ _ _ o _ _ (l .load .ensures)), loaded-marks _ i _ _ _ _ _ _ _ o _ _ (l .load .ensures) .blocks),
+    )
+
+-- the place is closed over the lists before it
+closed : (p : tie.After-close-place) → let s = Begin (Load p) .args in
+    Closed (s .n) (s .stamp) (s .k .0) (cutsOf (s .side) (s .n)) (s .index .now) (s .runs .now) (Load p .load .last .1 .0) (p .close-place .last .0)
+closed p = closed-at _ _ _ _ _ _ _ _ _ (p .before .before .cuts-of .ensures) (p .close-place .ensures)
+
+has-diagonal-requires : tie.Need-has-diagonal-requires
+has-diagonal-requires c κs =
+    let p = c .before .before .before in
+    let l = Load p in
+    let s = Begin l in
+    let o = s .pre .due in
+    let r = closed-room _ (given s (s .pre .order)) _ _ _ _ _ _ _ o _ _ (l .load .ensures) _ (p .close-place .kept .0) (closed p) in
+    omega (arith, r .long, o .below)
+
+list-place-requires : tie.Need-list-place-requires
+list-place-requires c κs =
+    let p = c .before .before .before .before .before .before in
+    let l = Load p in
+    let s = Begin l in
+    let o = s .pre .due in
+    let i = given s (s .pre .order) in
+    let r = closed-room _ i _ _ _ _ _ _ _ o _ _ (l .load .ensures) _ (p .close-place .kept .0) (closed p) in
+    let h = closed-marks _ i _ _ _ _ _ _ _ o _ _ (l .load .ensures) _ (p .close-place .kept .0) (closed p) in
+    ((o .below, omega arith, omega (arith, r .long), r), h .blocks)
+
+returns : tie.Need-returns
+returns c =
+    let t = c .before .before in
+    let d = t .before .before .before in
+    let p = d .before .before .before .before in
+    let l = Load p in
+    let s = Begin l in
+    λ order lists o.
+    let i = given s order in
+    let h = closed-marks _ i _ _ _ _ _ _ _ o _ _ (l .load .ensures) _ (p .close-place .kept .0) (closed p) in
+    row-found _ i _ _ _ _ _ _ _ o _ _ (l .load .ensures) _ (p .close-place .kept .0) (closed p) _ (t .list-place .kept .0) _ _ (t .list-place .ensures (patternOf (s .args .side) i) h)
+    (sym (d .has-diagonal .ensures .1 (s .args .n) (patternOf (s .args .side) i) (o .below) h) ∙ t .before .before .if1 .taken)
+
+returns-2 : tie.Need-returns-2
+returns-2 c =
+    let d = c .before in
+    let p = d .before .before .before .before in
+    let l = Load p in
+    let s = Begin l in
+    λ order lists o.
+    let i = given s order in
+    let h = closed-marks _ i _ _ _ _ _ _ _ o _ _ (l .load .ensures) _ (p .close-place .kept .0) (closed p) in
+    sym (d .has-diagonal .ensures .1 (s .args .n) (patternOf (s .args .side) i) (o .below) h) ∙ c .if1 .left
+
+pub open-place-spec : {M : Type 1} → statement M
+open-place-spec =
+    tie.close
+    (tie.spec (λ c. search needs) load-requires (λ c κs. search needs) close-place-requires has-diagonal-requires (λ c. search needs) list-place-requires
+    (λ c. search needs) returns (λ c. search needs) returns-2)

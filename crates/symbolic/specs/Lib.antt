@@ -1,0 +1,3 @@
+-- Definitions of the structure pass.
+pub mod Places
+pub mod Pass

@@ -1,0 +1,209 @@
+-- One place of one side of the structure pass: what its steps find and leave. Definitions only.
+use mathlib.Core.Path.{_≡_}
+use mathlib.Core.Bool.{true, false}
+use mathlib.Core.List.{List, []}
+use Prim.Native.Nat.{ℕ, suc, _+_, _*_, _<_, _≤_}
+use lib.ListN.{length, getD, take, drop}
+use Rattle.base.specs.Lists.{blank, sum}
+use Rattle.base.specs.declared.Side.{Side}
+use Rattle.base.specs.declared.Side.the-variants.{Lower, Upper}
+use Rattle.fill.specs.Fill.{Pattern, filled, upperRow, lowerRow, flip}
+use Rattle.matrix.specs.Limits.{maxRows, maxSlots}
+use Rattle.matrix.specs.Input.{Input, inputOf, stored}
+use Rattle.placement.specs.Placing.{plain}
+use Rattle.placement.specs.PlacingLaws.{room}
+use Rattle.marks.specs.Marks.{Room, Base, Fresh, Holds}
+use Rattle.rows.specs.Rows.{Stored, Cuts, Held, But, rowSteps}
+use Rattle.columns.specs.Columns.{Space}
+use Rattle.columns.specs.Sides.{sidePattern, SideReady, Inverse, Sound, rowsIn}
+use Rattle.placing.specs.Ways.{wayOf}
+use Rattle.placing.specs.Held.{Holding}
+use Rattle.placing.specs.declared.Way.{Way}
+use Rattle.placing.specs.declared.Way.the-variants.{OneAfterAnother, Sharing}
+use Rattle.placing.specs.declared.Extent.{Extent}
+use Rattle.placing.specs.declared.Put.{Put}
+use Rattle.placing.specs.declared.Put.the-variants.{Done, Full}
+use Rattle.symbolic.specs.declared.OpenRow.{OpenRow}
+use Rattle.symbolic.specs.declared.Opened.{Opened}
+use Rattle.symbolic.specs.declared.Opened.the-variants.{Unfilled, Row}
+use Rattle.symbolic.specs.declared.SidePlace.{SidePlace}
+use Rattle.symbolic.specs.declared.SideEnd.{SideEnd}
+use Rattle.symbolic.specs.declared.SideEnd.the-variants.{NoDiagonal, NoRoom, Placed}
+
+-- M' for the upper side, with rows and columns exchanged for the lower one
+abbrev pub patternOf : Side → Input → Pattern
+patternOf side i = sidePattern side (stored i)
+
+-- where the cuts of a side's lists stand in scratch
+abbrev pub cutsOf : Side → ℕ → ℕ
+cutsOf Upper n = n + n + n
+cutsOf Lower n = n + n + n + n
+
+-- the slots that a side's work leaves to the other side: the lower cuts, the heads and the nodes, or the upper cuts
+abbrev pub Foreign : Side → ℕ → ℕ → Type 0
+Foreign Upper n q = (4 * n ≤ q) × (5 * n ≤ q → 6 * n ≤ q)
+Foreign Lower n q = (3 * n ≤ q) × (q < 4 * n)
+
+-- the inverse order and the other side's slots are as they were
+pub record Apart (side : Side) (n : ℕ) (s₀ s : List ℕ) : Type 0 where
+  pub size : length s ≡ length s₀
+  pub order : (q : ℕ) → n ≤ q → q < n + n → getD s q 0 ≡ getD s₀ q 0
+  pub foreign : (q : ℕ) → Foreign side n q → getD s q 0 ≡ getD s₀ q 0
+
+-- what questions 1 to 8 and the inverse order settle for the whole pass
+pub record Begun (i : Input) (s : List ℕ) : Type 0 where
+  pub few : i .n ≤ maxRows
+  pub sound : Sound i
+  pub inverse : Inverse i s
+  pub space : Space (i .n) s
+
+-- ---- opening place k: its lists are found
+
+-- what it finds; starts are the side's list starts
+pub record Open (side : Side) (i : Input) (k t window : ℕ) (index runs starts s : List ℕ) : Type 0 where
+  pub begun : Begun i s
+  pub below : k < i .n
+  pub held : Held (patternOf side i) (i .n) k t (cutsOf side (i .n)) s index runs starts
+  pub ready : SideReady side (i .n) k window (rowsIn i s) s
+
+-- the same, for some column order and some list starts: neither is lent
+pub record Opening (side : Side) (n k t window : ℕ) (starts columns r index runs s : List ℕ) : Type 0 where
+  pub order : List ℕ
+  pub lists : List ℕ
+  pub due : Open side (inputOf n starts columns [] r order []) k t window index runs lists s
+
+-- lower row k and T(k) of the pattern stand in scratch from slot 5n on, and the marks are row k of the fill
+pub record Listing (P : Pattern) (n k t : ℕ) (s : List ℕ) (below above : ℕ) : Type 0 where
+  pub marks : Holds n t s (filled P k)
+  pub below-is : below ≡ length (lowerRow P k)
+  pub above-is : above ≡ length (upperRow P n k)
+  pub lower : take below (drop (5 * n) s) ≡ lowerRow P k
+  pub upper : take above (drop (5 * n + below) s) ≡ upperRow P n k
+
+-- (k, k) is filled, and its lists are found
+pub record RowFound (side : Side) (i : Input) (k t : ℕ) (s₀ s : List ℕ) (o : OpenRow) : Type 0 where
+  pub diagonal : filled (patternOf side i) k k ≡ true
+  pub lists : Listing (patternOf side i) (i .n) k t s (o .below) (o .above)
+  pub cut : Cuts (patternOf side i) (i .n) k (cutsOf side (i .n)) s
+  pub ready : SideReady side (i .n) (k + 1) (o .window) (rowsIn i s) s
+  pub apart : Apart side (i .n) s₀ s
+
+abbrev pub OpenEnds : Side → Input → ℕ → ℕ → List ℕ → List ℕ → Opened → Type 0
+OpenEnds side i k t s₀ s Unfilled = filled (patternOf side i) k k ≡ false
+OpenEnds side i k t s₀ s (Row o) = RowFound side i k t s₀ s o
+
+-- ---- keeping T(k): it is placed, and the cuts are renewed
+
+-- how many run starts a way has: in the plain form the list starts are the run starts
+abbrev pub runCount : Way → ℕ → ℕ
+runCount OneAfterAnother n = n + 1
+runCount Sharing n = n
+
+-- the lengths of a side's stores; store is its index store before the pass
+pub record Stores (way : Way) (n : ℕ) (store : List ℕ) (values : ℕ) (starts runs : List ℕ) : Type 0 where
+  pub starts-size : length starts ≡ n + 1
+  pub runs-size : length runs ≡ runCount way n
+  pub slots-fit : length store ≤ maxSlots
+  pub values-fit : values ≤ maxSlots
+
+-- a side's lists before place k, in stores that were cleared before the first
+pub record ListsAt (way : Way) (P : Pattern) (n k cuts : ℕ) (store : List ℕ) (values : ℕ) (starts runs index s : List ℕ) (e : Extent) : Type 0 where
+  pub held : Holding way (upperRow P n) (lowerRow P) values k (blank 0 store) index runs starts e
+  pub cut : Cuts P n k cuts s
+  pub stores : Stores way n store values starts runs
+
+pub record Keep (way : Way) (P : Pattern) (n k t cuts : ℕ) (store : List ℕ) (values : ℕ) (starts runs index s : List ℕ) (o : OpenRow) (e : Extent) : Type 0 where
+  pub below : k < n
+  pub few : n ≤ maxRows
+  pub space : Room n s
+  pub base : Base n cuts
+  pub lists : Listing P n k t s (o .below) (o .above)
+  pub at : ListsAt way P n k cuts store values starts runs index s e
+
+-- the same, for some pattern and some store
+pub record Keeping (way : Way) (n k t cuts values : ℕ) (starts runs index s : List ℕ) (o : OpenRow) (e : Extent) : Type 0 where
+  pub pattern : Pattern
+  pub store : List ℕ
+  pub keep : Keep way pattern n k t cuts store values starts runs index s o e
+
+pub record Kept (way : Way) (P : Pattern) (n k cuts : ℕ) (store : List ℕ) (values : ℕ) (starts runs index s₀ s : List ℕ) (e : Extent) : Type 0 where
+  pub fits : room (wayOf way) (upperRow P n) (lowerRow P) (length store) values k ≡ true
+  pub at : ListsAt way P n (k + 1) cuts store values starts runs index s e
+  pub but : But cuts (cuts + k + 1) s₀ s
+
+abbrev pub KeepEnds : Way → Pattern → ℕ → ℕ → ℕ → List ℕ → ℕ → List ℕ → List ℕ → List ℕ → List ℕ → List ℕ → Put → Type 0
+KeepEnds way P n k cuts store values starts runs index s₀ s (Done e) = Kept way P n k cuts store values starts runs index s₀ s e
+KeepEnds way P n k cuts store values starts runs index s₀ s Full = room (wayOf way) (upperRow P n) (lowerRow P) (length store) values k ≡ false
+
+-- ---- keeping lower row k in the plain form
+
+pub record KeepLower (P : Pattern) (n k : ℕ) (store : List ℕ) (values : ℕ) (starts index s : List ℕ) (count : ℕ) (e : Extent) : Type 0 where
+  pub below : k < n
+  pub few : n ≤ maxRows
+  pub space : Room n s
+  pub size : count ≡ length (lowerRow P k)
+  pub list : take count (drop (5 * n) s) ≡ lowerRow P k
+  pub held : Holding OneAfterAnother (lowerRow P) (lowerRow (flip P)) values k (blank 0 store) index starts starts e
+  pub stores : Stores OneAfterAnother n store values starts starts
+
+-- the same, for some pattern and some store
+pub record KeepingLower (n k values : ℕ) (starts index s : List ℕ) (count : ℕ) (e : Extent) : Type 0 where
+  pub pattern : Pattern
+  pub store : List ℕ
+  pub keep : KeepLower pattern n k store values starts index s count e
+
+abbrev pub LowerEnds : Pattern → ℕ → List ℕ → ℕ → List ℕ → List ℕ → Put → Type 0
+LowerEnds P k store values starts index (Done e) =
+    (room plain (lowerRow P) (lowerRow (flip P)) (length store) values k ≡ true) × Holding OneAfterAnother (lowerRow P) (lowerRow (flip P)) values (k + 1) (blank 0 store) index starts starts e
+LowerEnds P k store values starts index Full = room plain (lowerRow P) (lowerRow (flip P)) (length store) values k ≡ false
+
+-- ---- the products of place k, added to those before
+
+-- lower row k stands in scratch, and the lists of the places before k in their stores
+pub record Adding (P : Pattern) (n k : ℕ) (index runs starts s : List ℕ) (count products : ℕ) : Type 0 where
+  pub below : k < n
+  pub few : n ≤ maxRows
+  pub space : Room n s
+  pub size : count ≡ length (lowerRow P k)
+  pub list : take count (drop (5 * n) s) ≡ lowerRow P k
+  pub store : Stored P n k index runs starts
+  pub before : products ≡ sum k (rowSteps P n)
+
+-- the same, for some pattern, place, index store and run starts
+pub record Addable (n : ℕ) (starts s : List ℕ) (count products : ℕ) : Type 0 where
+  pub pattern : Pattern
+  pub place : ℕ
+  pub index : List ℕ
+  pub runs : List ℕ
+  pub adding : Adding pattern n place index runs starts s count products
+
+-- ---- one side of the sharing forms at place k
+
+pub record SideAt (side : Side) (i : Input) (store : List ℕ) (values k t window : ℕ) (starts runs index s : List ℕ) (e : Extent) : Type 0 where
+  pub begun : Begun i s
+  pub below : k < i .n
+  pub fresh : Fresh (i .n) t s
+  pub ready : SideReady side (i .n) k window (rowsIn i s) s
+  pub at : ListsAt Sharing (patternOf side i) (i .n) k (cutsOf side (i .n)) store values starts runs index s e
+
+-- the same, for some column order and some store
+pub record SideDue (side : Side) (n values k t window : ℕ) (mstarts columns r starts runs index s : List ℕ) (e : Extent) : Type 0 where
+  pub order : List ℕ
+  pub store : List ℕ
+  pub due : SideAt side (inputOf n mstarts columns [] r order []) store values k t window starts runs index s e
+
+pub record SideNext (side : Side) (i : Input) (store : List ℕ) (values k t : ℕ) (starts runs index s₀ s : List ℕ) (p : SidePlace) : Type 0 where
+  pub diagonal : filled (patternOf side i) k k ≡ true
+  pub fits : room (wayOf Sharing) (upperRow (patternOf side i) (i .n)) (lowerRow (patternOf side i)) (length store) values k ≡ true
+  pub at : ListsAt Sharing (patternOf side i) (i .n) (k + 1) (cutsOf side (i .n)) store values starts runs index s (p .extent)
+  pub ready : SideReady side (i .n) (k + 1) (p .window) (rowsIn i s) s
+  pub last : Fresh (i .n) (suc t) s
+  pub apart : Apart side (i .n) s₀ s
+  pub size : p .below ≡ length (lowerRow (patternOf side i) k)
+  pub lower : take (p .below) (drop (5 * i .n) s) ≡ lowerRow (patternOf side i) k
+
+abbrev pub SideEnds : Side → Input → List ℕ → ℕ → ℕ → ℕ → List ℕ → List ℕ → List ℕ → List ℕ → List ℕ → SideEnd → Type 0
+SideEnds side i store values k t starts runs index s₀ s NoDiagonal = filled (patternOf side i) k k ≡ false
+SideEnds side i store values k t starts runs index s₀ s NoRoom =
+    (filled (patternOf side i) k k ≡ true) × (room (wayOf Sharing) (upperRow (patternOf side i) (i .n)) (lowerRow (patternOf side i)) (length store) values k ≡ false)
+SideEnds side i store values k t starts runs index s₀ s (Placed p) = SideNext side i store values k t starts runs index s₀ s p

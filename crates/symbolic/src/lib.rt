@@ -1,0 +1,318 @@
+// The structure pass of the three forms: the lists of every place are found and placed, and 9, 10 and 11 are asked at each.
+// Scratch: marks, inverse column order, block stamps, cuts of the upper lists, cuts of the lower lists and heads of columns,
+// the list at work (lower row k and then T(k)), and two regions of nodes; n slots each.
+ghost use mathlib.Core.Path.{_≡_};
+ghost use mathlib.Core.List.{List, []};
+ghost use Prim.Native.Nat.{ℕ, _+_, _-_, _≤_};
+ghost use lib.ListN.{length};
+ghost use Rattle.matrix.specs.Input.{inputOf};
+ghost use Rattle.fill.specs.Fill.{Pattern};
+ghost use Rattle.rows.specs.Rows.{rowSteps};
+ghost use Rattle.base.specs.Lists.{blank, sum};
+ghost use Rattle.base.specs.declared.Form.{Form};
+ghost use Rattle.placing.specs.declared.Way.{Way};
+ghost use Rattle.questions.specs.Lent.{invertedAt, InverseLent};
+ghost use Rattle.symbolic.specs.Pass.{At, Due, TurnEnds, noProgress, countsAt, slotsOf, FoundBoth, PlainLent};
+ghost use Rattle.symbolic.specs.Places.{cutsOf, Open, Opening, OpenEnds, Keep, Keeping, KeepEnds, KeepLower, KeepingLower, LowerEnds, Adding, Addable};
+use base::Answer;
+use base::Counts;
+use base::Place;
+use base::Refusal;
+use base::Side;
+use placing::Extent;
+use placing::Put;
+use placing::Way;
+
+// A place's lists in scratch: how long its lower row and its T(k) are, and the end of the window of columns at hand.
+pub struct OpenRow {
+    pub below: usize,
+    pub above: usize,
+    pub window: usize,
+}
+
+// How opening a place ends: (k, k) is not filled, or the lists are found.
+pub enum Opened {
+    Unfilled,
+    Row(OpenRow),
+}
+
+// A side's list is in its stores: how long the place's lower row is, the end of the window, and how much is placed.
+pub struct SidePlace {
+    pub below: usize,
+    pub window: usize,
+    pub extent: Extent,
+}
+
+// How one side of a place ends: (k, k) is not filled, the stores are short of slots, or the list is in them.
+pub enum SideEnd {
+    NoDiagonal,
+    NoRoom,
+    Placed(SidePlace),
+}
+
+// How far the pass is: how much is placed on each side, the products so far, and the end of the window of columns.
+// In the row form, which keeps no lower lists, the entries of `lower` count those that they would have.
+pub struct Progress {
+    pub lower: Extent,
+    pub upper: Extent,
+    pub products: u64,
+    pub window: usize,
+}
+
+// How a place ends: the next one follows, or the pass ends with a refusal.
+pub enum Turned {
+    Next(Progress),
+    Stopped(Refusal),
+}
+
+// Where the cuts of a side's lists stand in scratch.
+fn cuts_of(side: Side, n: usize) -> usize
+    requires { ⌜ n ≤ 65536 ⌝ }
+    ensures { λ r. ⌜ r ≡ cutsOf side n ⌝ }
+{
+    match side {
+        Side::Upper => n + n + n,
+        Side::Lower => n + n + n + n,
+    }
+}
+
+// Finds lower row k and T(k) of a side: row k of M' above the diagonal, column k below, closed over the lists before it.
+fn open_place(
+    side: Side,
+    n: usize,
+    starts: &[u32],
+    columns: &[u16],
+    r: &[u16],
+    index: &[u16],
+    runs: &[u32],
+    marks: &mut [u32],
+    stamp: u32,
+    k: Place,
+    window: usize,
+) -> Opened
+    requires { ⌜ Opening side n (k .0) stamp window (now starts) (now columns) (now r) (now index) (now runs) (now marks) ⌝ }
+    ensures { λ o. ⌜ ((c lists : List ℕ) → Open side (inputOf n (now (starts .entry)) (now (columns .entry)) [] (now (r .entry)) c []) (k .0) stamp window (now (index .entry)) (now (runs .entry)) lists (now (marks .entry)) → OpenEnds side (inputOf n (now (starts .entry)) (now (columns .entry)) [] (now (r .entry)) c []) (k .0) stamp (now (marks .entry)) (now (marks .exit)) o) ⌝ }
+{
+    let p = k.0 as usize;
+    let end = columns::load(side, marks, n, stamp, p, window, columns, starts, r);
+    let cuts = cuts_of(side, n);
+    rows::close_place(marks, n, stamp, k, cuts, index, runs);
+    if rows::has_diagonal(marks, stamp, k) {
+        let found = rows::list_place(marks, n, stamp, k, 5 * n);
+        return Opened::Row(OpenRow {
+            below: found.below,
+            above: found.above,
+            window: end,
+        });
+    }
+    Opened::Unfilled
+}
+
+// T(k) goes into the stores in the sharing way, and the cuts for place k + 1 are made.
+fn keep_shared(
+    n: usize,
+    starts: &mut [u32],
+    runs: &mut [u32],
+    index: &mut [u16],
+    values: usize,
+    marks: &mut [u32],
+    stamp: u32,
+    k: Place,
+    cuts: usize,
+    row: OpenRow,
+    e: Extent,
+) -> Put
+    requires { ⌜ Keeping Way.Sharing n (k .0) stamp cuts values (now starts) (now runs) (now index) (now marks) row e ⌝ }
+    ensures { λ o. ⌜ ((P : Pattern) (store : List ℕ) → Keep Way.Sharing P n (k .0) stamp cuts store values (now (starts .entry)) (now (runs .entry)) (now (index .entry)) (now (marks .entry)) row e → KeepEnds Way.Sharing P n (k .0) cuts store values (now (starts .exit)) (now (runs .exit)) (now (index .exit)) (now (marks .entry)) (now (marks .exit)) o) ⌝ }
+{
+    let at = 5 * n;
+    let mid = at + row.below;
+    let end = mid + row.above;
+    let put = placing::place_list(Way::Sharing, index, runs, starts, values, &marks[at..mid], &marks[mid..end], k, e);
+    match put {
+        Put::Done(next) => {
+            rows::renew_cuts(marks, n, stamp, k, cuts, index, runs, starts);
+            Put::Done(next)
+        }
+        Put::Full => Put::Full,
+    }
+}
+
+// The same in the plain form.
+fn keep_plain(
+    n: usize,
+    starts: &mut [u32],
+    index: &mut [u16],
+    values: usize,
+    marks: &mut [u32],
+    stamp: u32,
+    k: Place,
+    row: OpenRow,
+    e: Extent,
+) -> Put
+    requires { ⌜ Keeping Way.OneAfterAnother n (k .0) stamp (n + n + n) values (now starts) (now starts) (now index) (now marks) row e ⌝ }
+    ensures { λ o. ⌜ ((P : Pattern) (store : List ℕ) → Keep Way.OneAfterAnother P n (k .0) stamp (n + n + n) store values (now (starts .entry)) (now (starts .entry)) (now (index .entry)) (now (marks .entry)) row e → KeepEnds Way.OneAfterAnother P n (k .0) (n + n + n) store values (now (starts .exit)) (now (starts .exit)) (now (index .exit)) (now (marks .entry)) (now (marks .exit)) o) ⌝ }
+{
+    let mid = 5 * n + row.below;
+    let end = mid + row.above;
+    let put = placing::place_plain(index, starts, values, &marks[mid..end], k, e);
+    match put {
+        Put::Done(next) => {
+            rows::renew_cuts(marks, n, stamp, k, n + n + n, index, starts, starts);
+            Put::Done(next)
+        }
+        Put::Full => Put::Full,
+    }
+}
+
+// Lower row k goes into the stores of the plain form.
+fn keep_lower(
+    n: usize,
+    starts: &mut [u32],
+    index: &mut [u16],
+    values: usize,
+    marks: &[u32],
+    k: Place,
+    below: usize,
+    e: Extent,
+) -> Put
+    requires { ⌜ KeepingLower n (k .0) values (now starts) (now index) (now marks) below e ⌝ }
+    ensures { λ o. ⌜ ((P : Pattern) (store : List ℕ) → KeepLower P n (k .0) store values (now (starts .entry)) (now (index .entry)) (now (marks .entry)) below e → LowerEnds P (k .0) store values (now (starts .exit)) (now (index .exit)) o) ⌝ }
+{
+    let at = 5 * n;
+    let mid = at + below;
+    placing::place_plain(index, starts, values, &marks[at..mid], k, e)
+}
+
+// The products of place k, added to those before it: its lower row stands in scratch.
+fn add_products(n: usize, starts: &[u32], marks: &[u32], below: usize, before: u64) -> u64
+    requires { ⌜ Addable n (now starts) (now marks) below before ⌝ }
+    ensures { λ r. ⌜ ((P : Pattern) (k : ℕ) (index runs : List ℕ) → Adding P n k index runs (now (starts .entry)) (now (marks .entry)) below before → r ≡ sum (k + 1) (rowSteps P n)) ⌝ }
+{
+    let at = 5 * n;
+    let end = at + below;
+    before + rows::row_products(&marks[at..end], starts)
+}
+
+// ---- the ends of the pass
+
+// Scratch is zero but for the inverse column order.
+fn begin_marks(n: usize, c: &[u16], marks: &mut [u32])
+    requires { ⌜ InverseLent n (now c) (length (now marks) - n) ⌝ }
+    ensures { λ _. ⌜ now (marks .exit) ≡ invertedAt (now (c .entry)) n (blank 0 (now (marks .entry))) ⌝ }
+{
+    base::clear_u32(marks);
+    questions::invert_at(n, c, marks);
+}
+
+fn no_progress() -> Progress
+    ensures { λ g. ⌜ g ≡ noProgress ⌝ }
+{
+    let none = Extent {
+        used: 0,
+        last: 0,
+        entries: 0,
+    };
+    Progress {
+        lower: none,
+        upper: none,
+        products: 0,
+        window: 0,
+    }
+}
+
+fn counts_at(g: Progress) -> Counts
+    ensures { λ c. ⌜ c ≡ countsAt g ⌝ }
+{
+    let lower = g.lower;
+    let upper = g.upper;
+    Counts {
+        lower: lower.entries as u64,
+        upper: upper.entries as u64,
+        products: g.products,
+    }
+}
+
+// ---- the plain form
+
+// Place k: 9, 10 and 11 are asked, and its lists are placed.
+fn plain_place(
+    n: usize,
+    starts: &[u32],
+    columns: &[u16],
+    r: &[u16],
+    lower_starts: &mut [u32],
+    lower_index: &mut [u16],
+    lower_values: usize,
+    upper_starts: &mut [u32],
+    upper_index: &mut [u16],
+    upper_values: usize,
+    marks: &mut [u32],
+    k: Place,
+    g: Progress,
+) -> Turned
+    requires { ⌜ Due Form.Plain n «lower_values» «upper_values» (k .0) (now starts) (now columns) (now r) (now «lower_starts») (now «lower_starts») (now «lower_index») (now «upper_starts») (now «upper_starts») (now «upper_index») (now marks) g ⌝ }
+    ensures { λ t. ⌜ ((c low up : List ℕ) → At Form.Plain (inputOf n (now (starts .entry)) (now (columns .entry)) [] (now (r .entry)) c []) low «lower_values» up «upper_values» (k .0) (now («lower_starts» .entry)) (now («lower_starts» .entry)) (now («lower_index» .entry)) (now («upper_starts» .entry)) (now («upper_starts» .entry)) (now («upper_index» .entry)) (now (marks .entry)) g → TurnEnds Form.Plain (inputOf n (now (starts .entry)) (now (columns .entry)) [] (now (r .entry)) c []) low «lower_values» up «upper_values» (k .0) (now («lower_starts» .exit)) (now («lower_starts» .exit)) (now («lower_index» .exit)) (now («upper_starts» .exit)) (now («upper_starts» .exit)) (now («upper_index» .exit)) (now (marks .exit)) t) ⌝ }
+{
+    let stamp = k.0 + 1;
+    let opened = open_place(Side::Upper, n, starts, columns, r, upper_index, upper_starts, marks, stamp, k, 0);
+    let Opened::Row(row) = opened else {
+        return Turned::Stopped(Refusal::NullPivot(k));
+    };
+    let low = keep_lower(n, lower_starts, lower_index, lower_values, marks, k, row.below, g.lower);
+    let Put::Done(lower) = low else {
+        return Turned::Stopped(Refusal::LowerSlots(k));
+    };
+    let products = add_products(n, upper_starts, marks, row.below, g.products);
+    let up = keep_plain(n, upper_starts, upper_index, upper_values, marks, stamp, k, row, g.upper);
+    let Put::Done(upper) = up else {
+        return Turned::Stopped(Refusal::UpperSlots(k));
+    };
+    Turned::Next(Progress {
+        lower,
+        upper,
+        products,
+        window: 0,
+    })
+}
+
+// The plain form's structure: lower rows and T(k) one after another, and the counts.
+pub fn find_plain(
+    n: usize,
+    starts: &[u32],
+    columns: &[u16],
+    r: &[u16],
+    c: &[u16],
+    lower_starts: &mut [u32],
+    lower_index: &mut [u16],
+    lower_values: usize,
+    upper_starts: &mut [u32],
+    upper_index: &mut [u16],
+    upper_values: usize,
+    marks: &mut [u32],
+) -> Answer
+    requires { ⌜ PlainLent (inputOf n (now starts) (now columns) [] (now r) (now c) []) (now «lower_starts») (now «lower_index») «lower_values» (now «upper_starts») (now «upper_index») «upper_values» (length (now marks)) ⌝ }
+    ensures { λ a. ⌜ FoundBoth Form.Plain (inputOf n (now (starts .entry)) (now (columns .entry)) [] (now (r .entry)) (now (c .entry)) []) (slotsOf (length (now («lower_index» .entry))) «lower_values» (length (now («upper_index» .entry))) «upper_values») (now («lower_starts» .exit)) (now («lower_starts» .exit)) (now («lower_index» .exit)) «lower_values» (now («upper_starts» .exit)) (now («upper_starts» .exit)) (now («upper_index» .exit)) «upper_values» a ⌝ }
+{
+    base::clear_u32(lower_starts);
+    base::clear_u16(lower_index);
+    base::clear_u32(upper_starts);
+    base::clear_u16(upper_index);
+    begin_marks(n, c, marks);
+    let mut g = no_progress();
+    let mut k = 0;
+    while k < n {
+        let place = Place(k as u32);
+        let turned = plain_place(n, starts, columns, r, lower_starts, lower_index, lower_values, upper_starts, upper_index, upper_values, marks, place, g);
+        match turned {
+            Turned::Next(next) => {
+                g = next;
+            }
+            Turned::Stopped(q) => {
+                return Answer::Refused(q);
+            }
+        }
+        k += 1;
+    }
+    Answer::Done(counts_at(g))
+}
