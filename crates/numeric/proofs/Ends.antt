@@ -1,18 +1,18 @@
 -- Step 3 by the tests that the code makes: t is the answer of the row's test.
-use mathlib.Core.Path.{_≡_, sym, ap, _∙_}
-use mathlib.Core.Bool.{Bool, true, false, _&&_}
-use mathlib.Core.List.{List, [], _∷_}
-use Prim.Native.Nat.{ℕ, _+_, _≤_}
+use mathlib.Core.Path.{_≡_, refl, sym, ap, _∙_}
+use mathlib.Core.Bool.{Bool, true, false, cond, _&&_}
+use mathlib.Core.List.{List, [], _∷_, _++_, append-assoc}
+use Prim.Native.Nat.{ℕ, suc, _+_, _≤_}
 use native.Mathlib.Omega.{arith}
-use lib.ListN.{length, getD}
-use lib.Seq.{sets}
+use lib.ListN.{length, getD, take, drop}
+use lib.Seq.{sets, sets-eq, length-take-le, take-at, drop-at}
 use lib.Ieee.{Float, nan, binary64, mul, div}
 use lib.Ieee.Scale.{finite}
 use Rattle.base.specs.declared.RowSums.{RowSums}
-use Rattle.arithmetic.specs.Arith.{met, overflow, vanishes, one, finish}
+use Rattle.arithmetic.specs.Arith.{Out, ok, met, overflow, zeroPivot, vanishes, one, at, finish, scaled}
 use Rattle.arithmetic.specs.RowEnd.{finiteOn, finiteAll, products, rowEnd}
 use Rattle.arithmetic.specs.Sticky.{scaled-at}
-use Rattle.numeric.specs.Stores.{work, Finished}
+use Rattle.numeric.specs.Stores.{work, numbered, Finished}
 use Rattle.numeric.specs.StoreLaws.{sets-part, products-length}
 use Rattle.numeric.specs.declared.Pivot.{Pivot}
 use Rattle.numeric.specs.declared.Pivot.the-variants.{Kept, Zero, Overflow}

@@ -1,6 +1,6 @@
 -- A turn of each loop, as a law of the definition that the loop computes: the rest of the list, from the value after the turn, gives what it gave before.
 use mathlib.Core.Path.{_≡_, refl, sym, ap, _∙_}
-use mathlib.Core.Bool.{true, false}
+use mathlib.Core.Bool.{true, false, _&&_}
 use mathlib.Core.List.{List, [], _∷_, _++_}
 use Prim.Native.Nat.{ℕ, suc, _+_, _-_, _<_, _≤_}
 use native.Mathlib.Nat.{add-assoc}
@@ -21,10 +21,11 @@ use Rattle.numeric.specs.Stores.{Below, Ascending, storeGiven, placesOf,
 -- ---- step 1
 
 module _ (ic columns : List ℕ) (vs w : List Float) (p : ℕ) where
-  pub load-turn : (i j : ℕ) → i ≡ getD columns p 0 → j ≡ getD ic i 0 → p < length columns → p < length vs
-      → load any (pairs (placesOf ic (drop (p + 1) columns)) (drop (p + 1) vs)) (set w j (getD vs p nan)) ≡ load any (pairs (placesOf ic (drop p columns)) (drop p vs)) w
+  pub load-turn : p < length columns → p < length vs
+      → load any (pairs (placesOf ic (drop (p + 1) columns)) (drop (p + 1) vs)) (set w (getD ic (getD columns p 0) 0) (getD vs p nan))
+      ≡ load any (pairs (placesOf ic (drop p columns)) (drop p vs)) w
   unfolding load pairs placesOf
-  load-turn i j ei ej h g = rw (ej, ei, add-one, drop-cons columns p 0, drop-cons vs p nan)
+  load-turn h g = rw (add-one, drop-cons columns p 0, drop-cons vs p nan)
 
   pub load-end : length columns ≤ p → load any (pairs (placesOf ic (drop p columns)) (drop p vs)) w ≡ ok w
   unfolding load pairs placesOf

@@ -3,17 +3,17 @@ use mathlib.Core.Path.{_≡_, refl, sym}
 use mathlib.Core.Bool.{true, false, true≢false}
 use mathlib.Core.Logic.{⊎-elim}
 use mathlib.Core.List.{List, [], _∷_}
-use Prim.Native.Nat.{ℕ, zero, suc, _<_, _≤_}
+use Prim.Native.Nat.{ℕ, zero, suc, _<_, _≤_, _+_}
 use native.Mathlib.Nat.{not-suc-le-zero, le-of-suc-le-suc}
 use native.Mathlib.Omega.{arith}
 use lib.Dec.{lit<, lit≤, eqb}
-use lib.ListN.{replicate}
+use lib.ListN.{length, getD, replicate}
 use lib.Ieee.{Float, binary64, ofBits}
 use borrow.Author.Tests.{eqb-true}
-use Rattle.base.specs.Lists.{listAt, has, pairs, nought}
+use Rattle.base.specs.Lists.{listAt, rowOf, has, pairs, nought}
 use Rattle.base.specs.Tests.{or-cases}
 use Rattle.arithmetic.specs.Arith.{System}
-use Rattle.numeric.specs.Stores.{Shape, Reducible, Closable, Spacious, placesOf}
+use Rattle.numeric.specs.Stores.{Shape, Loadable, Reducible, Closable, Spacious, placesOf}
 use Rattle.numeric.specs.Rows.{Closed, Lent, Held}
 use Rattle.numeric.specs.PassLaws.{held-start}
 

@@ -1,29 +1,33 @@
 -- The rows put together: from what a row's steps leave to the stores before the next row, to the first fault, and with the back steps to the solution.
 use mathlib.Core.Path.{_≡_, refl, sym, ap, _∙_, subst}
-use mathlib.Core.Bool.{true}
-use mathlib.Core.List.{List, [], _∷_, _++_, map, map-append}
-use Prim.Native.Nat.{ℕ, zero, suc, _+_, _-_, _<_}
+use mathlib.Core.Bool.{Bool, true, false, cond}
+use mathlib.Core.Logic.{⊎-elim}
+use mathlib.Core.List.{List, [], _∷_, _++_, append-nil, append-assoc, map, map-append, List·Memᴰ}
+use Prim.Native.Nat.{ℕ, zero, suc, _+_, _-_, _<_, _≤_}
 use native.Mathlib.Numerals.{add-one}
+use native.Mathlib.Nat.{add-zero}
 use native.Mathlib.Omega.{arith}
 use native.Mathlib.Decide.{decLt}
-use lib.ListN.{length, getD, set, take, drop, replicate, length-drop, length-set, length-append, length-replicate, getD-replicate, replicate-append-replicate, List·getD-append}
-use lib.Seq.{length-sets, length-take-le, take-at, drop-at, getD-take, getD-drop, getD-at, drop-drop, take-suc-set, take-set-le, drop-set-add, drop-set-lt, ext-getD, getD-set-same}
+use lib.ListN.{length, getD, set, take, drop, replicate, length-take, length-drop, length-set, length-append, length-map, length-replicate, getD-replicate, replicate-append-replicate, List·getD-append}
+use lib.Seq.{sets, length-sets, length-take-le, take-at, drop-at, getD-take, getD-drop, getD-at, drop-drop, take-suc-set, take-set-le, drop-set-add, drop-set-lt, ext-getD, getD-set-same}
+use lib.Dec.{eqb}
 use lib.Ieee.{Float, nan, binary64, mul, div}
 use lib.Ieee.Scale.{finite}
+use borrow.Author.Tests.{eqb-true}
 use Rattle.base.specs.Lists.{listAt, rowOf, has, pairs, nought}
-use Rattle.base.specs.Tests.{by-test}
+use Rattle.base.specs.Tests.{by-test, or-cases, or-false}
+use Rattle.base.specs.AscLaws.{has-append}
 use Rattle.base.specs.TableLaws.{getD-map-lt}
-use Rattle.base.specs.declared.Place.{Place}
 use Rattle.base.specs.declared.RowSums.{RowSums}
-use Rattle.arithmetic.specs.Arith.{Fault, Out, ok, met, overflow, zeroPivot, _>>=_, any, at, one, pivot, load, System, Row, none, Given, given, Work, start, steps, scaled, finish, row, forward, rest, back, solved}
+use Rattle.arithmetic.specs.Arith.{Fault, Out, ok, met, overflow, zeroPivot, _>>=_, any, at, one, pivot, load, System, Row, none, Given, given, Work, start, steps, scaled, finish, row, forward, rest, back, Result, solved}
 use Rattle.arithmetic.specs.RowEnd.{products}
 use Rattle.arithmetic.specs.Factors.{bind-ok, ok-inj}
 use Rattle.numeric.specs.declared.Pivot.{Pivot}
 use Rattle.numeric.specs.declared.Pivot.the-variants.{Kept, Zero, Overflow}
-use Rattle.numeric.specs.Stores.{Below, Shape, storeGiven, work, Eliminated, Finished, numberedBack, gathered, zeroed}
+use Rattle.numeric.specs.Stores.{Below, Shape, storeGiven, work, Eliminated, Finished, numbered, numberedBack, gathered, zeroed}
 use Rattle.numeric.specs.declared.Back.{Back}
 use Rattle.numeric.specs.declared.Back.the-variants.{Complete, Stopped}
-use Rattle.numeric.specs.Rows.{filledRow, Closed, Lent, Stacked, uOf, Held, Reduced, Shut, keptRow}
+use Rattle.numeric.specs.Rows.{filledRow, Closed, Lent, Stacked, uOf, Held, Outside, Reduced, Shut, keptRow}
 use Rattle.numeric.specs.StoreLaws.{list-length, sets-part, products-length, stacked-none, zeroed-drop, zeroed-length, zeroed-stays, zeroed-has}
 use Rattle.numeric.specs.KeepLaws.{stacked-row}
 use Rattle.numeric.specs.RowLaws.{Same, bind-same, has-at, filled-cases, row-is, row-outside}
@@ -181,18 +185,6 @@ module _ (S : System) (rows : List Row) (n k : ℕ) (f : List Float) (upper runs
             ∙ ext-getD nan (take n core) (replicate n nought) (length-take-le n core (omega (arith, core-length)) ∙ sym (length-replicate n nought))
             (λ j l. let b : j < n = rw (length-take-le n core (omega (arith, core-length))) at l in getD-take n core j nan b ∙ zero-at j b ∙ sym (getD-replicate n j nought nan b))
 
--- the same from the records alone, for a caller's loop
-pub held-next : {S : System} {rows : List Row} {n k : ℕ} {f : List Float} {upper runs starts : List ℕ} {u g h v d e : List Float} {lower : List ℕ} {t : RowSums}
-    → Held S rows n k f upper runs starts u → k < n → length f ≡ n + n + n → length g ≡ length f → Shape n upper runs starts (length u) → Closed S k → S .lower k ≡ lower
-    → Reduced S rows n k starts f g u v (Kept t) → Shut n k lower (listAt upper runs starts k) g h d e t
-    → Held S (rows ++ (keptRow (gathered (S .lower k) (take n g)) (rowOf starts v k) t ∷ [])) n (k + 1) h upper runs starts v
-held-next H l lf lg T C el R Q = held-more _ _ _ _ _ _ _ _ _ H l lf C T _ el _ _ _ _ _ lg _ R Q
-
--- d(k) in its slot
-pub reciprocals-more : (rows : List Row) (next : Row) (k : ℕ) (d e : List Float) → k < length d → e ≡ set d k (next .d) → take k d ≡ map (λ r. r .d) rows
-    → take (k + 1) e ≡ map (λ r. r .d) (rows ++ (next ∷ []))
-reciprocals-more rows next k d e h q ds = rw (q, add-one, take-suc-set d k (next .d) h, ds) (sym (map-append (λ (r : Row). r .d) rows (next ∷ [])))
-
 -- ---- the first row, the first fault, the last row
 
 take-replicate : {A : Type 0} (m k : ℕ) (z : A) → take m (replicate (m + k) z) ≡ replicate m z
@@ -301,6 +293,6 @@ module _ {S : System} {rows : List Row} {n : ℕ} {f : List Float} {upper runs s
       → solved S ≡ ok (record { rows = rows; z = z })
   held-solved z r e q = solved-is (ok z) (rw q at e)
 
-  pub held-stopped : (k : Place) (z : List Float) (r : Back) → numberedBack z r ≡ back (storeGiven n f upper runs starts u) n (drop (n + n) f) → r ≡ Stopped k
-      → solved S ≡ met (overflow (k .0))
-  held-stopped k z r e q = solved-is (met (overflow (k .0))) (rw q at e)
+  pub held-stopped : (k : ℕ) (z : List Float) (r : Back) → numberedBack z r ≡ back (storeGiven n f upper runs starts u) n (drop (n + n) f) → r ≡ Stopped k
+      → solved S ≡ met (overflow k)
+  held-stopped k z r e q = solved-is (met (overflow k)) (rw q at e)

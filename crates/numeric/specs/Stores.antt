@@ -140,4 +140,4 @@ pub record Spacious (size : ℕ) (lower starts cursors : List ℕ) (slots : ℕ)
 -- question 13 for each of their answers, and z
 abbrev pub numberedBack : List Float → Back → Out (List Float)
 numberedBack z Complete = ok z
-numberedBack z (Stopped k) = met (overflow (k .0))
+numberedBack z (Stopped k) = met (overflow k)

@@ -1,17 +1,15 @@
 // The arithmetic of the elimination, row by row, and the back steps. The scratch f has the working row w in its first n slots, y in the next n
 // and z in the last n. T(i) is list i of an upper store (index, run starts, list starts), its u stand in a value store from list start i on.
 // Lower row k is lent, so that no step knows where it is kept.
-use base::OwnNumber;
-use base::Place;
 use base::RowSums;
 use base::is_finite;
 ghost use mathlib.Core.Path.{_≡_};
 ghost use mathlib.Core.Bool.{true, _&&_};
-ghost use mathlib.Core.List.{List, _∷_};
+ghost use mathlib.Core.List.{List, [], _∷_, _++_};
 ghost use Prim.Native.Nat.{ℕ, _+_, _-_, _<_, _≤_};
-ghost use lib.ListN.{length, getD, take, drop};
+ghost use lib.ListN.{length, getD, take, drop, set};
 ghost use lib.Seq.{sets};
-ghost use lib.Ieee.{nan};
+ghost use lib.Ieee.{Float, nan};
 ghost use lib.Ieee.Scale.{finite};
 ghost use Rattle.base.specs.Lists.{listAt, rowOf, pairs};
 ghost use Rattle.arithmetic.specs.Arith.{ok, any, load, subtract, rest, back, System, Row};
@@ -31,43 +29,25 @@ fn wide32(x: u32) -> usize
     x as usize
 }
 
-// An own column.
-fn own_number(c: u16) -> OwnNumber
-    ensures { λ r. ⌜ r .0 ≡ c ⌝ }
-{
-    OwnNumber(c as u32)
-}
-
-// The place of an own column, by the inverse order.
-fn place_of(ic: &[u32], c: OwnNumber) -> Place
-    requires { ⌜ c .0 < length (now ic) ⌝ }
-    ensures { λ r. ⌜ r .0 ≡ getD (now (ic .entry)) (c .0) 0 ⌝ }
-{
-    let j = wide32(c.0);
-    Place(ic[j])
-}
-
 // List i of an index store, as a part of it.
-fn index_part<'a>(index: &'a [u16], runs: &[u32], starts: &[u32], i: Place) -> &'a [u16]
-    requires { ⌜ ListIn (length (now index)) (now runs) (now starts) (i .0) ⌝ }
-    ensures { λ r. ⌜ now r ≡ listAt (now (index .entry)) (now (runs .entry)) (now (starts .entry)) (i .0) ⌝ }
+fn index_part<'a>(index: &'a [u16], runs: &[u32], starts: &[u32], i: usize) -> &'a [u16]
+    requires { ⌜ ListIn (length (now index)) (now runs) (now starts) i ⌝ }
+    ensures { λ r. ⌜ now r ≡ listAt (now (index .entry)) (now (runs .entry)) (now (starts .entry)) i ⌝ }
 {
-    let at = i.0 as usize;
-    let run = wide32(runs[at]);
-    let from = wide32(starts[at]);
-    let to = wide32(starts[at + 1]);
+    let run = wide32(runs[i]);
+    let from = wide32(starts[i]);
+    let to = wide32(starts[i + 1]);
     let end = run + (to - from);
     &index[run..end]
 }
 
 // The values of list i, as a part of their store.
-fn values_part<'a>(values: &'a [f64], starts: &[u32], i: Place) -> &'a [f64]
-    requires { ⌜ ListIn (length (now values)) (now starts) (now starts) (i .0) ⌝ }
-    ensures { λ r. ⌜ now r ≡ listAt (now (values .entry)) (now (starts .entry)) (now (starts .entry)) (i .0) ⌝ }
+fn values_part<'a>(values: &'a [f64], starts: &[u32], i: usize) -> &'a [f64]
+    requires { ⌜ ListIn (length (now values)) (now starts) (now starts) i ⌝ }
+    ensures { λ r. ⌜ now r ≡ listAt (now (values .entry)) (now (starts .entry)) (now (starts .entry)) i ⌝ }
 {
-    let at = i.0 as usize;
-    let from = wide32(starts[at]);
-    let to = wide32(starts[at + 1]);
+    let from = wide32(starts[i]);
+    let to = wide32(starts[i + 1]);
     &values[from..to]
 }
 
@@ -78,9 +58,8 @@ pub fn load_row(w: &mut [f64], columns: &[u16], values: &[f64], ic: &[u32])
 {
     let mut p = 0;
     while p < columns.len() {
-        let j = place_of(ic, own_number(columns[p]));
-        let at = j.0 as usize;
-        w[at] = values[p];
+        let j = wide32(ic[wide16(columns[p])]);
+        w[j] = values[p];
         p += 1;
     }
 }
@@ -103,20 +82,19 @@ pub fn axpy(w: &mut [f64], columns: &[u16], u: &[f64], m: f64)
 fn step_at(
     f: &mut [f64],
     n: usize,
-    i: Place,
+    i: usize,
     upper: &[u16],
     runs: &[u32],
     starts: &[u32],
     u: &[f64],
     row: RowSums,
 ) -> RowSums
-    requires { ⌜ (i .0 < n) × (n + n ≤ length (now f)) × Shape n (now upper) (now runs) (now starts) (length (now u)) ⌝ }
-    ensures { λ r. ⌜ Stepped n (i .0) (storeGiven n (now (f .entry)) (now (upper .entry)) (now (runs .entry)) (now (starts .entry)) (now (u .entry)))
+    requires { ⌜ (i < n) × (n + n ≤ length (now f)) × Shape n (now upper) (now runs) (now starts) (length (now u)) ⌝ }
+    ensures { λ r. ⌜ Stepped n i (storeGiven n (now (f .entry)) (now (upper .entry)) (now (runs .entry)) (now (starts .entry)) (now (u .entry)))
         (now (f .entry)) (now (f .exit)) row r ⌝ }
 {
-    let at = i.0 as usize;
-    let m = f[at];
-    let y = f[n + at];
+    let m = f[i];
+    let y = f[n + i];
     let above = index_part(upper, runs, starts, i);
     let us = values_part(u, starts, i);
     axpy(&mut f[..n], above, us, m);
@@ -145,7 +123,7 @@ pub fn eliminate(
     let mut s = row;
     let mut p = 0;
     while p < lower.len() {
-        let i = Place(lower[p]);
+        let i = wide32(lower[p]);
         s = step_at(f, n, i, upper, runs, starts, u, s);
         p += 1;
     }
@@ -170,13 +148,12 @@ fn all_finite(w: &[f64], columns: &[u16]) -> bool
 }
 
 // Whether row k's sum, its pivot and its working row above the diagonal are finite. (A multiplier that is not makes the sum not finite.)
-fn row_finite(w: &[f64], k: Place, above: &[u16], sum: f64) -> bool
-    requires { ⌜ (k .0 < length (now w)) × Below (length (now w)) (now above) ⌝ }
-    ensures { λ r. ⌜ r ≡ (finite sum && finiteOn (k .0 ∷ now (above .entry)) (now (w .entry))) ⌝ }
+fn row_finite(w: &[f64], k: usize, above: &[u16], sum: f64) -> bool
+    requires { ⌜ (k < length (now w)) × Below (length (now w)) (now above) ⌝ }
+    ensures { λ r. ⌜ r ≡ (finite sum && finiteOn (k ∷ now (above .entry)) (now (w .entry))) ⌝ }
 {
-    let at = k.0 as usize;
     if is_finite(sum) {
-        if is_finite(w[at]) {
+        if is_finite(w[k]) {
             return all_finite(w, above);
         }
     }
@@ -213,19 +190,18 @@ pub enum Pivot {
 // Step 3: one test of the row, the pivot, its reciprocal, y, and u into its slots.
 pub fn finish_row(
     w: &[f64],
-    k: Place,
+    k: usize,
     above: &[u16],
     u: &mut [f64],
     from: usize,
     row: RowSums,
 ) -> Pivot
-    requires { ⌜ (k .0 < length (now w)) × Below (length (now w)) (now above) × (from + length (now above) ≤ length (now u)) ⌝ }
-    ensures { λ r. ⌜ Finished (k .0) (now (above .entry)) from (now (w .entry)) (now (u .entry)) (now (u .exit)) (row .sum) r ⌝ }
+    requires { ⌜ (k < length (now w)) × Below (length (now w)) (now above) × (from + length (now above) ≤ length (now u)) ⌝ }
+    ensures { λ r. ⌜ Finished k (now (above .entry)) from (now (w .entry)) (now (u .entry)) (now (u .exit)) (row .sum) r ⌝ }
 {
-    let at = k.0 as usize;
     let sum = row.sum;
     if row_finite(w, k, above, sum) {
-        let p = w[at];
+        let p = w[k];
         if p == 0.0 {
             return Pivot::Zero;
         }
@@ -251,7 +227,7 @@ pub fn finish_row(
 pub fn reduce_row(
     f: &mut [f64],
     n: usize,
-    k: Place,
+    k: usize,
     columns: &[u16],
     values: &[f64],
     ic: &[u32],
@@ -262,12 +238,12 @@ pub fn reduce_row(
     starts: &[u32],
     u: &mut [f64],
 ) -> Pivot
-    requires { ⌜ Reducible n (k .0) (length (now f)) (now ic) (now columns) (now values) (now lower) (now upper) (now runs) (now starts) (length (now u)) ⌝ }
+    requires { ⌜ Reducible n k (length (now f)) (now ic) (now columns) (now values) (now lower) (now upper) (now runs) (now starts) (length (now u)) ⌝ }
     ensures { λ r. ⌜ ((S : System) (rows : List Row)
-        → Held S rows n (k .0) (now (f .entry)) (now (upper .entry)) (now (runs .entry)) (now (starts .entry)) (now (u .entry))
-        → Lent S (k .0) (now (lower .entry)) (placesOf (now (ic .entry)) (now (columns .entry))) (now (values .entry)) b
-        → Closed S (k .0)
-        → Reduced S rows n (k .0) (now (starts .entry)) (now (f .entry)) (now (f .exit)) (now (u .entry)) (now (u .exit)) r) ⌝ }
+        → Held S rows n k (now (f .entry)) (now (upper .entry)) (now (runs .entry)) (now (starts .entry)) (now (u .entry))
+        → Lent S k (now (lower .entry)) (placesOf (now (ic .entry)) (now (columns .entry))) (now (values .entry)) b
+        → Closed S k
+        → Reduced S rows n k (now (starts .entry)) (now (f .entry)) (now (f .exit)) (now (u .entry)) (now (u .exit)) r) ⌝ }
 {
     load_row(&mut f[..n], columns, values, ic);
     let sums = RowSums {
@@ -277,8 +253,7 @@ pub fn reduce_row(
     };
     let row = eliminate(f, n, lower, upper, runs, starts, u, sums);
     let above = index_part(upper, runs, starts, k);
-    let at = k.0 as usize;
-    let from = wide32(starts[at]);
+    let from = wide32(starts[k]);
     finish_row(&f[..n], k, above, u, from, row)
 }
 
@@ -309,7 +284,7 @@ fn clear_upper(w: &mut [f64], places: &[u16])
 pub fn close_row(
     f: &mut [f64],
     n: usize,
-    k: Place,
+    k: usize,
     lower: &[u32],
     upper: &[u16],
     runs: &[u32],
@@ -317,17 +292,16 @@ pub fn close_row(
     d: &mut [f64],
     row: RowSums,
 )
-    requires { ⌜ Closable n (k .0) (length (now f)) (now lower) (now upper) (now runs) (now starts) (length (now d)) ⌝ }
-    ensures { λ _. ⌜ Shut n (k .0) (now (lower .entry)) (listAt (now (upper .entry)) (now (runs .entry)) (now (starts .entry)) (k .0))
+    requires { ⌜ Closable n k (length (now f)) (now lower) (now upper) (now runs) (now starts) (length (now d)) ⌝ }
+    ensures { λ _. ⌜ Shut n k (now (lower .entry)) (listAt (now (upper .entry)) (now (runs .entry)) (now (starts .entry)) k)
         (now (f .entry)) (now (f .exit)) (now (d .entry)) (now (d .exit)) row ⌝ }
 {
-    let at = k.0 as usize;
     let above = index_part(upper, runs, starts, k);
-    f[at] = 0.0;
+    f[k] = 0.0;
     clear_lower(f, lower);
     clear_upper(f, above);
-    f[n + at] = row.y;
-    d[at] = row.reciprocal;
+    f[n + k] = row.y;
+    d[k] = row.reciprocal;
 }
 
 // Row k's multipliers, from slot `from` on.
@@ -377,18 +351,17 @@ pub fn less_products(t: f64, places: &[u16], factors: &[f64], z: &[f64]) -> f64
 fn back_at(
     f: &[f64],
     n: usize,
-    k: Place,
+    k: usize,
     upper: &[u16],
     runs: &[u32],
     starts: &[u32],
     u: &[f64],
 ) -> f64
-    requires { ⌜ (k .0 < n) × (length (now f) ≡ n + n + n) × Shape n (now upper) (now runs) (now starts) (length (now u)) ⌝ }
-    ensures { λ r. ⌜ rest any (getD (now (f .entry)) (n + k .0) nan) (listAt (now (upper .entry)) (now (runs .entry)) (now (starts .entry)) (k .0))
-        (rowOf (now (starts .entry)) (now (u .entry)) (k .0)) (drop (n + n) (now (f .entry))) ≡ ok r ⌝ }
+    requires { ⌜ (k < n) × (length (now f) ≡ n + n + n) × Shape n (now upper) (now runs) (now starts) (length (now u)) ⌝ }
+    ensures { λ r. ⌜ rest any (getD (now (f .entry)) (n + k) nan) (listAt (now (upper .entry)) (now (runs .entry)) (now (starts .entry)) k)
+        (rowOf (now (starts .entry)) (now (u .entry)) k) (drop (n + n) (now (f .entry))) ≡ ok r ⌝ }
 {
-    let at = k.0 as usize;
-    let t = f[n + at];
+    let t = f[n + k];
     let above = index_part(upper, runs, starts, k);
     let us = values_part(u, starts, k);
     let z = n + n;
@@ -398,7 +371,7 @@ fn back_at(
 // What the back steps find: every z, or the place at which a result is not finite.
 pub enum Back {
     Complete,
-    Stopped(Place),
+    Stopped(usize),
 }
 
 // The back steps, from n - 1 down to 0: z(k) into its slot.
@@ -410,7 +383,7 @@ pub fn back_steps(
     starts: &[u32],
     u: &[f64],
 ) -> Back
-    requires { ⌜ (length (now f) ≡ n + n + n) × (n < 4294967296) × Shape n (now upper) (now runs) (now starts) (length (now u))
+    requires { ⌜ (length (now f) ≡ n + n + n) × Shape n (now upper) (now runs) (now starts) (length (now u))
         × ((k : ℕ) → k < n → finite (getD (now f) (n + k) nan) ≡ true) ⌝ }
     ensures { λ r. ⌜ (numberedBack (drop (n + n) (now (f .exit))) r
         ≡ back (storeGiven n (now (f .entry)) (now (upper .entry)) (now (runs .entry)) (now (starts .entry)) (now (u .entry))) n (drop (n + n) (now (f .entry))))
@@ -420,13 +393,12 @@ pub fn back_steps(
     let mut k = n;
     while 0 < k {
         let i = k - 1;
-        let place = Place(i as u32);
-        let t = back_at(f, n, place, upper, runs, starts, u);
+        let t = back_at(f, n, i, upper, runs, starts, u);
         if is_finite(t) {
             f[z + i] = t;
             k = i;
         } else {
-            return Back::Stopped(place);
+            return Back::Stopped(i);
         }
     }
     Back::Complete

@@ -2,12 +2,16 @@ use Rattle.numeric.proofs.Turns.{finiteOn-pass, finiteOn-fail, finiteOn
 use Rattle.arithmetic.specs.RowEnd.{finiteOn}
 use denote.Ref.{now}
 use lib.ListN.{length, getD, drop}
-use mathlib.Core.Path.{_≡_, sym, _∙_}
+use mathlib.Core.Path.{_≡_, refl, sym, _∙_}
 use Prim.Native.Nat.{_≤_, _<_, _-_}
 use borrow.Author.Needs.{needs}
 use native.Mathlib.Omega.{arith}
 use Rattle.numeric.proofs.all_finite.Statement.{statement}
 use Rattle.numeric.proofs.all_finite.Tie as tie
+use Rattle.numeric.proofs.all_finite.Reads as reads
+use Rattle.numeric.proofs.all_finite.Lts as lts
+use Rattle.base.proofs.is_finite.Reads as is-finite-reads
+use Rattle.numeric.proofs.wide16.Reads as wide16-reads
 
 abbrev Inv-loop : tie.InvT-loop
 Inv-loop w columns p₀ p = (p ≤ length columns) × (finiteOn (drop p columns) w ≡ finiteOn columns w)
@@ -15,9 +19,12 @@ Inv-loop w columns p₀ p = (p ≤ length columns) × (finiteOn (drop p columns)
 abbrev μ-loop : tie.MeasureT-loop
 μ-loop w columns p₀ p = length columns - p
 
+-- helpers
 -- the place at turn p is one of w's
 inside : (c : tie.In-loop Inv-loop μ-loop) → getD (now (c .before .before .before .before .args .columns)) (c .before .loop .p) 0 < length (now (c .before .before .before .before .args .w))
 inside c = c .before .before .before .before .pre (c .before .loop .p) (c .loop-test .taken)
+
+-- end helpers
 
 loop-holds : tie.Need-loop-holds Inv-loop μ-loop
 loop-holds c = search needs

@@ -8,6 +8,8 @@ use borrow.Author.Needs.{needs}
 use native.Mathlib.Omega.{arith}
 use Rattle.numeric.proofs.axpy.Statement.{statement}
 use Rattle.numeric.proofs.axpy.Tie as tie
+use Rattle.numeric.proofs.axpy.Reads as reads
+use Rattle.numeric.proofs.axpy.Lts as lts
 
 abbrev Inv-loop : tie.InvT-loop
 Inv-loop w₀ columns u m n p₀ w p =
@@ -16,9 +18,12 @@ Inv-loop w₀ columns u m n p₀ w p =
 abbrev μ-loop : tie.MeasureT-loop
 μ-loop w₀ columns u m n p₀ w p = n - p
 
+-- helpers
 -- the place at turn p is one of w's
 inside : (c : tie.In-loop Inv-loop μ-loop) → getD (now (c .before .before .args .columns)) (c .before .loop .p) 0 < length (c .before .loop .w)
 inside c = rw (c .before .loop .inv .2) (c .before .before .pre .1 (c .before .loop .p) (c .loop-test .taken))
+
+-- end helpers
 
 loop-holds : tie.Need-loop-holds Inv-loop μ-loop
 loop-holds c = search needs

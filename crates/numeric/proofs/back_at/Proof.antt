@@ -2,12 +2,16 @@ use Rattle.numeric.proofs.Turns.{tail-is, tail-length, rest-is}
 use Rattle.numeric.specs.StoreLaws.{ready}
 use denote.Ref.{now}
 use Prim.Native.Nat.{_+_}
+use mathlib.Core.Path.{_≡_, refl, sym, _∙_}
+use native.Mathlib.Omega.{arith}
 use borrow.Author.Needs.{needs}
 use Rattle.numeric.proofs.back_at.Statement.{statement}
 use Rattle.numeric.proofs.back_at.Tie as tie
-
-cast-at : tie.Need-cast-at
-cast-at c = search needs
+use Rattle.numeric.proofs.back_at.Reads as reads
+use Rattle.numeric.proofs.back_at.Lts as lts
+use Rattle.numeric.proofs.index_part.Reads as index-part-reads
+use Rattle.numeric.proofs.less_products.Reads as less-products-reads
+use Rattle.numeric.proofs.values_part.Reads as values-part-reads
 
 add-t : tie.Need-add-t
 add-t c = search needs
@@ -19,10 +23,10 @@ shared-slice-read-t : tie.Need-shared-slice-read-t
 shared-slice-read-t c = search needs
 
 index-part-requires : tie.Need-index-part-requires
-index-part-requires c κs = c .before .before .before .before .before .before .before .pre .2 .list (c .before .before .before .before .before .before .before .args .k .0) (c .before .before .before .before .before .before .before .pre .0)
+index-part-requires c κs = c .before .before .before .before .before .before .pre .2 .list (c .before .before .before .before .before .before .args .k) (c .before .before .before .before .before .before .pre .0)
 
 values-part-requires : tie.Need-values-part-requires
-values-part-requires c κs = c .before .before .before .before .before .before .before .before .pre .2 .values (c .before .before .before .before .before .before .before .before .args .k .0) (c .before .before .before .before .before .before .before .before .pre .0)
+values-part-requires c κs = c .before .before .before .before .before .before .before .pre .2 .values (c .before .before .before .before .before .before .before .args .k) (c .before .before .before .before .before .before .before .pre .0)
 
 add-z : tie.Need-add-z
 add-z c = search needs
@@ -41,21 +45,20 @@ part-less-products-end c = search needs
 
 less-products-requires : tie.Need-less-products-requires
 less-products-requires c κs =
-    let t = c .before .before .before .before .before .before .before .before .before .before in
+    let t = c .before .before .before .before .before .before .before .before .before in
     let a = t .args in
-    let r = ready (a .n) (a .k .0) (now (a .upper)) (now (a .runs)) (now (a .starts)) (now (a .u)) _ _ (t .pre .2) (t .pre .0) (c .before .before .index-part .ensures) (c .before .values-part .ensures) in
+    let r = ready (a .n) (a .k) (now (a .upper)) (now (a .runs)) (now (a .starts)) (now (a .u)) _ _ (t .pre .2) (t .pre .0) (c .before .before .index-part .ensures) (c .before .values-part .ensures) in
     (r .0, rw (tail-length (now (a .f)) (a .n) (t .pre .1)) (r .1))
 
 returns : tie.Need-returns
 returns c =
-    let a = c .before .before .before .before .before .before .before .before .before .before .before .args in
+    let a = c .before .before .before .before .before .before .before .before .before .before .args in
     rest-is _ _ _ _ _ _ _ _ (c .before .before .before .index-part .ensures) (c .before .before .values-part .ensures) (tail-is (now (a .f)) (a .n + a .n)) (c .less-products .ensures)
 
 pub back-at-spec : {M : Type 1} → statement M
 back-at-spec =
     tie.close
     (tie.spec
-    cast-at
     add-t
     mul-t
     shared-slice-read-t

@@ -2,14 +2,19 @@ use Rattle.numeric.proofs.Turns.{scratch-turn, scratch-stop, back-end}
 use Rattle.numeric.specs.Stores.{storeGiven}
 use Rattle.arithmetic.specs.Arith.{back}
 use denote.Ref.{now}
+use lib.Ieee.{nan}
 use lib.Seq.{take-set-le}
-use lib.ListN.{length, take, drop, length-set}
-use Prim.Native.Nat.{_-_, _≤_, _+_}
-use mathlib.Core.Path.{_≡_, refl, sym, _∙_}
+use lib.ListN.{length, getD, take, drop, set, length-set}
+use Prim.Native.Nat.{ℕ, suc, _-_, _<_, _≤_, _+_}
+use mathlib.Core.Path.{_≡_, refl, sym, _∙_, ap}
 use borrow.Author.Needs.{needs}
 use native.Mathlib.Omega.{arith}
 use Rattle.numeric.proofs.back_steps.Statement.{statement}
 use Rattle.numeric.proofs.back_steps.Tie as tie
+use Rattle.numeric.proofs.back_steps.Reads as reads
+use Rattle.numeric.proofs.back_steps.Lts as lts
+use Rattle.base.proofs.is_finite.Reads as is-finite-reads
+use Rattle.numeric.proofs.back_at.Reads as back-at-reads
 
 abbrev Inv-loop : tie.InvT-loop
 Inv-loop f₀ n upper runs starts u z k₀ f k =
@@ -28,11 +33,8 @@ loop-holds c = search needs
 sub-i : tie.Need-sub-i Inv-loop μ-loop
 sub-i c = search needs
 
-cast-t13 : tie.Need-cast-t13 Inv-loop μ-loop
-cast-t13 c = search needs
-
 back-at-requires : tie.Need-back-at-requires Inv-loop μ-loop
-back-at-requires c κs = (omega arith, omega (arith, c .before .before .before .before .before .before .before .before .pre .0, c .before .before .loop .inv .2), c .before .before .before .before .before .before .before .before .pre .2)
+back-at-requires c κs = search needs
 
 is-finite-requires : tie.Need-is-finite-requires Inv-loop μ-loop
 is-finite-requires c κs = search needs
@@ -59,7 +61,7 @@ loop-again c =
       simp length-set (l .inv .2),
       take-set-le (a .n + a .n) (l .f) (a .n + a .n + (l .k - 1)) (c .before .before .back-at .result) (omega arith) ∙ l .inv .3,
       scratch-turn (a .n) (l .k) (l .k - 1) (now (a .upper)) (now (a .runs)) (now (a .starts)) (now (a .u)) (now (a .f)) (l .f) (c .before .before .back-at .result)
-          (omega arith) (omega arith) (l .inv .3) (t .pre .3 (l .k - 1) (omega arith)) (c .before .before .back-at .ensures) (sym (c .before .is-finite .ensures) ∙ c .if1 .taken) ∙ l .inv .4,
+          (omega arith) (omega arith) (l .inv .3) (t .pre .2 (l .k - 1) (omega arith)) (c .before .before .back-at .ensures) (sym (c .before .is-finite .ensures) ∙ c .if1 .taken) ∙ l .inv .4,
     )
 
 same-length : tie.Need-same-length Inv-loop μ-loop
@@ -71,7 +73,7 @@ returns c =
     let t = c .before .before .before .before .before .before .before .before .before .before .before in
     let a = t .args in (
       sym (scratch-stop (a .n) (l .k) (l .k - 1) (now (a .upper)) (now (a .runs)) (now (a .starts)) (now (a .u)) (now (a .f)) (l .f) (c .before .before .back-at .result)
-          (omega arith) (omega arith) (l .inv .3) (t .pre .3 (l .k - 1) (omega arith)) (c .before .before .back-at .ensures) (sym (c .before .is-finite .ensures) ∙ c .if1 .left)) ∙ l .inv .4,
+          (omega arith) (omega arith) (l .inv .3) (t .pre .2 (l .k - 1) (omega arith)) (c .before .before .back-at .ensures) (sym (c .before .is-finite .ensures) ∙ c .if1 .left)) ∙ l .inv .4,
       l .inv .3,
     )
 
@@ -92,7 +94,6 @@ back-steps-spec =
     add-z
     loop-holds
     sub-i
-    cast-t13
     back-at-requires
     is-finite-requires
     add-f

@@ -1,13 +1,16 @@
 use Rattle.numeric.proofs.Turns.{zero-turn, zero-end}
 use Rattle.numeric.specs.Stores.{zeroed}
 use denote.Ref.{now}
-use lib.ListN.{length, drop, length-set}
-use mathlib.Core.Path.{_≡_, sym, _∙_}
-use Prim.Native.Nat.{_≤_, _-_}
+use lib.ListN.{length, getD, drop, length-set}
+use mathlib.Core.Path.{_≡_, refl, sym, _∙_}
+use Prim.Native.Nat.{_≤_, _<_, _-_}
 use borrow.Author.Needs.{needs}
 use native.Mathlib.Omega.{arith}
 use Rattle.numeric.proofs.clear_lower.Statement.{statement}
 use Rattle.numeric.proofs.clear_lower.Tie as tie
+use Rattle.numeric.proofs.clear_lower.Reads as reads
+use Rattle.numeric.proofs.clear_lower.Lts as lts
+use Rattle.numeric.proofs.wide32.Reads as wide32-reads
 
 abbrev Inv-loop : tie.InvT-loop
 Inv-loop w₀ places p₀ w p = (p ≤ length places) × (length w ≡ length w₀) × (zeroed (drop p places) w ≡ zeroed places w₀)

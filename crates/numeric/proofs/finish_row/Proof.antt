@@ -4,9 +4,11 @@ use native.Mathlib.Omega.{arith}
 use borrow.Author.Needs.{needs}
 use Rattle.numeric.proofs.finish_row.Statement.{statement}
 use Rattle.numeric.proofs.finish_row.Tie as tie
-
-cast-at : tie.Need-cast-at
-cast-at c = search needs
+use Rattle.numeric.proofs.finish_row.Reads as reads
+use Rattle.numeric.proofs.finish_row.Lts as lts
+use Rattle.base.proofs.is_finite.Reads as is-finite-reads
+use Rattle.numeric.proofs.row_finite.Reads as row-finite-reads
+use Rattle.numeric.proofs.scale.Reads as scale-reads
 
 row-finite-requires : tie.Need-row-finite-requires
 row-finite-requires c κs = search needs
@@ -36,7 +38,7 @@ same-length c = search needs
 returns-2 : tie.Need-returns-2
 unfolding ofBits
 returns-2 c = end-kept _ (c .before .before .before .before .before .before .before .before .before .before .before .before .row-finite .ensures) (c .before .before .before .before .before .before .before .before .before .before .before .if1 .taken) (c .before .before .before .before .before .before .before .before .before .if2 .left) _ (c .before .before .before .before .before .before .before .before .is-finite .ensures) (c .before .before .before .before .before .before .before .if3 .taken) _ (c .before .before .before .before .before .before .is-finite2 .ensures) (c .before .before .before .before .before .if4 .taken)
-    _ (c .before .before .before .scale .ensures .0) (omega (arith, c .before .before .before .before .before .before .before .before .before .before .before .before .before .before .before .before .before .pre .2)) (c .before .before .before .scale .ensures .1) (c .if5 .taken)
+    _ (c .before .before .before .scale .ensures .0) (omega (arith, c .before .before .before .before .before .before .before .before .before .before .before .before .before .before .before .before .pre .2)) (c .before .before .before .scale .ensures .1) (c .if5 .taken)
 
 same-length-2 : tie.Need-same-length-2
 same-length-2 c = search needs
@@ -61,7 +63,6 @@ pub finish-row-spec : {M : Type 1} → statement M
 finish-row-spec =
     tie.close
     (tie.spec
-    cast-at
     row-finite-requires
     mul-p
     shared-slice-read-p

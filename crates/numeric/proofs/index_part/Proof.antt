@@ -1,11 +1,12 @@
 use Rattle.numeric.specs.StoreLaws.{part-is}
 use denote.Ref.{now}
+use native.Mathlib.Omega.{arith}
 use borrow.Author.Needs.{needs}
 use Rattle.numeric.proofs.index_part.Statement.{statement}
 use Rattle.numeric.proofs.index_part.Tie as tie
-
-cast-at : tie.Need-cast-at
-cast-at c = search needs
+use Rattle.numeric.proofs.index_part.Reads as reads
+use Rattle.numeric.proofs.index_part.Lts as lts
+use Rattle.numeric.proofs.wide32.Reads as wide32-reads
 
 mul-wide32 : tie.Need-mul-wide32
 mul-wide32 c = search needs
@@ -56,13 +57,12 @@ part-result-end : tie.Need-part-result-end
 part-result-end c = search needs
 
 returns : tie.Need-returns
-returns c = let a = c .before .before .before .before .before .before .before .before .before .before .before .args in part-is (now (a .index)) (now (a .runs)) (now (a .starts)) (a .i .0) _ _ _ (c .before .before .before .before .before .wide32 .ensures) (c .before .before .before .wide322 .ensures) (c .before .wide323 .ensures)
+returns c = let a = c .before .before .before .before .before .before .before .before .before .before .args in part-is (now (a .index)) (now (a .runs)) (now (a .starts)) (a .i) _ _ _ (c .before .before .before .before .before .wide32 .ensures) (c .before .before .before .wide322 .ensures) (c .before .wide323 .ensures)
 
 pub index-part-spec : {M : Type 1} → statement M
 index-part-spec =
     tie.close
     (tie.spec
-    cast-at
     mul-wide32
     shared-slice-read-wide32
     wide32-requires

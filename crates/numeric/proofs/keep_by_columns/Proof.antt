@@ -1,13 +1,16 @@
 use Rattle.numeric.proofs.Turns.{Keeping, keeping-room, keeping-more, keeping-end}
 use Rattle.numeric.specs.Stores.{columns}
 use denote.Ref.{now}
-use lib.ListN.{length}
-use mathlib.Core.Path.{refl, sym, _∙_}
-use Prim.Native.Nat.{_-_}
+use lib.ListN.{length, getD, drop, length-set}
+use mathlib.Core.Path.{_≡_, refl, sym, _∙_, ap}
+use Prim.Native.Nat.{_≤_, _<_, _-_, _+_}
 use borrow.Author.Needs.{needs}
 use native.Mathlib.Omega.{arith}
 use Rattle.numeric.proofs.keep_by_columns.Statement.{statement}
 use Rattle.numeric.proofs.keep_by_columns.Tie as tie
+use Rattle.numeric.proofs.keep_by_columns.Reads as reads
+use Rattle.numeric.proofs.keep_by_columns.Lts as lts
+use Rattle.numeric.proofs.wide32.Reads as wide32-reads
 
 abbrev Inv-loop : tie.InvT-loop
 Inv-loop w lower starts cursors₀ l₀ p₀ cursors l p = Keeping starts w lower cursors₀ l₀ cursors l p

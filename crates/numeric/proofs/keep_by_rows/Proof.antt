@@ -2,14 +2,17 @@ use Rattle.numeric.proofs.Turns.{gather-turn, gather-end}
 use Rattle.numeric.specs.Stores.{gathered}
 use denote.Ref.{now}
 use lib.Seq.{sets}
-use lib.ListN.{length, drop, length-set}
+use lib.ListN.{length, getD, drop, length-set}
 use mathlib.Core.Path.{_≡_, refl, sym, _∙_}
 use native.Mathlib.Nat.{add-zero}
-use Prim.Native.Nat.{_≤_, _-_, _+_}
+use Prim.Native.Nat.{_≤_, _<_, _-_, _+_}
 use borrow.Author.Needs.{needs}
 use native.Mathlib.Omega.{arith}
 use Rattle.numeric.proofs.keep_by_rows.Statement.{statement}
 use Rattle.numeric.proofs.keep_by_rows.Tie as tie
+use Rattle.numeric.proofs.keep_by_rows.Reads as reads
+use Rattle.numeric.proofs.keep_by_rows.Lts as lts
+use Rattle.numeric.proofs.wide32.Reads as wide32-reads
 
 abbrev Inv-loop : tie.InvT-loop
 Inv-loop w lower l₀ from p₀ l p = (p ≤ length lower) × (length l ≡ length l₀) × (sets l (from + p) (gathered (drop p lower) w) ≡ sets l₀ from (gathered lower w))

@@ -1,13 +1,16 @@
 use Rattle.numeric.proofs.Turns.{rest-turn, rest-end}
 use Rattle.arithmetic.specs.Arith.{any, rest}
 use denote.Ref.{now}
-use lib.ListN.{length, drop}
-use mathlib.Core.Path.{_≡_, sym, _∙_}
-use Prim.Native.Nat.{_≤_, _-_}
+use lib.ListN.{length, getD, drop}
+use mathlib.Core.Path.{_≡_, refl, sym, _∙_}
+use Prim.Native.Nat.{_≤_, _<_, _-_}
 use borrow.Author.Needs.{needs}
 use native.Mathlib.Omega.{arith}
 use Rattle.numeric.proofs.less_products.Statement.{statement}
 use Rattle.numeric.proofs.less_products.Tie as tie
+use Rattle.numeric.proofs.less_products.Reads as reads
+use Rattle.numeric.proofs.less_products.Lts as lts
+use Rattle.numeric.proofs.wide16.Reads as wide16-reads
 
 abbrev Inv-loop : tie.InvT-loop
 Inv-loop t places factors z s₀ p₀ s p = (p ≤ length places) × (rest any s (drop p places) (drop p factors) z ≡ rest any t places factors z)

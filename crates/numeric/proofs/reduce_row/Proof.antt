@@ -1,7 +1,8 @@
+use Prim.Native.Nat.{_≤_}
 use Rattle.numeric.specs.PassLaws.{reduced}
-use Rattle.numeric.specs.StoreLaws.{below-is, list-room}
-use Rattle.numeric.specs.Stores.{placesOf}
-use lib.ListN.{length}
+use Rattle.numeric.specs.StoreLaws.{list-length, below-is, list-room}
+use Rattle.numeric.specs.Stores.{placesOf, Loadable}
+use lib.ListN.{length, take}
 use lib.Seq.{length-take-le, length-front}
 use denote.Ref.{now}
 use mathlib.Core.Path.{_≡_, refl, sym, _∙_}
@@ -9,10 +10,20 @@ use native.Mathlib.Omega.{arith}
 use borrow.Author.Needs.{needs}
 use Rattle.numeric.proofs.reduce_row.Statement.{statement}
 use Rattle.numeric.proofs.reduce_row.Tie as tie
+use Rattle.numeric.proofs.reduce_row.Reads as reads
+use Rattle.numeric.proofs.reduce_row.Lts as lts
+use Rattle.numeric.proofs.eliminate.Reads as eliminate-reads
+use Rattle.numeric.proofs.finish_row.Reads as finish-row-reads
+use Rattle.numeric.proofs.index_part.Reads as index-part-reads
+use Rattle.numeric.proofs.load_row.Reads as load-row-reads
+use Rattle.numeric.proofs.wide32.Reads as wide32-reads
 
+-- helpers
 -- the scratch is as long as it was
 long : (c : tie.After-eliminate) → length (c .eliminate .last .0) ≡ length (now (c .before .before .before .before .before .before .before .before .before .before .before .before .before .before .before .before .args .f))
 long c = c .eliminate .kept .0 ∙ length-front (now (c .before .before .before .before .before .before .before .before .before .before .before .before .before .before .before .before .args .f)) (c .before .before .before .before .before .load-row .last .0) (c .before .before .before .before .before .before .before .before .before .before .before .before .before .before .before .before .args .n) (c .before .before .before .before .before .load-row .kept .0)
+
+-- end helpers
 
 slice-relend-prefix-load-row : tie.Need-slice-relend-prefix-load-row
 slice-relend-prefix-load-row c = omega (arith, c .before .before .before .before .before .before .before .before .before .pre .scratch)
@@ -27,53 +38,50 @@ eliminate-requires : tie.Need-eliminate-requires
 eliminate-requires c κs = (omega (arith, c .before .before .before .before .before .before .before .before .before .before .before .before .before .before .before .pre .scratch), c .before .before .before .before .before .before .before .before .before .before .before .before .before .before .before .pre .lists, c .before .before .before .before .before .before .before .before .before .before .before .before .before .before .before .pre .below)
 
 index-part-requires : tie.Need-index-part-requires
-index-part-requires c κs = c .before .before .before .before .before .before .before .before .before .before .before .before .before .before .before .before .before .before .pre .lists .list (c .before .before .before .before .before .before .before .before .before .before .before .before .before .before .before .before .before .before .args .k .0) (c .before .before .before .before .before .before .before .before .before .before .before .before .before .before .before .before .before .before .pre .place)
-
-cast-at : tie.Need-cast-at
-cast-at c = search needs
+index-part-requires c κs = c .before .before .before .before .before .before .before .before .before .before .before .before .before .before .before .before .before .before .pre .lists .list (c .before .before .before .before .before .before .before .before .before .before .before .before .before .before .before .before .before .before .args .k) (c .before .before .before .before .before .before .before .before .before .before .before .before .before .before .before .before .before .before .pre .place)
 
 mul-wide32 : tie.Need-mul-wide32
-mul-wide32 c = omega (arith, c .before .before .before .before .before .before .before .before .before .before .before .before .before .before .before .before .before .before .before .before .pre .lists .values (c .before .before .before .before .before .before .before .before .before .before .before .before .before .before .before .before .before .before .before .before .args .k .0) (c .before .before .before .before .before .before .before .before .before .before .before .before .before .before .before .before .before .before .before .before .pre .place))
+mul-wide32 c = omega (arith, c .before .before .before .before .before .before .before .before .before .before .before .before .before .before .before .before .before .before .before .pre .lists .values (c .before .before .before .before .before .before .before .before .before .before .before .before .before .before .before .before .before .before .before .args .k) (c .before .before .before .before .before .before .before .before .before .before .before .before .before .before .before .before .before .before .before .pre .place))
 
 shared-slice-read-wide32 : tie.Need-shared-slice-read-wide32
-shared-slice-read-wide32 c = omega (arith, c .before .before .before .before .before .before .before .before .before .before .before .before .before .before .before .before .before .before .before .before .before .pre .lists .values (c .before .before .before .before .before .before .before .before .before .before .before .before .before .before .before .before .before .before .before .before .before .args .k .0) (c .before .before .before .before .before .before .before .before .before .before .before .before .before .before .before .before .before .before .before .before .before .pre .place))
+shared-slice-read-wide32 c = omega (arith, c .before .before .before .before .before .before .before .before .before .before .before .before .before .before .before .before .before .before .before .before .pre .lists .values (c .before .before .before .before .before .before .before .before .before .before .before .before .before .before .before .before .before .before .before .before .args .k) (c .before .before .before .before .before .before .before .before .before .before .before .before .before .before .before .before .before .before .before .before .pre .place))
 
 wide32-requires : tie.Need-wide32-requires
 wide32-requires c κs = search needs
 
 slice-reshare-prefix-finish-row : tie.Need-slice-reshare-prefix-finish-row
-slice-reshare-prefix-finish-row c = omega (arith, c .before .before .before .before .before .before .before .before .before .before .before .before .before .before .before .before .before .before .before .before .before .before .pre .scratch, long (c .before .before .before .before .before .before))
+slice-reshare-prefix-finish-row c = omega (arith, c .before .before .before .before .before .before .before .before .before .before .before .before .before .before .before .before .before .before .before .before .before .pre .scratch, c .before .before .before .before .before .eliminate .kept .0)
 
 slice-aggregate-finish-row : tie.Need-slice-aggregate-finish-row
 slice-aggregate-finish-row c =
-    let t = c .before .before .before .before .before .before .before .before .before .before .before .before .before .before .before .before .before .before .before .before .before .before .before in
-    sym (length-take-le (t .args .n) (c .before .before .before .before .before .before .before .eliminate .last .0) (omega (arith, long (c .before .before .before .before .before .before .before), t .pre .scratch)))
+    let t = c .before .before .before .before .before .before .before .before .before .before .before .before .before .before .before .before .before .before .before .before .before .before in
+    sym (length-take-le (t .args .n) (c .before .before .before .before .before .before .eliminate .last .0) (omega (arith, long (c .before .before .before .before .before .before), t .pre .scratch)))
 
 finish-row-requires : tie.Need-finish-row-requires
 finish-row-requires c κs =
-    let t = c .before .before .before .before .before .before .before .before .before .before .before .before .before .before .before .before .before .before .before .before .before .before .before .before in
+    let t = c .before .before .before .before .before .before .before .before .before .before .before .before .before .before .before .before .before .before .before .before .before .before .before in
     let a = t .args in
-    let e = length-take-le (a .n) (c .before .before .before .before .before .before .before .before .eliminate .last .0) (omega (arith, long (c .before .before .before .before .before .before .before .before), t .pre .scratch)) in (
+    let e = length-take-le (a .n) (c .before .before .before .before .before .before .before .eliminate .last .0) (omega (arith, long (c .before .before .before .before .before .before .before), t .pre .scratch)) in (
       rw e (t .pre .place),
-      rw e (below-is (a .n) _ _ (c .before .before .before .before .before .index-part .ensures) (t .pre .lists .below (a .k .0) (t .pre .place))),
-      list-room (length (now (a .u))) (a .k .0) _ (now (a .upper)) (now (a .runs)) (now (a .starts)) _ (c .before .before .wide32 .ensures) (c .before .before .before .before .before .index-part .ensures)
-          (t .pre .lists .list (a .k .0) (t .pre .place)) (t .pre .lists .values (a .k .0) (t .pre .place)),
+      rw e (below-is (a .n) _ _ (c .before .before .before .before .index-part .ensures) (t .pre .lists .below (a .k) (t .pre .place))),
+      list-room (length (now (a .u))) (a .k) _ (now (a .upper)) (now (a .runs)) (now (a .starts)) _ (c .before .before .wide32 .ensures) (c .before .before .before .before .index-part .ensures)
+          (t .pre .lists .list (a .k) (t .pre .place)) (t .pre .lists .values (a .k) (t .pre .place)),
     )
 
 same-length : tie.Need-same-length
-same-length c = long (c .before .before .before .before .before .before .before .before .before .before .before)
+same-length c = long (c .before .before .before .before .before .before .before .before .before .before)
 
 same-length-2 : tie.Need-same-length-2
 same-length-2 c = search needs
 
 returns : tie.Need-returns
 returns c =
-    let t = c .before .before .before .before .before .before .before .before .before .before .before .before .before .before .before .before .before .before .before .before .before .before .before .before .before .before .before in
+    let t = c .before .before .before .before .before .before .before .before .before .before .before .before .before .before .before .before .before .before .before .before .before .before .before .before .before .before in
     let a = t .args in
-    λ S rows H L C. reduced S rows (a .n) (a .k .0) (now (a .f)) (now (a .upper)) (now (a .runs)) (now (a .starts)) (now (a .u)) H (t .pre .place) (t .pre .scratch)
+    λ S rows H L C. reduced S rows (a .n) (a .k) (now (a .f)) (now (a .upper)) (now (a .runs)) (now (a .starts)) (now (a .u)) H (t .pre .place) (t .pre .scratch)
     (now (a .lower)) (placesOf (now (a .ic)) (now (a .columns))) (now (a .values)) (a .b) L C (t .pre .lists)
-    (c .before .before .before .before .before .before .before .before .before .before .before .before .before .before .before .before .load-row .last .0) (c .before .before .before .before .before .before .before .before .before .before .before .eliminate .last .0) _ _ (c .before .before .before .before .before .before .before .before .before .before .before .eliminate .result) _ _ _ refl
-    (c .before .before .before .before .before .before .before .before .before .before .before .before .before .before .before .before .load-row .ensures) (c .before .before .before .before .before .before .before .before .before .before .before .before .before .before .before .before .load-row .kept .0) (c .before .before .before .before .before .before .before .before .before .before .before .eliminate .ensures) (c .before .before .before .before .before .before .before .before .index-part .ensures) (c .before .before .before .before .before .wide32 .ensures) (c .before .before .finish-row .ensures)
+    (c .before .before .before .before .before .before .before .before .before .before .before .before .before .before .before .load-row .last .0) (c .before .before .before .before .before .before .before .before .before .before .eliminate .last .0) _ _ (c .before .before .before .before .before .before .before .before .before .before .eliminate .result) _ _ _ refl
+    (c .before .before .before .before .before .before .before .before .before .before .before .before .before .before .before .load-row .ensures) (c .before .before .before .before .before .before .before .before .before .before .before .before .before .before .before .load-row .kept .0) (c .before .before .before .before .before .before .before .before .before .before .eliminate .ensures) (c .before .before .before .before .before .before .before .index-part .ensures) (c .before .before .before .before .before .wide32 .ensures) (c .before .before .finish-row .ensures)
 
 pub reduce-row-spec : {M : Type 1} → statement M
 reduce-row-spec =
@@ -84,7 +92,6 @@ reduce-row-spec =
     load-row-requires
     eliminate-requires
     index-part-requires
-    cast-at
     mul-wide32
     shared-slice-read-wide32
     wide32-requires

@@ -1,10 +1,12 @@
-use mathlib.Core.Path.{sym, _∙_}
+use mathlib.Core.Path.{_≡_, refl, sym, _∙_}
+use native.Mathlib.Omega.{arith}
 use borrow.Author.Needs.{needs}
 use Rattle.numeric.proofs.row_finite.Statement.{statement}
 use Rattle.numeric.proofs.row_finite.Tie as tie
-
-cast-at : tie.Need-cast-at
-cast-at c = search needs
+use Rattle.numeric.proofs.row_finite.Reads as reads
+use Rattle.numeric.proofs.row_finite.Lts as lts
+use Rattle.base.proofs.is_finite.Reads as is-finite-reads
+use Rattle.numeric.proofs.all_finite.Reads as all-finite-reads
 
 is-finite-requires : tie.Need-is-finite-requires
 is-finite-requires c κs = search needs
@@ -34,7 +36,6 @@ pub row-finite-spec : {M : Type 1} → statement M
 row-finite-spec =
     tie.close
     (tie.spec
-    cast-at
     is-finite-requires
     mul-is-finite
     shared-slice-read-is-finite

@@ -4,13 +4,17 @@ use Rattle.arithmetic.specs.RowEnd.{finiteAll, products}
 use denote.Ref.{now}
 use lib.Seq.{sets}
 use lib.ListN.{length, getD, drop, length-set}
-use mathlib.Core.Bool.{true≢false}
-use mathlib.Core.Path.{_≡_, refl, sym, _∙_}
+use mathlib.Core.Bool.{true, false, true≢false}
+use mathlib.Core.Path.{_≡_, refl, sym, _∙_, subst}
 use Prim.Native.Nat.{_≤_, _<_, _-_, _+_}
 use borrow.Author.Needs.{needs}
 use native.Mathlib.Omega.{arith}
 use Rattle.numeric.proofs.scale.Statement.{statement}
 use Rattle.numeric.proofs.scale.Tie as tie
+use Rattle.numeric.proofs.scale.Reads as reads
+use Rattle.numeric.proofs.scale.Lts as lts
+use Rattle.base.proofs.is_finite.Reads as is-finite-reads
+use Rattle.numeric.proofs.wide16.Reads as wide16-reads
 
 abbrev Inv-loop : tie.InvT-loop
 Inv-loop w columns u₀ from d p₀ u p =
@@ -20,9 +24,12 @@ Inv-loop w columns u₀ from d p₀ u p =
 abbrev μ-loop : tie.MeasureT-loop
 μ-loop w columns u₀ from d p₀ u p = length columns - p
 
+-- helpers
 -- the place at turn p is one of w's
 inside : (c : tie.In-loop Inv-loop μ-loop) → getD (now (c .before .before .before .before .before .args .columns)) (c .before .loop .p) 0 < length (now (c .before .before .before .before .before .args .w))
 inside c = c .before .before .before .before .before .pre .1 (c .before .loop .p) (c .loop-test .taken)
+
+-- end helpers
 
 loop-holds : tie.Need-loop-holds Inv-loop μ-loop
 loop-holds c = (omega arith, refl, refl, rw add-zero)

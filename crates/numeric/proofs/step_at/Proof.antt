@@ -1,15 +1,17 @@
-use Rattle.numeric.proofs.Turns.{stepped}
 use Rattle.numeric.specs.StoreLaws.{ready}
+use Rattle.numeric.proofs.Turns.{stepped}
 use lib.Seq.{length-take-le}
 use denote.Ref.{now}
-use mathlib.Core.Path.{sym}
+use mathlib.Core.Path.{_≡_, sym, _∙_, refl}
 use native.Mathlib.Omega.{arith}
 use borrow.Author.Needs.{needs}
 use Rattle.numeric.proofs.step_at.Statement.{statement}
 use Rattle.numeric.proofs.step_at.Tie as tie
-
-cast-at : tie.Need-cast-at
-cast-at c = search needs
+use Rattle.numeric.proofs.step_at.Reads as reads
+use Rattle.numeric.proofs.step_at.Lts as lts
+use Rattle.numeric.proofs.axpy.Reads as axpy-reads
+use Rattle.numeric.proofs.index_part.Reads as index-part-reads
+use Rattle.numeric.proofs.values_part.Reads as values-part-reads
 
 mul-m : tie.Need-mul-m
 mul-m c = search needs
@@ -27,22 +29,22 @@ slice-read-y : tie.Need-slice-read-y
 slice-read-y c = search needs
 
 index-part-requires : tie.Need-index-part-requires
-index-part-requires c κs = c .before .before .before .before .before .before .before .before .pre .2 .list (c .before .before .before .before .before .before .before .before .args .i .0) (c .before .before .before .before .before .before .before .before .pre .0)
+index-part-requires c κs = c .before .before .before .before .before .before .before .pre .2 .list (c .before .before .before .before .before .before .before .args .i) (c .before .before .before .before .before .before .before .pre .0)
 
 values-part-requires : tie.Need-values-part-requires
-values-part-requires c κs = c .before .before .before .before .before .before .before .before .before .pre .2 .values (c .before .before .before .before .before .before .before .before .before .args .i .0) (c .before .before .before .before .before .before .before .before .before .pre .0)
+values-part-requires c κs = c .before .before .before .before .before .before .before .before .pre .2 .values (c .before .before .before .before .before .before .before .before .args .i) (c .before .before .before .before .before .before .before .before .pre .0)
 
 slice-relend-prefix-axpy : tie.Need-slice-relend-prefix-axpy
 slice-relend-prefix-axpy c = search needs
 
 slice-aggregate-axpy : tie.Need-slice-aggregate-axpy
-slice-aggregate-axpy c = sym (length-take-le (c .before .before .before .before .before .before .before .before .before .before .before .args .n) (now (c .before .before .before .before .before .before .before .before .before .before .before .args .f)) (omega (arith, c .before .before .before .before .before .before .before .before .before .before .before .pre .1)))
+slice-aggregate-axpy c = sym (length-take-le (c .before .before .before .before .before .before .before .before .before .before .args .n) (now (c .before .before .before .before .before .before .before .before .before .before .args .f)) (omega (arith, c .before .before .before .before .before .before .before .before .before .before .pre .1)))
 
 axpy-requires : tie.Need-axpy-requires
 axpy-requires c κs =
-    let a = c .before .before .before .before .before .before .before .before .before .before .before .args in
-    let s = c .before .before .before .before .before .before .before .before .before .before .before .pre in
-    let r = ready (a .n) (a .i .0) (now (a .upper)) (now (a .runs)) (now (a .starts)) (now (a .u)) _ _ (s .2) (s .0) (c .before .before .index-part .ensures) (c .before .values-part .ensures) in
+    let a = c .before .before .before .before .before .before .before .before .before .before .args in
+    let s = c .before .before .before .before .before .before .before .before .before .before .pre in
+    let r = ready (a .n) (a .i) (now (a .upper)) (now (a .runs)) (now (a .starts)) (now (a .u)) _ _ (s .2) (s .0) (c .before .before .index-part .ensures) (c .before .values-part .ensures) in
     (r .0, rw (length-take-le (a .n) (now (a .f)) (omega (arith, s .1))) (r .1))
 
 same-length : tie.Need-same-length
@@ -50,15 +52,14 @@ same-length c = search needs
 
 returns : tie.Need-returns
 returns c =
-    let a = c .before .before .before .before .before .before .before .before .before .before .before .before .before .before .before .args in
-    stepped (a .n) (a .i .0) (now (a .f)) (now (a .upper)) (now (a .runs)) (now (a .starts)) (now (a .u)) (a .row) _ _ (c .before .before .before .axpy .last .0)
-    (c .before .before .before .before .before .before .index-part .ensures) (c .before .before .before .before .before .values-part .ensures) (c .before .before .before .axpy .ensures) (c .before .before .before .axpy .kept .0) (c .before .before .before .before .before .before .before .before .before .before .before .before .before .before .before .pre .1)
+    let a = c .before .before .before .before .before .before .before .before .before .before .before .before .before .before .args in
+    stepped (a .n) (a .i) (now (a .f)) (now (a .upper)) (now (a .runs)) (now (a .starts)) (now (a .u)) (a .row) _ _ (c .before .before .before .axpy .last .0)
+    (c .before .before .before .before .before .before .index-part .ensures) (c .before .before .before .before .before .values-part .ensures) (c .before .before .before .axpy .ensures) (c .before .before .before .axpy .kept .0) (c .before .before .before .before .before .before .before .before .before .before .before .before .before .before .pre .1)
 
 pub step-at-spec : {M : Type 1} → statement M
 step-at-spec =
     tie.close
     (tie.spec
-    cast-at
     mul-m
     slice-read-m
     add-y

@@ -1,10 +1,12 @@
 use Rattle.base.specs.Lists.{listAt}
+use mathlib.Core.Path.{refl}
+use native.Mathlib.Omega.{arith}
 use borrow.Author.Needs.{needs}
 use Rattle.numeric.proofs.values_part.Statement.{statement}
 use Rattle.numeric.proofs.values_part.Tie as tie
-
-cast-at : tie.Need-cast-at
-cast-at c = search needs
+use Rattle.numeric.proofs.values_part.Reads as reads
+use Rattle.numeric.proofs.values_part.Lts as lts
+use Rattle.numeric.proofs.wide32.Reads as wide32-reads
 
 mul-wide32 : tie.Need-mul-wide32
 mul-wide32 c = search needs
@@ -47,7 +49,6 @@ pub values-part-spec : {M : Type 1} → statement M
 values-part-spec =
     tie.close
     (tie.spec
-    cast-at
     mul-wide32
     shared-slice-read-wide32
     wide32-requires

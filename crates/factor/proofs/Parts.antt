@@ -1,0 +1,51 @@
+-- A turn of the loop that copies a list, and the parts of what is lent.
+use mathlib.Core.Path.{_≡_, refl, ap}
+use mathlib.Core.List.{List}
+use Prim.Native.Nat.{ℕ, _+_, _-_, _*_, _<_, _≤_}
+use native.Mathlib.Nat.{add-assoc, add-zero}
+use native.Mathlib.Numerals.{add-one}
+use native.Mathlib.Omega.{arith}
+use lib.ListN.{length, getD, take, drop, set, drop-of-length-le, length-drop}
+use lib.Seq.{sets, drop-cons, length-take-le}
+use lib.Ieee.{Float}
+use Rattle.base.specs.Lists.{listAt, rowOf}
+use Rattle.marks.specs.Marks.{ListIn}
+use Rattle.numeric.specs.Stores.{Below}
+use Rattle.factor.specs.Factoring.{OwnRow, lowerIn, LowerAt, Keepable}
+
+module _ (l s : List ℕ) (at p : ℕ) where
+  pub copy-start : sets s (at + 0) (drop 0 l) ≡ sets s at l
+  copy-start = rw add-zero
+
+  pub copy-turn : (v : ℕ) → v ≡ getD l p 0 → p < length l → sets (set s (at + p) v) (at + (p + 1)) (drop (p + 1) l) ≡ sets s (at + p) (drop p l)
+  copy-turn v e h = rw (e, ← add-assoc, add-one, add-one, drop-cons l p 0)
+
+  pub copy-end : length l ≤ p → sets s (at + p) (drop p l) ≡ s
+  copy-end h = rw (drop-of-length-le l h)
+
+-- ---- own row r(k)
+
+module _ (starts r : List ℕ) (k i : ℕ) (e : i ≡ getD r k 0) where
+  pub own-list : (columns : List ℕ) → OwnRow starts r (length columns) k → ListIn columns starts starts i
+  own-list columns h = rw e (record { has-run = omega (arith, h .starts-at); has-start = h .starts-at; rise = h .row .up; inside = omega (arith, h .row .up, h .row .within) })
+
+  pub own-bounds : (entries from to : ℕ) → from ≡ getD starts i 0 → to ≡ getD starts (i + 1) 0 → OwnRow starts r entries k → (from ≤ to) × (to ≤ entries)
+  own-bounds entries from to ef et h = rw (ef, et, e) (h .row .up, h .row .within)
+
+  pub own-part : {A : Type 0} (store : List A) (from to : ℕ) → from ≡ getD starts i 0 → to ≡ getD starts (i + 1) 0
+      → take (to - from) (drop from store) ≡ rowOf starts store (getD r k 0)
+  unfolding listAt
+  own-part store from to ef et = rw (ef, et, e)
+
+-- ---- a part by its length
+
+pub part-from : {A : Type 0} (s : List A) (from m : ℕ) → take (from + m - from) (drop from s) ≡ take m (drop from s)
+part-from s from m = let e : from + m - from ≡ m = omega arith in rw e
+
+-- what keeping L by rows asks
+pub keep-ready : (n k below : ℕ) (starts : List ℕ) (slots : ℕ) (work : List Float) (marks : List ℕ) (from : ℕ) (lower : List ℕ) → from ≡ getD starts k 0 → lower ≡ lowerIn n below marks
+    → LowerAt n below (length marks) → Keepable n k below starts slots (length work) (lowerIn n below marks) → (from + length lower ≤ slots) × Below (length (take n work)) lower
+keep-ready n k below starts slots work marks from lower ef el A K = (
+  omega (arith, K .room, ap length el, length-take-le below (drop (5 * n) marks) (simp length-drop (omega (arith, A .room)))),
+  rw (el, length-take-le n work (K .row)) (K .places),
+)

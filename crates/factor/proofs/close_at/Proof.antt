@@ -1,0 +1,47 @@
+use Rattle.numeric.specs.Rows.{Shut}
+use Rattle.numeric.specs.Stores.{Closable}
+use Rattle.base.specs.Lists.{listAt}
+use Prim.Native.Nat.{ℕ}
+use lib.ListN.{length}
+use mathlib.Core.List.{List}
+use mathlib.Core.Path.{sym, subst}
+use denote.Ref.{now}
+use native.Mathlib.Omega.{arith}
+use borrow.Author.Needs.{needs}
+use Rattle.factor.proofs.close_at.Statement.{statement}
+use Rattle.factor.proofs.close_at.Tie as tie
+use Rattle.factor.proofs.close_at.Reads as reads
+use Rattle.factor.proofs.close_at.Lts as lts
+use Rattle.factor.proofs.lower_part.Reads as lower-part-reads
+use Rattle.numeric.proofs.close_row.Reads as close-row-reads
+
+cast-place : tie.Need-cast-place
+cast-place c = search needs
+
+lower-part-requires : tie.Need-lower-part-requires
+lower-part-requires c κs = search needs
+
+close-row-requires : tie.Need-close-row-requires
+close-row-requires c κs =
+    let s = c .before .before .before .before .before .before .before .before .before .before in
+    let a = s .args in
+    subst (λ (l : List ℕ). Closable (a .n) (a .k .0) (length (now (a .work))) l (now (a .uindex)) (now (a .uruns)) (now (a .ustarts)) (length (now (a .d))))
+    (sym (c .before .before .lower-part .ensures)) (s .pre .1)
+
+same-length : tie.Need-same-length
+same-length c = search needs
+
+same-length-2 : tie.Need-same-length-2
+same-length-2 c = search needs
+
+returns : tie.Need-returns
+returns c =
+    let s = c .before .before .before .before .before .before .before .before .before .before .before .before .before .before .before in
+    let a = s .args in
+    subst (λ (l : List ℕ). Shut (a .n) (a .k .0) l (listAt (now (a .uindex)) (now (a .uruns)) (now (a .ustarts)) (a .k .0)) (now (a .work)) (c .before .before .before .before .close-row .last .0)
+    (now (a .d)) (c .before .before .before .before .close-row .last .1 .1 .1 .1 .1 .1 .1 .0) (a .t)) (c .before .before .before .before .before .before .before .lower-part .ensures) (c .before .before .before .before .close-row .ensures)
+
+pub close-at-spec : {M : Type 1} → statement M
+close-at-spec =
+    tie.close
+    (tie.spec cast-place lower-part-requires close-row-requires same-length same-length-2 returns)

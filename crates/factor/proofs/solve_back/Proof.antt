@@ -1,0 +1,57 @@
+use Rattle.factor.specs.EndLaws.{stopped-below, complete-at, stopped-at}
+use Rattle.numeric.specs.Stores.{storeGiven}
+use Prim.Native.Nat.{_+_}
+use lib.ListN.{drop}
+use denote.Ref.{now}
+use native.Mathlib.Omega.{arith}
+use borrow.Author.Needs.{needs}
+use Rattle.factor.proofs.solve_back.Statement.{statement}
+use Rattle.factor.proofs.solve_back.Tie as tie
+use Rattle.factor.proofs.solve_back.Reads as reads
+use Rattle.factor.proofs.solve_back.Lts as lts
+use Rattle.numeric.proofs.back_steps.Reads as back-steps-reads
+
+back-steps-requires : tie.Need-back-steps-requires
+back-steps-requires c κs = search needs
+
+enum-told : tie.Need-enum-told
+enum-told c = search needs
+
+enum-known-z : tie.Need-enum-known-z
+enum-known-z c = search needs
+
+cast-t12 : tie.Need-cast-t12
+cast-t12 c =
+    let s = c .before .before .before .before .before .before .before .before .before .before .before .before in
+    let a = s .args in
+    omega (
+      arith,
+      s .pre .few,
+      stopped-below (storeGiven (a .n) (now (a .work)) (now (a .uindex)) (now (a .uruns)) (now (a .ustarts)) (now (a .uvalues))) (a .n) (c .before .z .given .0 .0) (drop (a .n + a .n) (now (a .work)))
+          (stopped-at _ _ (c .before .before .before .before .before .back-steps .result) _ (c .before .z .given .1) (c .before .before .before .before .before .back-steps .ensures .0)),
+    )
+
+same-length : tie.Need-same-length
+same-length c = search needs
+
+returns : tie.Need-returns
+returns c = complete-at _ (c .before .before .before .before .back-steps .result) _ (c .enum-told .given .1) (c .before .before .before .before .back-steps .ensures .0)
+
+same-length-2 : tie.Need-same-length-2
+same-length-2 c = search needs
+
+returns-2 : tie.Need-returns-2
+returns-2 c = stopped-at _ _ (c .before .before .before .before .before .back-steps .result) _ (c .before .z .given .1) (c .before .before .before .before .before .back-steps .ensures .0)
+
+pub solve-back-spec : {M : Type 1} → statement M
+solve-back-spec =
+    tie.close
+    (tie.spec
+    back-steps-requires
+    enum-told
+    enum-known-z
+    cast-t12
+    same-length
+    returns
+    same-length-2
+    returns-2)

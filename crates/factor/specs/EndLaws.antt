@@ -1,0 +1,234 @@
+-- Before the first row, and from the last row and the back steps to the answer.
+use mathlib.Core.Path.{_≡_, refl, sym, ap, _∙_}
+use mathlib.Core.Bool.{Bool, true, false, cond}
+use mathlib.Core.List.{List, [], _∷_, _++_}
+use Prim.Native.Nat.{ℕ, zero, suc, _+_, _-_, _*_, _<_, _≤_}
+use native.Mathlib.Omega.{arith}
+use lib.ListN.{length, getD, take, drop, set, replicate, length-replicate}
+use lib.Seq.{ext-getD, getD-take, getD-drop, drop-drop}
+use lib.Ieee.{Float, nan, binary64, mul, sub}
+use lib.Ieee.Scale.{finite}
+use Rattle.base.specs.Lists.{nought, blank, listAt, rowOf, joined, padded, table}
+use Rattle.base.specs.Tests.{by-test}
+use Rattle.base.specs.TableLaws.{getD-table, length-table}
+use Rattle.base.specs.declared.Form.{Form}
+use Rattle.base.specs.declared.Form.the-variants.{Plain, Shared, ByRow}
+use Rattle.base.specs.declared.Side.the-variants.{Lower, Upper}
+use Rattle.fill.specs.Fill.{Pattern}
+use Rattle.placement.specs.Placing.{startOf}
+use Rattle.matrix.specs.Input.{Input, ic, stored}
+use Rattle.arithmetic.specs.Arith.{Fault, zeroPivot, overflow, Out, ok, met, _>>=_, at, less, System, Row, none, Given, rest, back, Result}
+use Rattle.outcome.specs.Forms.{valueNeed}
+use Rattle.outcome.specs.Placed.{PlacedSide, start-at, size-at, list-at}
+use Rattle.outcome.specs.Solve.{system, listed, valuesKept, pivotsKept}
+use Rattle.questions.specs.Lent.{invertedAt}
+use Rattle.questions.specs.ScatterLaws.{placed-front, placed-inverse, placed-rest}
+use Rattle.base.specs.ZerosLaws.{blank-length, blank-at}
+use Rattle.marks.specs.Marks.{Fresh}
+use Rattle.rows.specs.Rows as found
+use Rattle.rows.specs.CutLaws as cuts
+use Rattle.numeric.specs.declared.Back.the-variants.{Complete, Stopped}
+use Rattle.numeric.specs.declared.Back.{Back}
+use Rattle.numeric.specs.Stores.{storeGiven, numberedBack}
+use Rattle.numeric.specs.Rows.{Held, Stacked, uOf, lOf, columnOf}
+use Rattle.numeric.specs.KeepLaws.{columns-end}
+use Rattle.numeric.specs.StoreLaws.{stacked-none, stacked-all}
+use Rattle.numeric.specs.PassLaws.{forward-length, held-start, held-y, held-solved, held-stopped}
+use Rattle.factor.specs.Factoring.{Factors, FactoredAs, Lists, Written, LowerPlaced, Factorable, LowerHeld, Inverse, Finding, Going, backAs, BackReady}
+use Rattle.factor.specs.SystemLaws.{placed-shape}
+use Rattle.factor.specs.TurnLaws.{Sizes, same-given}
+use Rattle.factor.specs.ColumnLaws.{shared-side, shared-fits, column-is}
+use Rattle.factor.specs.declared.Factored.{Factored}
+use Rattle.factor.specs.declared.Factored.the-variants.{Solved, Zero, Overflow}
+
+-- ---- before the first row
+
+pub cleared : (x y : List Float) → length x ≡ length y → x ≡ blank nought y → x ≡ replicate (length x) nought
+unfolding blank
+cleared x y l e = e ∙ rw l
+
+pub inverse-start : (i : Input) (m s : List ℕ) → i .n + i .n ≤ length s → m ≡ invertedAt (i .c) (i .n) s → Inverse i m
+inverse-start i m s h e j b =
+    rw e (sym (getD-drop (i .n) (invertedAt (i .c) (i .n) s) j 0) ∙ sym (getD-take (i .n) (drop (i .n) (invertedAt (i .c) (i .n) s)) j 0 b)
+    ∙ ap (λ (l : List ℕ). getD l j 0) (placed-inverse (i .c) (i .n) s (omega arith)) ∙ getD-table (ic (i .c) (i .n)) (i .n) 0 j b)
+
+pub going-start : {f : Form} {i : Input} {L : Lists} {w : Written} → Factorable f i L w → w .upper ≡ replicate (length (w .upper)) nought → w .work ≡ replicate (length (w .work)) nought
+    → LowerHeld f (system i) [] 0 (L .lower-starts) (drop (4 * i .n) (w .marks)) (w .lower) → Inverse i (w .marks) → Finding f i L 0 (w .marks) → Going f i L 0 w
+unfolding system
+going-start {f} {i} {L} {w} F eu ew lower inv find = record {
+  given = F;
+  rows = [];
+  held = held-start (system i) (i .n) (w .work) (L .upper-index) (L .upper-runs) (L .upper-starts) (w .upper) refl
+      (λ j b. sym (list-at f Upper (stored i) (i .n) (L .upper-starts) (L .upper-runs) (L .upper-index) (length (w .upper)) (F .upper-side) j b))
+      (ew ∙ ap (λ (m : ℕ). replicate m nought) (F .scratch)) eu;
+  pivots = λ j b. absurd (omega arith);
+  lower = lower;
+  inverse = inv;
+  finding = find;
+}
+
+-- the plain form, w as it was lent and x once it is cleared
+pub plain-start : {i : Input} {L : Lists} {w : Written} (x : Written) → Factorable Plain i L w → Sizes w x → x .lower ≡ blank nought (w .lower) → x .upper ≡ blank nought (w .upper)
+    → x .work ≡ blank nought (w .work) → x .marks ≡ invertedAt (i .c) (i .n) (w .marks) → Going Plain i L 0 x
+plain-start {i} {L} {w} x F s el eu ew em =
+    going-start (same-given s F) (cleared (x .upper) (w .upper) (s .upper-size) eu) (cleared (x .work) (w .work) (s .work-size) ew)
+    (stacked-none nought (lOf []) (L .lower-starts) (x .lower) (cleared (x .lower) (w .lower) (s .lower-size) el)) (inverse-start i (x .marks) (w .marks) (omega (arith, F .slots)) em) tt
+
+-- the marks of the other forms are cleared first
+module _ (i : Input) (m s : List ℕ) (l : 8 * i .n ≤ length s) (e : m ≡ invertedAt (i .c) (i .n) (blank 0 s)) where
+  long : length (blank 0 s) ≡ length s
+  long = blank-length 0 s
+
+  pub marks-inverse : Inverse i m
+  marks-inverse = inverse-start i m (blank 0 s) (omega (arith, long)) e
+
+  fresh-marks : Fresh (i .n) 1 m
+  fresh-marks j b =
+      let q : getD m j 0 ≡ 0 =
+      rw e (sym (getD-take (i .n) (invertedAt (i .c) (i .n) (blank 0 s)) j 0 b) ∙ ap (λ (x : List ℕ). getD x j 0) (placed-front (i .c) (i .n) (blank 0 s) (omega (arith, long)))
+      ∙ getD-take (i .n) (blank 0 s) j 0 b ∙ blank-at 0 s j 0 (omega arith)) in
+      omega arith
+
+  pub marks-finding : (index runs starts : List ℕ) → found.Held (stored i) (i .n) 0 (0 + 1) (3 * i .n) m index runs starts
+  marks-finding index runs starts = cuts.held-start (stored i) (i .n) 1 (3 * i .n) m index runs starts fresh-marks
+
+  pub marks-cursors : (j : ℕ) → j < i .n → getD (drop (4 * i .n) m) j 0 ≡ 0
+  marks-cursors j b =
+      let q : i .n + i .n + (2 * i .n + j) ≡ 4 * i .n + j = omega arith in
+      getD-drop (4 * i .n) m j 0
+      ∙ rw e (rw (← q) (sym (getD-drop (i .n + i .n) (invertedAt (i .c) (i .n) (blank 0 s)) (2 * i .n + j) 0)
+      ∙ ap (λ (x : List ℕ). getD x (2 * i .n + j) 0) (placed-rest (i .c) (i .n) (blank 0 s) (omega (arith, long))) ∙ getD-drop (i .n + i .n) (blank 0 s) (2 * i .n + j) 0
+      ∙ blank-at 0 s (i .n + i .n + (2 * i .n + j)) 0 (omega arith)))
+
+pub row-start : {i : Input} {L : Lists} {w : Written} (x : Written) → Factorable ByRow i L w → Sizes w x → x .upper ≡ blank nought (w .upper)
+    → x .work ≡ blank nought (w .work) → x .marks ≡ invertedAt (i .c) (i .n) (blank 0 (w .marks)) → Going ByRow i L 0 x
+row-start {i} {L} {w} x F s eu ew em =
+    let F′ = same-given s F in
+    going-start F′ (cleared (x .upper) (w .upper) (s .upper-size) eu) (cleared (x .work) (w .work) (s .work-size) ew) (F′ .lower-side)
+    (marks-inverse i (x .marks) (w .marks) (F .slots) em) (marks-finding i (x .marks) (w .marks) (F .slots) em (L .upper-index) (L .upper-runs) (L .upper-starts))
+
+-- ---- a fault in the back steps is an overflow at one of the n places
+
+bind-fault : {A B C : Type 0} (o : Out A) (g : A → Out B) (q : Fault) → (o >>= g) ≡ met q → (o ≡ met q → C) → ((a : A) → g a ≡ met q → C) → C
+bind-fault (ok a) g q e f h = h a e
+bind-fault (met p) g q e f h = f (cc)
+
+at-fault : (k : ℕ) (x : Float) (q : Fault) → at k x ≡ met q → q ≡ overflow k
+at-fault k x q e = by-test (finite x)
+    (λ t. let z : ok x ≡ met q = rw t at e in absurd (let w : _≡_ {A = ℕ} 0 1 = cc in omega arith))
+    (λ t. let z : met (overflow k) ≡ met q = rw t at e in cc)
+
+less-fault : (k : ℕ) (v a b : Float) (q : Fault) → less (at k) v a b ≡ met q → q ≡ overflow k
+less-fault k v a b q e = bind-fault (at k (mul binary64 a b)) (λ p. at k (sub binary64 v p)) q e (at-fault k (mul binary64 a b) q) (λ p. at-fault k (sub binary64 v p) q)
+
+rest-fault : (k : ℕ) (t : Float) (js : List ℕ) (us z : List Float) (q : Fault) → rest (at k) t js us z ≡ met q → q ≡ overflow k
+unfolding rest
+rest-fault k t [] us z q e = absurd (let w : _≡_ {A = ℕ} 0 1 = cc in omega arith)
+rest-fault k t (j ∷ js) [] z q e = absurd (let w : _≡_ {A = ℕ} 0 1 = cc in omega arith)
+rest-fault k t (j ∷ js) (u ∷ us) z q e =
+    bind-fault (less (at k) t u (getD z j nan)) (λ s. rest (at k) s js us z) q e (less-fault k t u (getD z j nan) q) (λ s. rest-fault k s js us z q)
+
+pub back-fault : (G : Given) (n : ℕ) (z : List Float) (q : Fault) → back G n z ≡ met q → (k : ℕ) × (k < n) × (q ≡ overflow k)
+unfolding back
+back-fault G zero z q e = absurd (let w : _≡_ {A = ℕ} 0 1 = cc in omega arith)
+back-fault G (suc m) z q e =
+    bind-fault (rest (at m) (G .y m) (G .upper m) (G .u m) z) (λ t. back G m (set z m t)) q e
+    (λ r. (m, omega arith, rest-fault m (G .y m) (G .upper m) (G .u m) z q r))
+    (λ t r. let p = back-fault G m (set z m t) q r in (p .0, omega (arith, p .1), p .2))
+
+pub stopped-below : (G : Given) (n k : ℕ) (z : List Float) → met (overflow k) ≡ back G n z → k < n
+stopped-below G n k z e =
+    let p = back-fault G n z (overflow k) (sym e) in
+    let z : k ≡ p .0 = cc in
+    omega (arith, p .1)
+
+pub complete-at : (z : List Float) (r : Back) (o : Out (List Float)) → r ≡ Complete → numberedBack z r ≡ o → ok z ≡ o
+complete-at z r o e h = rw e at h
+
+pub stopped-at : (k : ℕ) (z : List Float) (r : Back) (o : Out (List Float)) → r ≡ Stopped k → numberedBack z r ≡ o → met (overflow k) ≡ o
+stopped-at k z r o e h = rw e at h
+
+-- ---- the factors
+
+upper-kept : (f : Form) (P : Pattern) (n : ℕ) (rows : List Row) → valuesKept f Upper P n rows ≡ joined (uOf rows) n
+unfolding valuesKept
+upper-kept Plain P n rows = refl
+upper-kept Shared P n rows = refl
+upper-kept ByRow P n rows = refl
+
+pivots-kept : (n : ℕ) (d : List Float) (rows : List Row) → length d ≡ n → ((j : ℕ) → j < n → getD d j nan ≡ getD rows j none .d) → d ≡ pivotsKept n rows
+unfolding pivotsKept
+pivots-kept n d rows l e =
+    ext-getD nan d (table (λ k. getD rows k none .d) n) (l ∙ sym (length-table (λ k. getD rows k none .d) n))
+    (λ j b. e j (omega arith) ∙ sym (getD-table (λ k. getD rows k none .d) n nan j (omega arith)))
+
+start-zero : (f : Form) (P : Pattern) (n : ℕ) (starts runs index : List ℕ) (size : ℕ) → PlacedSide f Upper P n starts runs index size → getD starts 0 0 ≡ 0
+unfolding valueNeed startOf
+start-zero f P n starts runs index size h = start-at f Upper P n starts runs index size h 0 (omega arith)
+
+joined-none : {A : Type 0} (n : ℕ) → joined {A = A} (λ (k : ℕ). []) n ≡ []
+unfolding joined
+joined-none zero = refl
+joined-none (suc n) = rw (joined-none n)
+
+joined-same : {A : Type 0} (f g : ℕ → List A) (n : ℕ) → ((k : ℕ) → k < n → f k ≡ g k) → joined f n ≡ joined g n
+unfolding joined
+joined-same f g zero e = refl
+joined-same f g (suc n) e = rw (joined-same f g n (λ k h. e k (omega arith)), e n (omega arith))
+
+-- L by form
+lower-kept : (f : Form) (i : Input) (L : Lists) (rows : List Row) (cursors : List ℕ) (l : List Float) → LowerPlaced f (stored i) (i .n) L l
+    → LowerHeld f (system i) rows (i .n) (L .lower-starts) cursors l → l ≡ padded nought (length l) (valuesKept f Lower (stored i) (i .n) rows)
+unfolding system valuesKept valueNeed startOf padded
+lower-kept Plain i L rows cursors l S h =
+    stacked-all nought (lOf rows) (i .n) (L .lower-starts) l
+    (start-at Plain Lower (stored i) (i .n) (L .lower-starts) (L .lower-starts) (L .lower-index) (length l) S 0 (omega arith))
+    (λ j b. omega (arith, size-at Plain Lower (stored i) (i .n) (L .lower-starts) (L .lower-starts) (L .lower-index) (length l) S j b))
+    (omega (arith, start-at Plain Lower (stored i) (i .n) (L .lower-starts) (L .lower-starts) (L .lower-index) (length l) S (i .n) (omega arith), S .values-in)) h
+lower-kept Shared i L rows cursors l S h =
+    let side = shared-side (stored i) (i .n) (L .lower-starts) (length l) S in
+    stacked-all nought (columnOf (system i .lower) rows (i .n)) (i .n) (L .lower-starts) l
+    (start-at Shared Lower (stored i) (i .n) (L .lower-starts) _ _ (length l) side 0 (omega arith))
+    (λ j b. omega (arith, size-at Shared Lower (stored i) (i .n) (L .lower-starts) _ _ (length l) side j b))
+    (omega (arith, start-at Shared Lower (stored i) (i .n) (L .lower-starts) _ _ (length l) side (i .n) (omega arith), S .values-in))
+    (columns-end (system i) (L .lower-starts) (λ j b. omega (arith, size-at Shared Lower (stored i) (i .n) (L .lower-starts) _ _ (length l) side j b))
+    (shared-fits i (L .lower-starts) (length l) S) rows cursors l h)
+    ∙ ap (padded nought (length l)) (joined-same _ _ (i .n) (λ j b. column-is (stored i) (i .n) rows j))
+lower-kept ByRow i L rows cursors l S h = rw (h, joined-none (i .n))
+
+-- ---- the answer
+
+module _ {f : Form} {i : Input} {L : Lists} {w : Written} (G : Going f i L (i .n) w) where
+  -- what the back steps ask
+  pub back-ready : BackReady (i .n) (L .upper-index) (L .upper-runs) (L .upper-starts) (length (w .upper)) (w .work)
+  back-ready = record {
+    few = omega (arith, G .given .lent .lent .orders .few);
+    scratch = G .given .scratch;
+    shape = placed-shape f (stored i) (i .n) (L .upper-starts) (L .upper-runs) (L .upper-index) (length (w .upper)) (G .given .upper-side);
+    sums = held-y (G .held);
+  }
+
+  factors : (z : List Float) → Factors f i (record { rows = G .rows; z = z }) (w .lower) (w .upper) (w .d) z
+  unfolding valueNeed
+  factors z =
+      let S = G .given .upper-side in
+      record {
+        lower-values = lower-kept f i L (G .rows) (drop (4 * i .n) (w .marks)) (w .lower) (G .given .lower-side) (G .lower);
+        upper-values = stacked-all nought (uOf (G .rows)) (i .n) (L .upper-starts) (w .upper)
+            (start-zero f (stored i) (i .n) (L .upper-starts) (L .upper-runs) (L .upper-index) (length (w .upper)) S)
+            (λ j b. omega (arith, size-at f Upper (stored i) (i .n) (L .upper-starts) (L .upper-runs) (L .upper-index) (length (w .upper)) S j b))
+            (omega (arith, start-at f Upper (stored i) (i .n) (L .upper-starts) (L .upper-runs) (L .upper-index) (length (w .upper)) S (i .n) (omega arith), S .values-in)) (G .held .us)
+            ∙ ap (padded nought (length (w .upper))) (sym (upper-kept f (stored i) (i .n) (G .rows)));
+        reciprocals = pivots-kept (i .n) (w .d) (G .rows) (G .given .reciprocals) (G .pivots);
+        solution = refl;
+      }
+
+  pub going-end : (z : List Float) (r : Factored) → backAs z r ≡ back (storeGiven (i .n) (w .work) (L .upper-index) (L .upper-runs) (L .upper-starts) (w .upper)) (i .n) (drop (i .n + i .n) (w .work))
+      → FactoredAs f i r (w .lower) (w .upper) (w .d) z
+  unfolding listed FactoredAs
+  going-end z Solved e = (record { rows = G .rows; z = z }, held-solved (G .held) z Complete e refl, factors z)
+  going-end z (Overflow k) e = held-stopped (G .held) (k .0) z (Stopped (k .0)) e refl
+  going-end z (Zero k) e =
+      let p = back-fault _ (i .n) _ (zeroPivot (k .0)) (sym e) in
+      let q = p .2 in
+      absurd (let y : _≡_ {A = ℕ} 0 1 = cc in omega arith)

@@ -1,0 +1,176 @@
+-- The factors and z that a solve leaves, in each form, and what stands in the stores between two rows of the arithmetic. Definitions only.
+use mathlib.Core.Path.{_≡_}
+use mathlib.Core.List.{List, []}
+use Prim.Native.Nat.{ℕ, _+_, _*_, _<_, _≤_}
+use lib.ListN.{length, getD, take, drop}
+use mathlib.Core.Bool.{Bool, true, false}
+use lib.Ieee.{Float, nan}
+use lib.Ieee.Scale.{finite}
+use Rattle.base.specs.Lists.{nought, padded, table}
+use Rattle.base.specs.declared.Form.{Form}
+use Rattle.base.specs.declared.Form.the-variants.{Plain, Shared, ByRow}
+use Rattle.base.specs.declared.Side.the-variants.{Lower, Upper}
+use Rattle.fill.specs.Fill.{Pattern, lowerRow}
+use Rattle.matrix.specs.Input.{Input, ic, stored}
+use Rattle.arithmetic.specs.Arith.{Out, ok, met, zeroPivot, overflow, System, Row, none, Result}
+use Rattle.outcome.specs.Forms.{valueNeed}
+use Rattle.outcome.specs.Placed.{PlacedSide}
+use Rattle.outcome.specs.Solve.{system, listed, valuesKept, pivotsKept}
+use Rattle.questions.specs.Lent.{SolveLent}
+use Rattle.questions.specs.Settled.{RowIn, Settled}
+use Rattle.numeric.specs.Stores.{Below, Shape}
+use Rattle.numeric.specs.Rows.{Held, Reduced, Stacked, lOf, columnOf, InColumns}
+use Rattle.rows.specs.Rows as found
+use Rattle.factor.specs.declared.Factored.{Factored}
+use Rattle.factor.specs.declared.Factored.the-variants.{Solved, Zero, Overflow}
+
+-- ---- the answer
+
+-- the results of the listed operations as the stores hold them, with +0 in the unused slots
+pub record Factors (f : Form) (i : Input) (a : Result) (lower upper d z : List Float) : Type 0 where
+  pub lower-values : lower ≡ padded nought (length lower) (valuesKept f Lower (stored i) (i .n) (a .rows))
+  pub upper-values : upper ≡ padded nought (length upper) (valuesKept f Upper (stored i) (i .n) (a .rows))
+  pub reciprocals : d ≡ pivotsKept (i .n) (a .rows)
+  pub solution : z ≡ a .z
+
+-- "of 12 and 13, whichever the arithmetic meets first", or neither
+unfoldable pub FactoredAs : Form → Input → Factored → List Float → List Float → List Float → List Float → Type 0
+FactoredAs f i Solved lower upper d z = (a : Result) × (listed i ≡ ok a) × Factors f i a lower upper d z
+FactoredAs f i (Zero k) lower upper d z = listed i ≡ met (zeroPivot (k .0))
+FactoredAs f i (Overflow k) lower upper d z = listed i ≡ met (overflow (k .0))
+
+-- ---- what is lent
+
+-- the lists that the arithmetic reads; a form that does not read one has [] for it
+pub record Lists : Type 0 where
+  pub lower-starts : List ℕ
+  pub lower-index : List ℕ
+  pub upper-starts : List ℕ
+  pub upper-runs : List ℕ
+  pub upper-index : List ℕ
+
+abbrev pub lists : List ℕ → List ℕ → List ℕ → List ℕ → List ℕ → Lists
+lists ls li us ur ui = record { lower-starts = ls; lower-index = li; upper-starts = us; upper-runs = ur; upper-index = ui }
+
+-- and what it writes
+pub record Written : Type 0 where
+  pub lower : List Float
+  pub upper : List Float
+  pub d : List Float
+  pub work : List Float
+  pub marks : List ℕ
+
+abbrev pub written : List Float → List Float → List Float → List Float → List ℕ → Written
+written l u d w m = record { lower = l; upper = u; d = d; work = w; marks = m }
+
+-- the lower side: all of it in the plain form, its list starts and the room for its values in the shared form
+pub record Starts (f : Form) (P : Pattern) (n : ℕ) (starts : List ℕ) (values : ℕ) : Type 0 where
+  pub starts-are : starts ≡ table (valueNeed f Lower P n) (n + 1)
+  pub values-in : valueNeed f Lower P n n ≤ values
+
+abbrev pub LowerPlaced : Form → Pattern → ℕ → Lists → List Float → Type 0
+LowerPlaced Plain P n L l = PlacedSide Plain Lower P n (L .lower-starts) (L .lower-starts) (L .lower-index) (length l)
+LowerPlaced Shared P n L l = Starts Shared P n (L .lower-starts) (length l)
+LowerPlaced ByRow P n L l = l ≡ []
+
+-- questions 1 to 11 are passed, and the lists of every place stand in their stores
+pub record Factorable (f : Form) (i : Input) (L : Lists) (w : Written) : Type 0 where
+  pub lent : SolveLent i (length (w .marks))
+  pub settled : Settled i
+  pub lower-side : LowerPlaced f (stored i) (i .n) L (w .lower)
+  pub upper-side : PlacedSide f Upper (stored i) (i .n) (L .upper-starts) (L .upper-runs) (L .upper-index) (length (w .upper))
+  pub reciprocals : length (w .d) ≡ i .n
+  pub scratch : length (w .work) ≡ i .n + i .n + i .n
+  pub slots : 8 * i .n ≤ length (w .marks)
+
+-- ---- between two rows. Scratch has the inverse column order from slot n on, the cuts from 3n, the cursors of L from 4n, lower row k from 5n.
+
+-- L of the rows done, by rows, or by columns, or not at all
+abbrev pub LowerHeld : Form → System → List Row → ℕ → List ℕ → List ℕ → List Float → Type 0
+LowerHeld Plain S rows k starts cursors l = Stacked nought (lOf rows) k starts l
+LowerHeld Shared S rows k starts cursors l = InColumns (S .n) starts cursors l (columnOf (S .lower) rows k)
+LowerHeld ByRow S rows k starts cursors l = l ≡ []
+
+-- slots n to 2n hold the inverse of the column order
+abbrev pub Inverse : Input → List ℕ → Type 0
+Inverse i s = (j : ℕ) → j < i .n → getD s (i .n + j) 0 ≡ ic (i .c) (i .n) j
+
+-- by which lower row k is found: the plain form reads it
+abbrev pub Finding : Form → Input → Lists → ℕ → List ℕ → Type 0
+Finding Plain i L k s = Unit {0}
+Finding Shared i L k s = found.Held (stored i) (i .n) k (k + 1) (3 * i .n) s (L .upper-index) (L .upper-runs) (L .upper-starts)
+Finding ByRow i L k s = found.Held (stored i) (i .n) k (k + 1) (3 * i .n) s (L .upper-index) (L .upper-runs) (L .upper-starts)
+
+-- rows 0 to k - 1 are done
+pub record Going (f : Form) (i : Input) (L : Lists) (k : ℕ) (w : Written) : Type 0 where
+  pub given : Factorable f i L w
+  pub rows : List Row
+  pub held : Held (system i) rows (i .n) k (w .work) (L .upper-index) (L .upper-runs) (L .upper-starts) (w .upper)
+  pub pivots : (j : ℕ) → j < k → getD (w .d) j nan ≡ getD rows j none .d
+  pub lower : LowerHeld f (system i) rows k (L .lower-starts) (drop (4 * i .n) (w .marks)) (w .lower)
+  pub inverse : Inverse i (w .marks)
+  pub finding : Finding f i L k (w .marks)
+
+-- rows 0 to k - 1 are done, or the listed operations meet a fault in one of them
+unfoldable pub CameTo : Form → Input → Lists → ℕ → Factored → Written → Type 0
+CameTo f i L k Solved w = Going f i L k w
+CameTo f i L k (Zero p) w = listed i ≡ met (zeroPivot (p .0))
+CameTo f i L k (Overflow p) w = listed i ≡ met (overflow (p .0))
+
+abbrev pub isFault : Factored → Bool
+isFault Solved = false
+isFault (Zero k) = true
+isFault (Overflow k) = true
+
+-- ---- row k
+
+-- own row r(k) stands within that many entries
+pub record OwnRow (starts r : List ℕ) (entries k : ℕ) : Type 0 where
+  pub place : k < length r
+  pub starts-at : getD r k 0 + 1 < length starts
+  pub row : RowIn starts entries (getD r k 0)
+
+-- its lower row, so long, in the marks
+abbrev pub lowerIn : ℕ → ℕ → List ℕ → List ℕ
+lowerIn n below marks = take below (drop (5 * n) marks)
+
+pub record LowerAt (n below slots : ℕ) : Type 0 where
+  pub few : n ≤ 65536
+  pub room : 5 * n + below ≤ slots
+
+-- what its steps find
+pub record RowAt (i : Input) (k below : ℕ) (starts runs index marks : List ℕ) (upper work : ℕ) : Type 0 where
+  pub place : k < i .n
+  pub lent : SolveLent i (length marks)
+  pub settled : Settled i
+  pub shape : Shape (i .n) index runs starts upper
+  pub scratch : work ≡ i .n + i .n + i .n
+  pub slots : 8 * i .n ≤ length marks
+  pub columns : OwnRow (i .starts) (i .r) (length (i .columns)) k
+  pub values : OwnRow (i .starts) (i .r) (length (i .values)) k
+  pub right : getD (i .r) k 0 < length (i .b)
+  pub short : below ≤ i .n
+  pub inverse : Inverse i marks
+  pub lower : lowerIn (i .n) below marks ≡ lowerRow (stored i) k
+
+-- room for its L from its list start on, and its multipliers in the working row
+pub record Keepable (n k below : ℕ) (starts : List ℕ) (slots work : ℕ) (lower : List ℕ) : Type 0 where
+  pub start : k < length starts
+  pub room : getD starts k 0 + below ≤ slots
+  pub row : n ≤ work
+  pub places : Below n lower
+
+-- ---- the back steps
+
+-- what they ask: every y is finite
+pub record BackReady (n : ℕ) (index runs starts : List ℕ) (upper : ℕ) (work : List Float) : Type 0 where
+  pub few : n ≤ 65536
+  pub scratch : length work ≡ n + n + n
+  pub shape : Shape n index runs starts upper
+  pub sums : (k : ℕ) → k < n → finite (getD work (n + k) nan) ≡ true
+
+-- z, or what they meet
+abbrev pub backAs : List Float → Factored → Out (List Float)
+backAs z Solved = ok z
+backAs z (Zero k) = met (zeroPivot (k .0))
+backAs z (Overflow k) = met (overflow (k .0))

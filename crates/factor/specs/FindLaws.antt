@@ -1,0 +1,203 @@
+-- Lower row k found anew, in the forms that keep no lower rows: what finding it asks and leaves, and how it goes on from row to row.
+use mathlib.Core.Path.{_≡_, refl, sym, ap, _∙_, subst}
+use mathlib.Core.Bool.{Bool, true, false}
+use mathlib.Core.List.{List, [], _∷_, _++_, map}
+use Prim.Native.Nat.{ℕ, zero, suc, _+_, _-_, _*_, _<_, _≤_}
+use native.Mathlib.Omega.{arith}
+use lib.ListN.{length, getD, take, drop, length-drop}
+use lib.Ieee.{Float}
+use lib.Seq.{getD-take, getD-drop, ext-getD, length-take-le}
+use Rattle.base.specs.Lists.{has, listAt, rowOf}
+use Rattle.base.specs.declared.Form.{Form}
+use Rattle.base.specs.declared.Form.the-variants.{ByRow}
+use Rattle.base.specs.declared.RowSums.{RowSums}
+use Rattle.outcome.specs.Solve.{system}
+use Rattle.numeric.specs.declared.Pivot.{Pivot}
+use Rattle.numeric.specs.declared.Pivot.the-variants.{Kept}
+use Rattle.numeric.specs.Rows.{Reduced, Shut}
+use Rattle.base.specs.declared.Side.the-variants.{Upper}
+use Rattle.fill.specs.Fill.{Pattern, filled, lowerRow, upperRow}
+use Rattle.matrix.specs.Input.{Input, inputOf, ic, stored}
+use Rattle.matrix.specs.OrderLaws.{order-below, place-hits}
+use Rattle.questions.specs.Settled.{Under, columnsAt}
+use Rattle.questions.specs.SettledLaws.{row-under, stored-is}
+use Rattle.outcome.specs.Placed.{PlacedSide, starts-long, size-at, run-at, run-inside, list-at}
+use Rattle.marks.specs.Marks.{Below, Room, Holds, Base, ListIn, Parts, Blocks, through}
+use Rattle.marks.specs.MarkLaws.{holds-same, room-kept}
+use Rattle.rows.specs.Rows.{Stored, Cuts, Held, Loaded, Closed, Listed, Renewed}
+use Rattle.rows.specs.FillLaws.{held-parts}
+use Rattle.rows.specs.ListLaws.{listed-lower, listed-but, lower-le, upper-le}
+use Rattle.rows.specs.Turn.{loaded-cuts, closed-marks, listed-marks, listed-cuts, place-turn}
+use Rattle.factor.specs.Factoring.{Lists, Written, written, Inverse, Going, RowAt, lowerIn}
+use Rattle.factor.specs.TurnLaws.{Sizes, row-at, going-more}
+
+-- ---- definitions
+
+-- M' of what is lent to find a lower row
+abbrev pub patternOf : ℕ → List ℕ → List ℕ → List ℕ → List ℕ → Pattern
+patternOf n starts columns r c = stored (inputOf n starts columns [] r c [])
+
+pub record Findable (P : Pattern) (n k : ℕ) (starts columns r index runs ustarts s : List ℕ) : Type 0 where
+  pub place : k < n
+  pub room : Room n s
+  pub own-place : k < length r
+  pub row : ListIn columns starts starts (getD r k 0)
+  pub columns-below : Below n (rowOf starts columns (getD r k 0))
+  pub inverse : (j : ℕ) → j < n → getD s (n + j) 0 < n
+  pub entries : (j : ℕ) → j < n → has (through s n (rowOf starts columns (getD r k 0))) j ≡ P k j
+  pub held : Held P n k (k + 1) (3 * n) s index runs ustarts
+  pub store : Stored P n (k + 1) index runs ustarts
+
+-- lower row k, so long, stands from slot 5n on; the inverse order and the cursors are as they were, and row k + 1 can be found
+pub record Found (P : Pattern) (n k below : ℕ) (index runs ustarts s₀ s : List ℕ) : Type 0 where
+  pub next : Held P n (k + 1) (k + 1 + 1) (3 * n) s index runs ustarts
+  pub size : below ≡ length (lowerRow P k)
+  pub lower : lowerIn n below s ≡ lowerRow P k
+  pub inverse : (j : ℕ) → j < n → getD s (n + j) 0 ≡ getD s₀ (n + j) 0
+  pub cursors : (j : ℕ) → j < n → getD s (4 * n + j) 0 ≡ getD s₀ (4 * n + j) 0
+
+-- ---- one finding, from what its calls leave
+
+pub base-at : (n : ℕ) → Base n (3 * n)
+base-at n = record { low = omega arith; high = omega arith }
+
+module _ {P : Pattern} {n k : ℕ} {starts columns r index runs ustarts s₀ : List ℕ} (F : Findable P n k starts columns r index runs ustarts s₀) where
+  module _ {s₁ : List ℕ} (loaded : Loaded n (k + 1) (getD r k 0) columns starts s₀ s₁) (l₁ : length s₁ ≡ length s₀) where
+    marked-row : Holds n (k + 1) s₁ (P k)
+    marked-row = holds-same n (k + 1) s₁ (has (through s₀ n (rowOf starts columns (getD r k 0)))) (P k) (F .entries) (loaded .row (F .held .fresh))
+
+    pub close-parts : Parts n k s₁ (3 * n) index runs
+    close-parts = held-parts P n k index runs ustarts (F .held .store) (3 * n) s₁
+        (loaded-cuts P n k (k + 1) (3 * n) (5 * n) (F .place) (base-at n) (omega arith) index runs ustarts s₀ s₁ s₁ (F .held) (loaded .same) marked-row) (omega (arith, F .place))
+
+    pub close-blocks : Blocks n (k + 1) s₁
+    close-blocks = marked-row .blocks
+
+    module _ {s₂ : List ℕ} (closed : Closed n (k + 1) k (3 * n) index runs s₁ s₂) (l₂ : length s₂ ≡ length s₁) where
+      filled-row : Holds n (k + 1) s₂ (filled P k)
+      filled-row = closed-marks P n k (k + 1) (3 * n) (5 * n) (F .place) (base-at n) (omega arith) index runs ustarts s₀ s₁ s₂ (F .held) (loaded .same) marked-row closed
+
+      pub list-blocks : Blocks n (k + 1) s₂
+      list-blocks = filled-row .blocks
+
+      module _ {s₃ : List ℕ} {below above : ℕ} (list : (Q : Pattern) → Holds n (k + 1) s₂ (filled Q k) → Listed Q n k (5 * n) s₂ s₃ below above) (l₃ : length s₃ ≡ length s₂) where
+        fits : 5 * n + n ≤ length s₂
+        fits = omega (arith, F .room .long)
+
+        listed : Listed P n k (5 * n) s₂ s₃ below above
+        listed = list P filled-row
+
+        kept-marks : Holds n (k + 1) s₃ (filled P k)
+        kept-marks = listed-marks P n k (k + 1) (3 * n) (5 * n) (F .place) (base-at n) (omega arith) index runs ustarts s₀ s₁ s₂ (F .held) (loaded .same) marked-row closed s₃ below above fits listed
+
+        pub cut-blocks : Blocks n (k + 1) s₃
+        cut-blocks = kept-marks .blocks
+
+        module _ {s₄ : List ℕ} (renewed : Renewed n (k + 1) k (3 * n) index runs ustarts s₃ s₄) (l₄ : length s₄ ≡ length s₃) where
+          -- a slot that no step writes
+          same : (q : ℕ) → n ≤ q → (n + n ≤ q → 4 * n ≤ q) → q < 5 * n → getD s₄ q 0 ≡ getD s₀ q 0
+          same q a b c =
+              renewed .kept q (λ e. omega (arith, b (omega arith), F .place))
+              ∙ listed-but P n k (5 * n) s₂ s₃ below above listed fits (F .place) q (λ e. absurd (omega arith))
+              ∙ closed .same q (record { past = a; away = λ e. omega (arith, b e) }) ∙ loaded .same q (record { past = a; away = λ e. omega (arith, b e) })
+
+          short : below ≤ n
+          short = omega (arith, listed .lower, lower-le P k, F .place)
+
+          lower-same : lowerIn n below s₄ ≡ lowerIn n below s₃
+          lower-same =
+              let a : length (lowerIn n below s₄) ≡ below = length-take-le below (drop (5 * n) s₄) (simp length-drop (omega (arith, short, F .room .long))) in
+              let b : length (lowerIn n below s₃) ≡ below = length-take-le below (drop (5 * n) s₃) (simp length-drop (omega (arith, short, F .room .long))) in
+              ext-getD 0 (lowerIn n below s₄) (lowerIn n below s₃) (a ∙ sym b)
+              (λ p h. let g : p < below = rw a at h in
+              getD-take below (drop (5 * n) s₄) p 0 g ∙ getD-drop (5 * n) s₄ p 0 ∙ renewed .kept (5 * n + p) (λ e. omega (arith, F .place))
+              ∙ sym (getD-drop (5 * n) s₃ p 0) ∙ sym (getD-take below (drop (5 * n) s₃) p 0 g))
+
+          pub found : Found P n k below index runs ustarts s₀ s₄
+          found = record {
+            next = place-turn P n k (k + 1) (3 * n) (5 * n) (F .place) (base-at n) (omega arith) index runs ustarts s₀ s₁ s₂ (F .held) (loaded .same) marked-row closed s₃ below above fits listed
+                s₄ index runs ustarts (F .store) renewed (k + 1 + 1) (omega arith);
+            size = listed .lower;
+            lower = lower-same ∙ listed-lower P n k (5 * n) s₂ s₃ below above listed fits (F .place);
+            inverse = λ j h. same (n + j) (omega arith) (λ e. absurd (omega arith)) (omega arith);
+            cursors = λ j h. same (4 * n + j) (omega arith) (λ e. omega arith) (omega arith);
+          }
+
+-- ---- between two rows
+
+through-is : (f : ℕ → ℕ) (n : ℕ) (s cols : List ℕ) → ((j : ℕ) → j < n → getD s (n + j) 0 ≡ f j) → Below n cols → through s n cols ≡ map f cols
+through-is f n s [] e b = refl
+through-is f n s (j ∷ cols) e b = rw (e j (b 0 (omega arith)), through-is f n s cols e (λ p h. b (suc p) (omega arith)))
+
+pattern-is : (i : Input) → stored i ≡ patternOf (i .n) (i .starts) (i .columns) (i .r) (i .c)
+unfolding stored
+pattern-is i = refl
+
+-- the lists of the places up to k stand in the store
+placed-stored : (f : Form) (P : Pattern) (n k : ℕ) (starts runs index : List ℕ) (size : ℕ) → k < n → PlacedSide f Upper P n starts runs index size → Stored P n (k + 1) index runs starts
+placed-stored f P n k starts runs index size h S = record {
+  list = λ j l. list-at f Upper P n starts runs index size S j (omega arith);
+  read = λ j l. record {
+    has-run = run-at f Upper P n starts runs index size S j (omega arith) .0;
+    has-start = omega (arith, starts-long f Upper P n starts runs index size S);
+    rise = omega (arith, size-at f Upper P n starts runs index size S j (omega arith));
+    inside = run-inside f Upper P n starts runs index size S j (omega arith);
+  };
+}
+
+module _ {f : Form} {i : Input} {L : Lists} {k : ℕ} {w : Written} (G : Going f i L k w) (h : k < i .n)
+    (H : Held (stored i) (i .n) k (k + 1) (3 * i .n) (w .marks) (L .upper-index) (L .upper-runs) (L .upper-starts)) where
+  abbrev own : ℕ
+  own = getD (i .r) k 0
+
+  columns-in : Below (i .n) (columnsAt i k)
+  unfolding Under
+  columns-in = row-under (i .n) (i .starts) (i .columns) own (G .given .settled .structured .readable .columns)
+
+  -- what finding lower row k asks
+  pub findable : Findable (patternOf (i .n) (i .starts) (i .columns) (i .r) (i .c)) (i .n) k (i .starts) (i .columns) (i .r) (L .upper-index) (L .upper-runs) (L .upper-starts) (w .marks)
+  findable =
+      let g = G .given .settled .structured .readable in
+      let b = order-below (i .r) (i .n) (g .row-order) k h in
+      let row = g .rows own b in
+      subst (λ (P : Pattern). Findable P (i .n) k (i .starts) (i .columns) (i .r) (L .upper-index) (L .upper-runs) (L .upper-starts) (w .marks)) (pattern-is i) (record {
+        place = h;
+        room = record { small = omega (arith, G .given .lent .lent .orders .few); long = G .given .slots };
+        own-place = omega (arith, G .given .lent .lent .orders .row-order);
+        row = record {
+          has-run = omega (arith, G .given .lent .lent .starts);
+          has-start = omega (arith, G .given .lent .lent .starts);
+          rise = row .up;
+          inside = omega (arith, row .up, row .within);
+        };
+        columns-below = columns-in;
+        inverse = λ j l. rw (G .inverse j l) (place-hits (i .c) (i .n) (g .column-order) j l .0);
+        entries = λ j l. ap (λ (x : List ℕ). has x j) (through-is (ic (i .c) (i .n)) (i .n) (w .marks) (columnsAt i k) (G .inverse) columns-in) ∙ sym (stored-is i g k j l);
+        held = H;
+        store = placed-stored f (stored i) (i .n) k (L .upper-starts) (L .upper-runs) (L .upper-index) (length (w .upper)) h (G .given .upper-side);
+      })
+
+  module _ {m : List ℕ} {below : ℕ} (e : Found (patternOf (i .n) (i .starts) (i .columns) (i .r) (i .c)) (i .n) k below (L .upper-index) (L .upper-runs) (L .upper-starts) (w .marks) m) where
+    as-stored : Found (stored i) (i .n) k below (L .upper-index) (L .upper-runs) (L .upper-starts) (w .marks) m
+    as-stored = subst (λ (P : Pattern). Found P (i .n) k below (L .upper-index) (L .upper-runs) (L .upper-starts) (w .marks) m) (sym (pattern-is i)) e
+
+    pub found-next : Held (stored i) (i .n) (k + 1) (k + 1 + 1) (3 * i .n) m (L .upper-index) (L .upper-runs) (L .upper-starts)
+    found-next = as-stored .next
+
+    pub found-inverse : Inverse i m
+    found-inverse j l = as-stored .inverse j l ∙ G .inverse j l
+
+    pub found-row : length m ≡ length (w .marks) → RowAt i k below (L .upper-starts) (L .upper-runs) (L .upper-index) m (length (w .upper)) (length (w .work))
+    found-row em = row-at G h m below em found-inverse (as-stored .size) (as-stored .lower)
+
+-- ---- the row form
+
+pub row-more : {i : Input} {L : Lists} {k : ℕ} {w : Written} (G : Going ByRow i L k w) (h : k < i .n) {m : List ℕ} {below : ℕ}
+    (e : Found (patternOf (i .n) (i .starts) (i .columns) (i .r) (i .c)) (i .n) k below (L .upper-index) (L .upper-runs) (L .upper-starts) (w .marks) m)
+    (u d g f : List Float) → Sizes w (written [] u d f m) → length g ≡ length (w .work) → (t : RowSums) (p : Pivot) → p ≡ Kept t
+    → Reduced (system i) (G .rows) (i .n) k (L .upper-starts) (w .work) g (w .upper) u p
+    → Shut (i .n) k (lowerIn (i .n) below m) (listAt (L .upper-index) (L .upper-runs) (L .upper-starts) k) g f (w .d) d t
+    → Going ByRow i L (k + 1) (written [] u d f m)
+row-more {i} {L} {k} {w} G h {m} {below} e u d g f s lg t p ep R Q =
+    going-more G h (written [] u d f m) s (lowerIn (i .n) below m) (found-row G h (G .finding) e (s .marks-size) .lower) g lg t p ep R Q
+    refl (found-inverse G h (G .finding) e) (found-next G h (G .finding) e)

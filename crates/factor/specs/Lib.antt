@@ -1,0 +1,6 @@
+pub mod Factoring
+pub mod SystemLaws
+pub mod TurnLaws
+pub mod ColumnLaws
+pub mod FindLaws
+pub mod EndLaws

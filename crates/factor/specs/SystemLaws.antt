@@ -1,0 +1,180 @@
+-- The system of an input that passed its questions: the fill closes each row, and a row of M is lent as the steps ask for it.
+use mathlib.Core.Path.{_≡_, refl, sym, ap, _∙_}
+use mathlib.Core.Bool.{Bool, true, false, _&&_, _||_}
+use mathlib.Core.List.{List, [], _∷_, _++_, map}
+use Prim.Native.Nat.{ℕ, zero, suc, _+_, _-_, _*_, _<_, _≤_}
+use native.Mathlib.Omega.{arith}
+use native.Mathlib.Decide.{decLt}
+use lib.ListN.{length, getD, take, drop, length-take, length-drop, length-map}
+use lib.Seq.{getD-take, getD-drop, ext-getD, length-take-le}
+use lib.Dec.{eqb, ltb}
+use lib.Ieee.{Float, nan}
+use lib.Ieee.Scale.{finite}
+use borrow.Author.Tests.{lt-ltb, ltb-true, eq-eqb}
+use Rattle.base.specs.Lists.{has, asc, table, pairs, listAt, rowOf}
+use Rattle.base.specs.Tests.{and-cases, or-right}
+use Rattle.base.specs.AscLaws.{has-asc, has-append, asc-ascends, length-asc}
+use Rattle.base.specs.TableLaws.{getD-table, length-table, getD-map-lt}
+use Rattle.base.specs.declared.Form.{Form}
+use Rattle.base.specs.declared.Side.the-variants.{Upper}
+use Rattle.fill.specs.Fill.{Pattern, filled, upper, upperRow, lowerRow}
+use Rattle.fill.specs.RowRule.{filled-stored, filled-through}
+use Rattle.matrix.specs.Input.{Input, ic, stored, entries, rightAt}
+use Rattle.matrix.specs.OrderLaws.{order-below, place-hits}
+use Rattle.outcome.specs.Solve.{system}
+use Rattle.outcome.specs.Placed.{PlacedSide, starts-long, size-at, values-at, run-at, run-inside, list-at}
+use Rattle.questions.specs.Lent.{SolveLent}
+use Rattle.questions.specs.Settled.{Settled, Under, Finite, columnsAt, placesAt}
+use Rattle.questions.specs.SettledLaws.{row-under, row-length, stored-is, places-under}
+use Rattle.rows.specs.FillLaws.{upper-below}
+use Rattle.numeric.specs.Stores.{Below, Ascending, ListIn, Shape, Loadable, Reducible, Closable, placesOf}
+use Rattle.numeric.specs.Rows.{filledRow, Closed, Lent}
+use Rattle.numeric.specs.RowLaws.{has-at}
+use Rattle.factor.specs.Factoring.{Inverse, RowAt}
+
+-- ---- the fill
+
+module _ (P : Pattern) (n k : ℕ) where
+  lower-has : (j : ℕ) → has (lowerRow P k) j ≡ true → (j < k) × (filled P k j ≡ true)
+  unfolding lowerRow
+  lower-has j m =
+      let q = and-cases (ltb j k) (filled P k j) (sym (has-asc (filled P k) k j) ∙ m) in
+      (ltb-true j k (q .0), q .1)
+
+  upper-has : (j : ℕ) → has (upperRow P n k) j ≡ true → (j < n) × (k < j) × (filled P k j ≡ true)
+  unfolding upperRow upper
+  upper-has j m =
+      let q = and-cases (ltb j n) (ltb k j && filled P k j) (sym (has-asc (upper P k) n j) ∙ m) in
+      let u = and-cases (ltb k j) (filled P k j) (q .1) in
+      (ltb-true j n (q .0), ltb-true k j (u .0), u .1)
+
+  -- a filled place of row k is in one of its lists
+  row-has : (j : ℕ) → j < n → filled P k j ≡ true → has (lowerRow P k ++ k ∷ upperRow P n k) j ≡ true
+  unfolding lowerRow upperRow upper has
+  row-has j h f =
+      has-append (lowerRow P k) (k ∷ upperRow P n k) j
+      ∙ elim (decLt j k) [
+        | yes q ↦ rw (has-asc (filled P k) k j, lt-ltb j k q, f)
+        | no q ↦ or-right (has (asc (filled P k) k) j) (eqb k j || has (asc (λ m. ltb k m && filled P k m) n) j)
+            (elim (decLt k j) [
+              | yes g ↦ or-right (eqb k j) (has (asc (λ m. ltb k m && filled P k m) n) j) (rw (has-asc (λ m. ltb k m && filled P k m) n j, lt-ltb j n h, lt-ltb k j g, f))
+              | no g ↦ (let e : k ≡ j = omega arith in rw (eq-eqb k j e))
+            ])
+      ]
+
+pub lower-below : (P : Pattern) (n k : ℕ) → k ≤ n → Below n (lowerRow P k)
+lower-below P n k h p g = let q = lower-has P n k (getD (lowerRow P k) p 0) (has-at (lowerRow P k) p g) in omega arith
+
+lower-ascends : (P : Pattern) (k : ℕ) → Ascending (lowerRow P k)
+unfolding lowerRow
+lower-ascends P k p q g l = asc-ascends (filled P k) k p q g (omega (arith, length-asc (filled P k) k))
+
+pub system-closed : (i : Input) (k : ℕ) → k < i .n → Closed (system i) k
+unfolding system
+system-closed i k h =
+    let P = stored i in
+    record {
+      ascending = lower-ascends P k;
+      left = λ j m. lower-has P (i .n) k j m .0;
+      right = λ j m a b. upper-has P (i .n) j m b .1;
+      range = λ j m. upper-has P (i .n) k j m .0;
+      within = λ j m a b.
+          let l = lower-has P (i .n) k j a in
+          let u = upper-has P (i .n) j m b in
+          row-has P (i .n) k m (u .0) (filled-through P k j m (l .0) (u .1) (l .1) (u .2));
+    }
+
+-- ---- the lists in their stores
+
+pub placed-shape : (f : Form) (P : Pattern) (n : ℕ) (starts runs index : List ℕ) (size : ℕ) → PlacedSide f Upper P n starts runs index size → Shape n index runs starts size
+placed-shape f P n starts runs index size h = record {
+  list = λ i l. record {
+    run = run-at f Upper P n starts runs index size h i l .0;
+    next = omega (arith, starts-long f Upper P n starts runs index size h);
+    rises = omega (arith, size-at f Upper P n starts runs index size h i l);
+    fits = run-inside f Upper P n starts runs index size h i l;
+  };
+  values = λ i l. record {
+    run = omega (arith, starts-long f Upper P n starts runs index size h);
+    next = omega (arith, starts-long f Upper P n starts runs index size h);
+    rises = omega (arith, size-at f Upper P n starts runs index size h i l);
+    fits = omega (arith, size-at f Upper P n starts runs index size h i l, values-at f Upper P n starts runs index size h i l);
+  };
+  below = λ i l. rw (list-at f Upper P n starts runs index size h i l) (upper-below P n i);
+}
+
+-- ---- a row of M
+
+-- the inverse order, as a slice
+pub inverse-is : (i : Input) (s : List ℕ) → i .n + i .n ≤ length s → Inverse i s → take (i .n) (drop (i .n) s) ≡ table (ic (i .c) (i .n)) (i .n)
+inverse-is i s h e =
+    let l : length (take (i .n) (drop (i .n) s)) ≡ i .n = length-take-le (i .n) (drop (i .n) s) (simp length-drop (omega arith)) in
+    ext-getD 0 (take (i .n) (drop (i .n) s)) (table (ic (i .c) (i .n)) (i .n)) (l ∙ sym (length-table (ic (i .c) (i .n)) (i .n)))
+    (λ j g. let b : j < i .n = rw l at g in
+    getD-take (i .n) (drop (i .n) s) j 0 b ∙ getD-drop (i .n) s j 0 ∙ e j b ∙ sym (getD-table (ic (i .c) (i .n)) (i .n) 0 j b))
+
+places-same : (f : ℕ → ℕ) (n : ℕ) (cols : List ℕ) → Below n cols → map (λ j. getD (table f n) j 0) cols ≡ map f cols
+places-same f n [] b = refl
+places-same f n (j ∷ cols) b = rw (getD-table f n 0 j (b 0 (omega arith)), places-same f n cols (λ p h. b (suc p) (omega arith)))
+
+module _ (i : Input) (k below : ℕ) (us ur ui marks : List ℕ) (upper work : ℕ) (R : RowAt i k below us ur ui marks upper work) where
+  abbrev own : ℕ
+  own = getD (i .r) k 0
+
+  -- what the code reads: the row's columns and values, the inverse order, b(r(k)) and lower row k
+  module _ (columns inverse lower : List ℕ) (values : List Float) (b : Float) (ec : columns ≡ rowOf (i .starts) (i .columns) own)
+      (ev : values ≡ rowOf (i .starts) (i .values) own) (ei : inverse ≡ take (i .n) (drop (i .n) marks)) (eb : b ≡ getD (i .b) own nan)
+      (el : lower ≡ take below (drop (5 * i .n) marks)) where
+    order-is : inverse ≡ table (ic (i .c) (i .n)) (i .n)
+    order-is = ei ∙ inverse-is i marks (omega (arith, R .slots)) (R .inverse)
+
+    columns-below : Below (i .n) columns
+    unfolding Under
+    columns-below = rw ec (row-under (i .n) (i .starts) (i .columns) own (R .settled .structured .readable .columns))
+
+    places-are : placesOf inverse columns ≡ placesAt i k
+    unfolding placesOf
+    places-are = rw order-is (places-same (ic (i .c) (i .n)) (i .n) columns columns-below ∙ ap (map (ic (i .c) (i .n))) ec)
+
+    long : length columns ≡ length values
+    long =
+        rw (ec, ev) (row-length (i .starts) (i .columns) own (R .columns .row) ∙ sym (row-length (i .starts) (i .values) own (R .values .row)))
+
+    pub row-reducible : Reducible (i .n) k work inverse columns values lower ui ur us upper
+    row-reducible = record {
+      place = R .place;
+      scratch = R .scratch;
+      row = record {
+        paired = long;
+        known = λ p g. omega (arith, columns-below p g, ap length order-is, length-table (ic (i .c) (i .n)) (i .n));
+        inside = λ p g. rw (order-is, getD-table (ic (i .c) (i .n)) (i .n) 0 (getD columns p 0) (columns-below p g))
+            (place-hits (i .c) (i .n) (R .settled .structured .readable .column-order) (getD columns p 0) (columns-below p g) .0);
+      };
+      below = rw (el ∙ R .lower) (lower-below (stored i) (i .n) k (omega (arith, R .place)));
+      lists = R .shape;
+    }
+
+    value-at : (p : ℕ) → p < length (rowOf (i .starts) (i .values) own) → finite (getD (rowOf (i .starts) (i .values) own) p nan) ≡ true
+    unfolding listAt Finite
+    value-at p g =
+        let s = i .starts in
+        let c = rw (length-take, length-drop) at g in
+        rw (getD-take (getD s (own + 1) 0 - getD s own 0) (drop (getD s own 0) (i .values)) p nan (omega arith), getD-drop) (R .settled .values (getD s own 0 + p) (omega arith))
+
+    place-filled : (p : ℕ) → p < length (placesAt i k) → has (filledRow (system i) k) (getD (placesAt i k) p 0) ≡ true
+    unfolding system Under
+    place-filled p g =
+        let b = places-under i (R .settled .structured .readable) k p g in
+        row-has (stored i) (i .n) k (getD (placesAt i k) p 0) b
+        (filled-stored (stored i) k (getD (placesAt i k) p 0) (stored-is i (R .settled .structured .readable) k (getD (placesAt i k) p 0) b ∙ has-at (placesAt i k) p g))
+
+    pub row-lent : Lent (system i) k lower (placesOf inverse columns) values b
+    unfolding system entries rightAt Finite
+    row-lent = record {
+      entries = rw (places-are, ev);
+      right = sym eb;
+      below = sym (el ∙ R .lower);
+      filled = rw places-are place-filled;
+      sum = rw eb (R .settled .right own (R .right));
+      fine = rw ev value-at;
+    }

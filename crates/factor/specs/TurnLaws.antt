@@ -1,0 +1,261 @@
+-- From row k to row k + 1, from a fault to the answer, and from the last row and the back steps to the factors.
+use mathlib.Core.Path.{_≡_, refl, sym, ap, _∙_, subst}
+use mathlib.Core.Bool.{Bool, true, false, true≢false}
+use mathlib.Core.List.{List, [], _∷_, _++_}
+use Prim.Native.Nat.{ℕ, zero, suc, _+_, _-_, _*_, _<_, _≤_}
+use native.Mathlib.Numerals.{add-one}
+use native.Mathlib.Omega.{arith}
+use native.Mathlib.Decide.{decLt}
+use lib.ListN.{length, getD, take, drop, set, replicate, List·getD-append}
+use lib.Seq.{sets, length-sets, getD-at, getD-set-same, getD-set-other, ext-getD, getD-take, getD-drop, length-take-le}
+use lib.Ieee.{Float, nan}
+use Rattle.base.specs.Lists.{nought, listAt, rowOf, joined, padded, table}
+use Rattle.base.specs.TableLaws.{getD-table, length-table}
+use Rattle.base.specs.declared.Form.{Form}
+use Rattle.base.specs.declared.Form.the-variants.{Plain, Shared, ByRow}
+use Rattle.base.specs.declared.Side.the-variants.{Lower, Upper}
+use Rattle.base.specs.declared.RowSums.{RowSums}
+use Rattle.fill.specs.Fill.{Pattern, lowerRow}
+use Rattle.matrix.specs.Input.{Input, stored}
+use Rattle.matrix.specs.OrderLaws.{order-below}
+use Rattle.arithmetic.specs.Arith.{ok, met, zeroPivot, overflow, System, Row, none}
+use Rattle.outcome.specs.Forms.{valueNeed}
+use Rattle.outcome.specs.Placed.{PlacedSide, start-at, starts-long, size-at, values-at, run-at, run-inside, list-at}
+use Rattle.outcome.specs.Solve.{system, listed, valuesKept, pivotsKept}
+use Rattle.marks.specs.Marks.{ListIn}
+use Rattle.marks.specs.MarkLaws.{sets-below}
+use Rattle.rows.specs.ListLaws.{lower-le}
+use Rattle.numeric.specs.declared.Pivot.{Pivot}
+use Rattle.numeric.specs.declared.Pivot.the-variants.{Kept, Zero, Overflow}
+use Rattle.numeric.specs.Stores.{Below, Closable, gathered}
+use Rattle.numeric.specs.Rows.{Held, Reduced, Shut, Stacked, lOf, keptRow}
+use Rattle.numeric.specs.StoreLaws.{gathered-length, sets-part}
+use Rattle.numeric.specs.KeepLaws.{stacked-row}
+use Rattle.numeric.specs.PassLaws.{forward-length, held-more, held-zero, held-overflow}
+use Rattle.factor.specs.declared.Factored.{Factored}
+use Rattle.factor.specs.declared.Factored.the-variants.{Solved}
+use Rattle.factor.specs.declared.Factored.the-variants as done
+use Rattle.factor.specs.Factoring.{FactoredAs, CameTo, isFault, Lists, Written, written, LowerPlaced, Factorable, LowerHeld, Inverse, Finding, Going, RowAt, lowerIn, LowerAt, Keepable}
+use Rattle.factor.specs.SystemLaws.{lower-below, system-closed, placed-shape}
+
+-- ---- what is lent stays so: it depends on what is written by lengths alone
+
+pub record Sizes (w x : Written) : Type 0 where
+  pub lower-size : length (x .lower) ≡ length (w .lower)
+  pub upper-size : length (x .upper) ≡ length (w .upper)
+  pub d-size : length (x .d) ≡ length (w .d)
+  pub work-size : length (x .work) ≡ length (w .work)
+  pub marks-size : length (x .marks) ≡ length (w .marks)
+
+pub sizes-none : (w : Written) → Sizes w w
+sizes-none w = record { lower-size = refl; upper-size = refl; d-size = refl; work-size = refl; marks-size = refl }
+
+pub sizes-then : {w x y : Written} → Sizes w x → Sizes x y → Sizes w y
+sizes-then s r = record {
+  lower-size = r .lower-size ∙ s .lower-size;
+  upper-size = r .upper-size ∙ s .upper-size;
+  d-size = r .d-size ∙ s .d-size;
+  work-size = r .work-size ∙ s .work-size;
+  marks-size = r .marks-size ∙ s .marks-size;
+}
+
+none-left : (l m : List Float) → length m ≡ length l → l ≡ [] → m ≡ []
+none-left l [] e h = refl
+none-left l (x ∷ m) e h = absurd (omega (arith, e, ap length h))
+
+lower-same : (f : Form) (P : Pattern) (n : ℕ) (L : Lists) (l m : List Float) → length m ≡ length l → LowerPlaced f P n L l → LowerPlaced f P n L m
+lower-same Plain P n L l m e h = rw e h
+lower-same Shared P n L l m e h = rw e h
+lower-same ByRow P n L l m e h = none-left l m e h
+
+pub same-given : {f : Form} {i : Input} {L : Lists} {w x : Written} → Sizes w x → Factorable f i L w → Factorable f i L x
+same-given {f} {i} {L} {w} {x} s F = record {
+  lent = rw (s .marks-size) (F .lent);
+  settled = F .settled;
+  lower-side = lower-same f (stored i) (i .n) L (w .lower) (x .lower) (s .lower-size) (F .lower-side);
+  upper-side = rw (s .upper-size) (F .upper-side);
+  reciprocals = s .d-size ∙ F .reciprocals;
+  scratch = s .work-size ∙ F .scratch;
+  slots = rw (s .marks-size) (F .slots);
+}
+
+-- ---- the answer of a row, t being whether it is a fault
+
+pub came-on : {f : Form} {i : Input} {L : Lists} {k : ℕ} {w : Written} (a : Factored) (t : Bool) → t ≡ isFault a → t ≡ false → CameTo f i L k a w → Going f i L k w
+unfolding CameTo
+came-on Solved t e q h = h
+came-on (done.Zero k) t e q h = absurd (true≢false (sym e ∙ q))
+came-on (done.Overflow k) t e q h = absurd (true≢false (sym e ∙ q))
+
+pub came-done : {f : Form} {i : Input} {L : Lists} {k : ℕ} {w : Written} (j : ℕ) → k ≡ j → Going f i L k w → CameTo f i L j Solved w
+unfolding CameTo
+came-done j e h = rw (← e) h
+
+-- a fault is the answer whatever follows
+pub came-off : (f : Form) (i : Input) (L : Lists) (k : ℕ) (w : Written) (a : Factored) (t : Bool) (j : ℕ) (x : Written) → t ≡ isFault a → t ≡ true → CameTo f i L k a w → CameTo f i L j a x
+unfolding CameTo
+came-off f i L p w Solved t j x e q h = absurd (true≢false (sym q ∙ e))
+came-off f i L p w (done.Zero k) t j x e q h = h
+came-off f i L p w (done.Overflow k) t j x e q h = h
+
+pub came-end : (f : Form) (i : Input) (L : Lists) (k : ℕ) (w : Written) (a : Factored) (t : Bool) (l u d z : List Float) → t ≡ isFault a → t ≡ true → CameTo f i L k a w → FactoredAs f i a l u d z
+unfolding CameTo FactoredAs
+came-end f i L p w Solved t l u d z e q h = absurd (true≢false (sym q ∙ e))
+came-end f i L p w (done.Zero k) t l u d z e q h = h
+came-end f i L p w (done.Overflow k) t l u d z e q h = h
+
+-- ---- row k
+
+module _ {i : Input} {k below : ℕ} {us ur ui m : List ℕ} {upper work : ℕ} (R : RowAt i k below us ur ui m upper work) where
+  pub lower-in : Below (i .n) (lowerIn (i .n) below m)
+  lower-in = rw (R .lower) (lower-below (stored i) (i .n) k (omega (arith, R .place)))
+
+  pub row-room : LowerAt (i .n) below (length m)
+  row-room = record { few = omega (arith, R .lent .lent .orders .few); room = omega (arith, R .short, R .slots) }
+
+module _ {f : Form} {i : Input} {L : Lists} {k : ℕ} {w : Written} (G : Going f i L k w) (h : k < i .n) where
+  -- what its steps find, once its lower row stands in the marks
+  pub row-at : (m : List ℕ) (below : ℕ) → length m ≡ length (w .marks) → Inverse i m → below ≡ length (lowerRow (stored i) k) → lowerIn (i .n) below m ≡ lowerRow (stored i) k
+      → RowAt i k below (L .upper-starts) (L .upper-runs) (L .upper-index) m (length (w .upper)) (length (w .work))
+  row-at m below em inv eb el =
+      let F = G .given in
+      let own = order-below (i .r) (i .n) (F .settled .structured .readable .row-order) k h in
+      let row = F .settled .structured .readable .rows (getD (i .r) k 0) own in
+      record {
+        place = h;
+        lent = rw em (F .lent);
+        settled = F .settled;
+        shape = placed-shape f (stored i) (i .n) (L .upper-starts) (L .upper-runs) (L .upper-index) (length (w .upper)) (F .upper-side);
+        scratch = F .scratch;
+        slots = rw em (F .slots);
+        columns = record { place = omega (arith, F .lent .lent .orders .row-order); starts-at = omega (arith, F .lent .lent .starts); row = row };
+        values = record { place = omega (arith, F .lent .lent .orders .row-order); starts-at = omega (arith, F .lent .lent .starts); row = rw (F .lent .values) row };
+        right = omega (arith, F .lent .right);
+        short = omega (arith, lower-le (stored i) k);
+        inverse = inv;
+        lower = el;
+      }
+
+  -- a row that is not kept
+  pub zero-met : {g v : List Float} (p : Pivot) → p ≡ Zero → Reduced (system i) (G .rows) (i .n) k (L .upper-starts) (w .work) g (w .upper) v p → listed i ≡ met (zeroPivot k)
+  unfolding listed
+  zero-met {g} {v} p e R = held-zero (G .held) h (subst (λ (q : Pivot). Reduced (system i) (G .rows) (i .n) k (L .upper-starts) (w .work) g (w .upper) v q) e R)
+
+  pub overflow-met : {g v : List Float} (p : Pivot) → p ≡ Overflow → Reduced (system i) (G .rows) (i .n) k (L .upper-starts) (w .work) g (w .upper) v p → listed i ≡ met (overflow k)
+  unfolding listed
+  overflow-met {g} {v} p e R = held-overflow (G .held) h (subst (λ (q : Pivot). Reduced (system i) (G .rows) (i .n) k (L .upper-starts) (w .work) g (w .upper) v q) e R)
+
+  -- what its closing asks
+  pub row-closable : {m : List ℕ} {below : ℕ} (g : List Float) → length g ≡ length (w .work) → RowAt i k below (L .upper-starts) (L .upper-runs) (L .upper-index) m (length (w .upper)) (length (w .work))
+      → LowerAt (i .n) below (length m) × Closable (i .n) k (length g) (lowerIn (i .n) below m) (L .upper-index) (L .upper-runs) (L .upper-starts) (length (w .d))
+  row-closable g lg R = (
+    row-room R,
+    record { place = h; scratch = lg ∙ R .scratch; reciprocals = G .given .reciprocals; below = lower-in R; list = R .shape .list k h; above = R .shape .below k h },
+  )
+
+  -- a row that is kept: its steps left g and x .upper, its closing x .work and x .d
+  module _ (x : Written) (s : Sizes w x) (lower : List ℕ) (el : lower ≡ lowerRow (stored i) k) (g : List Float) (lg : length g ≡ length (w .work)) (t : RowSums) (p : Pivot) (ep : p ≡ Kept t)
+      (R : Reduced (system i) (G .rows) (i .n) k (L .upper-starts) (w .work) g (w .upper) (x .upper) p)
+      (Q : Shut (i .n) k lower (listAt (L .upper-index) (L .upper-runs) (L .upper-starts) k) g (x .work) (w .d) (x .d) t) where
+    abbrev pub next : Row
+    next = keptRow (gathered (system i .lower k) (take (i .n) g)) (rowOf (L .upper-starts) (x .upper) k) t
+
+    many : length (G .rows) ≡ k
+    many = forward-length (system i) k (G .rows) (G .held .done)
+
+    lower-is : system i .lower k ≡ lower
+    unfolding system
+    lower-is = sym el
+
+    pivot-at : (j : ℕ) → j < k + 1 → getD (x .d) j nan ≡ getD (G .rows ++ (next ∷ [])) j none .d
+    pivot-at j b = rw (Q .reciprocals) (elim (decLt j k) [
+      | yes q ↦ getD-set-other (w .d) k j (t .reciprocal) nan (omega arith) ∙ G .pivots j q ∙ ap (λ (r : Row). r .d) (sym (List·getD-append (G .rows) (next ∷ []) none j (rw many q)))
+      | no q ↦ (let e : j ≡ k = omega arith in
+          rw e (getD-set-same (w .d) k (t .reciprocal) nan (omega (arith, G .given .reciprocals)) ∙ ap (λ (r : Row). r .d) (sym (getD-at (G .rows) next [] none k many))))
+    ])
+
+    pub going-more : LowerHeld f (system i) (G .rows ++ (next ∷ [])) (k + 1) (L .lower-starts) (drop (4 * i .n) (x .marks)) (x .lower) → Inverse i (x .marks)
+        → Finding f i L (k + 1) (x .marks) → Going f i L (k + 1) x
+    going-more kept inv find = record {
+      given = same-given s (G .given);
+      rows = G .rows ++ (next ∷ []);
+      held = held-more (system i) (G .rows) (i .n) k (w .work) (L .upper-index) (L .upper-runs) (L .upper-starts) (w .upper) (G .held) h (G .given .scratch) (system-closed i k h)
+          (placed-shape f (stored i) (i .n) (L .upper-starts) (L .upper-runs) (L .upper-index) (length (w .upper)) (G .given .upper-side))
+          lower lower-is g (x .work) (x .upper) (w .d) (x .d) lg t
+          (subst (λ (q : Pivot). Reduced (system i) (G .rows) (i .n) k (L .upper-starts) (w .work) g (w .upper) (x .upper) q) ep R) Q;
+      pivots = pivot-at;
+      lower = kept;
+      inverse = inv;
+      finding = find;
+    }
+
+-- ---- the plain form
+
+module _ {i : Input} {L : Lists} {k : ℕ} {w : Written} (G : Going Plain i L k w) (h : k < i .n) where
+  abbrev side : PlacedSide Plain Lower (stored i) (i .n) (L .lower-starts) (L .lower-starts) (L .lower-index) (length (w .lower))
+  side = G .given .lower-side
+
+  plain-size : getD (L .lower-starts) (k + 1) 0 ≡ getD (L .lower-starts) k 0 + length (lowerRow (stored i) k)
+  plain-size = size-at Plain Lower (stored i) (i .n) (L .lower-starts) (L .lower-starts) (L .lower-index) (length (w .lower)) side k h
+
+  plain-room : getD (L .lower-starts) k 0 + length (lowerRow (stored i) k) ≤ length (w .lower)
+  plain-room = omega (arith, plain-size, values-at Plain Lower (stored i) (i .n) (L .lower-starts) (L .lower-starts) (L .lower-index) (length (w .lower)) side k h)
+
+  -- lower row k as it is read
+  lower-read : rowOf (L .lower-starts) (L .lower-index) k ≡ lowerRow (stored i) k
+  lower-read = list-at Plain Lower (stored i) (i .n) (L .lower-starts) (L .lower-starts) (L .lower-index) (length (w .lower)) side k h
+
+  pub plain-readable : ListIn (L .lower-index) (L .lower-starts) (L .lower-starts) k × LowerAt (i .n) (length (rowOf (L .lower-starts) (L .lower-index) k)) (length (w .marks))
+  plain-readable = (
+    record {
+      has-run = omega (arith, starts-long Plain Lower (stored i) (i .n) (L .lower-starts) (L .lower-starts) (L .lower-index) (length (w .lower)) side);
+      has-start = omega (arith, starts-long Plain Lower (stored i) (i .n) (L .lower-starts) (L .lower-starts) (L .lower-index) (length (w .lower)) side);
+      rise = omega (arith, plain-size);
+      inside = run-inside Plain Lower (stored i) (i .n) (L .lower-starts) (L .lower-starts) (L .lower-index) (length (w .lower)) side k h;
+    },
+    record { few = omega (arith, G .given .lent .lent .orders .few); room = omega (arith, ap length lower-read, lower-le (stored i) k, G .given .slots) },
+  )
+
+  -- it stands in the marks
+  module _ {m : List ℕ} {below : ℕ} (eb : below ≡ length (rowOf (L .lower-starts) (L .lower-index) k)) (em : m ≡ sets (w .marks) (5 * i .n) (rowOf (L .lower-starts) (L .lower-index) k)) where
+    pub plain-inverse : Inverse i m
+    plain-inverse j b = rw em (sets-below (w .marks) (5 * i .n) (rowOf (L .lower-starts) (L .lower-index) k) (i .n + j) (omega arith) ∙ G .inverse j b)
+
+    pub plain-row : RowAt i k below (L .upper-starts) (L .upper-runs) (L .upper-index) m (length (w .upper)) (length (w .work))
+    plain-row = row-at G h m below (ap length em ∙ length-sets (w .marks) (5 * i .n) (rowOf (L .lower-starts) (L .lower-index) k)) plain-inverse (eb ∙ ap length lower-read)
+        (rw em (sets-part (w .marks) (rowOf (L .lower-starts) (L .lower-index) k) (5 * i .n) below (sym eb) (omega (arith, plain-readable .1 .room)) ∙ lower-read))
+
+    pub plain-keepable : (g : List Float) → length g ≡ length (w .work)
+        → LowerAt (i .n) below (length m) × Keepable (i .n) k below (L .lower-starts) (length (w .lower)) (length g) (lowerIn (i .n) below m)
+    plain-keepable g lg = (
+      row-room plain-row,
+      record {
+        start = plain-readable .0 .has-run;
+        room = omega (arith, plain-room, eb, ap length lower-read);
+        row = omega (arith, G .given .scratch);
+        places = lower-in plain-row;
+      },
+    )
+
+  -- L of row k behind that of the rows above
+  plain-kept : (next : Row) (lower : List ℕ) (g : List Float) → lower ≡ lowerRow (stored i) k → next .l ≡ gathered lower g
+      → Stacked nought (lOf (G .rows ++ (next ∷ []))) (k + 1) (L .lower-starts) (sets (w .lower) (getD (L .lower-starts) k 0) (gathered lower g))
+  plain-kept next lower g el en =
+      stacked-row (λ (r : Row). r .l) (G .rows) next k (L .lower-starts) (w .lower) (gathered lower g) (forward-length (system i) k (G .rows) (G .held .done))
+      (λ j b. omega (arith, size-at Plain Lower (stored i) (i .n) (L .lower-starts) (L .lower-starts) (L .lower-index) (length (w .lower)) side j (omega arith)))
+      (omega (arith, plain-size, plain-room)) (omega (arith, plain-size, gathered-length lower g, ap length el)) en (G .lower)
+
+  pub plain-more : {m : List ℕ} {below : ℕ} (eb : below ≡ length (rowOf (L .lower-starts) (L .lower-index) k))
+      (em : m ≡ sets (w .marks) (5 * i .n) (rowOf (L .lower-starts) (L .lower-index) k))
+      (l u d g f : List Float) → Sizes w (written l u d f m) → length g ≡ length (w .work) → (t : RowSums) (p : Pivot) → p ≡ Kept t
+      → Reduced (system i) (G .rows) (i .n) k (L .upper-starts) (w .work) g (w .upper) u p
+      → Shut (i .n) k (lowerIn (i .n) below m) (listAt (L .upper-index) (L .upper-runs) (L .upper-starts) k) g f (w .d) d t
+      → l ≡ sets (w .lower) (getD (L .lower-starts) k 0) (gathered (lowerIn (i .n) below m) (take (i .n) g))
+      → Going Plain i L (k + 1) (written l u d f m)
+  unfolding system
+  plain-more {m} {below} eb em l u d g f s lg t p ep R Q e =
+      let el = plain-row eb em .lower in
+      going-more G h (written l u d f m) s (lowerIn (i .n) below m) el g lg t p ep R Q
+      (rw e (plain-kept (keptRow (gathered (lowerRow (stored i) k) (take (i .n) g)) (rowOf (L .upper-starts) u k) t) (lowerIn (i .n) below m) (take (i .n) g) el
+      (ap (λ (q : List ℕ). gathered q (take (i .n) g)) (sym el))))
+      (plain-inverse eb em) tt

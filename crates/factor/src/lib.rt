@@ -1,0 +1,594 @@
+// The arithmetic of a solve over lists that stand in their stores: the factors row by row, then the back steps.
+// Scratch of 32-bit slots has the inverse column order from slot n on and lower row k from slot 5n on.
+use base::OwnNumber;
+use base::Place;
+use base::RowSums;
+use numeric::Back;
+use numeric::Pivot;
+ghost use mathlib.Core.Path.{_≡_};
+ghost use mathlib.Core.List.{List, []};
+ghost use Prim.Native.Nat.{ℕ, _+_, _*_, _-_, _<_, _≤_};
+ghost use lib.ListN.{length, getD, take, drop};
+ghost use lib.Seq.{sets};
+ghost use lib.Ieee.{nan};
+ghost use Rattle.base.specs.Lists.{nought, blank, listAt, rowOf};
+ghost use Rattle.questions.specs.Lent.{InverseLent, invertedAt};
+ghost use Rattle.marks.specs.Marks.{ListIn};
+ghost use Rattle.base.specs.declared.Form.the-variants.{Plain, Shared, ByRow};
+ghost use Rattle.matrix.specs.Input.{inputOf};
+ghost use Rattle.arithmetic.specs.Arith.{Row, back};
+ghost use Rattle.outcome.specs.Solve.{system};
+ghost use Rattle.numeric.specs.Stores.{Closable, gathered, storeGiven};
+ghost use Rattle.numeric.specs.Rows.{Held, Reduced, Shut};
+ghost use Rattle.factor.specs.FindLaws.{patternOf, Findable, Found};
+ghost use Rattle.factor.specs.Factoring.{FactoredAs, lists, written, Factorable, Going, CameTo, isFault, OwnRow, RowAt, lowerIn, LowerAt, Keepable, BackReady, backAs};
+
+// Every row is done and z is found, or what the arithmetic meets first.
+pub enum Factored {
+    Solved,
+    Zero(Place),
+    Overflow(Place),
+}
+
+fn met_fault(a: Factored) -> bool
+    ensures { λ t. ⌜ t ≡ isFault a ⌝ }
+{
+    match a {
+        Factored::Solved => false,
+        Factored::Zero(_) => true,
+        Factored::Overflow(_) => true,
+    }
+}
+
+fn wide16(x: u16) -> u32
+    ensures { λ r. ⌜ r ≡ x ⌝ }
+{
+    x as u32
+}
+
+// A list of places, from slot `at` on.
+fn copy_list(list: &[u16], marks: &mut [u32], at: usize)
+    requires { ⌜ at + length (now list) ≤ length (now marks) ⌝ }
+    ensures { λ _. ⌜ now (marks .exit) ≡ sets (now (marks .entry)) at (now (list .entry)) ⌝ }
+{
+    let mut p = 0;
+    while p < list.len() {
+        marks[at + p] = wide16(list[p]);
+        p += 1;
+    }
+}
+
+// The columns and the values of the row at place k, b(r(k)), the inverse order and the lower row, as parts of what holds them.
+fn own_columns<'a>(columns: &'a [u16], starts: &[u32], r: &[u16], k: Place) -> &'a [u16]
+    requires { ⌜ OwnRow (now starts) (now r) (length (now columns)) (k .0) ⌝ }
+    ensures { λ p. ⌜ now p ≡ rowOf (now (starts .entry)) (now (columns .entry)) (getD (now (r .entry)) (k .0) 0) ⌝ }
+{
+    let row = rows::own_row(r, k);
+    let i = row.0 as usize;
+    marks::list_part(columns, starts, starts, i)
+}
+
+fn own_values<'a>(values: &'a [f64], starts: &[u32], r: &[u16], k: Place) -> &'a [f64]
+    requires { ⌜ OwnRow (now starts) (now r) (length (now values)) (k .0) ⌝ }
+    ensures { λ p. ⌜ now p ≡ rowOf (now (starts .entry)) (now (values .entry)) (getD (now (r .entry)) (k .0) 0) ⌝ }
+{
+    let row = rows::own_row(r, k);
+    let i = row.0 as usize;
+    let from = marks::wide32(starts[i]);
+    let to = marks::wide32(starts[i + 1]);
+    &values[from..to]
+}
+
+fn own_right(b: &[f64], r: &[u16], k: Place) -> f64
+    requires { ⌜ (k .0 < length (now r)) × (getD (now r) (k .0) 0 < length (now b)) ⌝ }
+    ensures { λ s. ⌜ s ≡ getD (now (b .entry)) (getD (now (r .entry)) (k .0) 0) nan ⌝ }
+{
+    let row = rows::own_row(r, k);
+    let i = row.0 as usize;
+    b[i]
+}
+
+fn inverse_part(marks: &[u32], n: usize) -> &[u32]
+    requires { ⌜ (n ≤ 65536) × (n + n ≤ length (now marks)) ⌝ }
+    ensures { λ p. ⌜ now p ≡ take n (drop n (now (marks .entry))) ⌝ }
+{
+    let end = n + n;
+    &marks[n..end]
+}
+
+fn lower_part(marks: &[u32], n: usize, below: usize) -> &[u32]
+    requires { ⌜ LowerAt n below (length (now marks)) ⌝ }
+    ensures { λ p. ⌜ now p ≡ lowerIn n below (now (marks .entry)) ⌝ }
+{
+    let from = 5 * n;
+    let end = from + below;
+    &marks[from..end]
+}
+
+// Steps 1 to 3 of row k over its lower row, which stands in the marks.
+fn reduce_at(
+    n: usize,
+    k: Place,
+    starts: &[u32],
+    columns: &[u16],
+    values: &[f64],
+    r: &[u16],
+    c: &[u16],
+    b: &[f64],
+    ustarts: &[u32],
+    uruns: &[u32],
+    uindex: &[u16],
+    uvalues: &mut [f64],
+    work: &mut [f64],
+    marks: &[u32],
+    below: usize,
+) -> Pivot
+    requires { ⌜ RowAt (inputOf n (now starts) (now columns) (now values) (now r) (now c) (now b)) (k .0) below
+        (now ustarts) (now uruns) (now uindex) (now marks) (length (now uvalues)) (length (now work)) ⌝ }
+    ensures { λ p. ⌜ ((rows : List Row)
+        → Held (system (inputOf n (now (starts .entry)) (now (columns .entry)) (now (values .entry)) (now (r .entry)) (now (c .entry)) (now (b .entry)))) rows n (k .0)
+        (now (work .entry)) (now (uindex .entry)) (now (uruns .entry)) (now (ustarts .entry)) (now (uvalues .entry))
+        → Reduced (system (inputOf n (now (starts .entry)) (now (columns .entry)) (now (values .entry)) (now (r .entry)) (now (c .entry)) (now (b .entry)))) rows n (k .0)
+        (now (ustarts .entry)) (now (work .entry)) (now (work .exit)) (now (uvalues .entry)) (now (uvalues .exit)) p) ⌝ }
+{
+    let place = k.0 as usize;
+    let lower = lower_part(marks, n, below);
+    let inverse = inverse_part(marks, n);
+    let own = own_columns(columns, starts, r, k);
+    let entries = own_values(values, starts, r, k);
+    let right = own_right(b, r, k);
+    numeric::reduce_row(
+        work,
+        n,
+        place,
+        own,
+        entries,
+        inverse,
+        right,
+        lower,
+        uindex,
+        uruns,
+        ustarts,
+        uvalues,
+    )
+}
+
+// y(k) and d(k) into their slots, and the working row +0 again.
+fn close_at(
+    n: usize,
+    k: Place,
+    uindex: &[u16],
+    uruns: &[u32],
+    ustarts: &[u32],
+    d: &mut [f64],
+    work: &mut [f64],
+    marks: &[u32],
+    below: usize,
+    t: RowSums,
+)
+    requires { ⌜ LowerAt n below (length (now marks)) × Closable n (k .0) (length (now work)) (lowerIn n below (now marks)) (now uindex) (now uruns) (now ustarts) (length (now d)) ⌝ }
+    ensures { λ _. ⌜ Shut n (k .0) (lowerIn n below (now (marks .entry))) (listAt (now (uindex .entry)) (now (uruns .entry)) (now (ustarts .entry)) (k .0))
+        (now (work .entry)) (now (work .exit)) (now (d .entry)) (now (d .exit)) t ⌝ }
+{
+    let place = k.0 as usize;
+    let lower = lower_part(marks, n, below);
+    numeric::close_row(work, n, place, lower, uindex, uruns, ustarts, d, t);
+}
+
+// The back steps over the rows done.
+fn solve_back(
+    n: usize,
+    ustarts: &[u32],
+    uruns: &[u32],
+    uindex: &[u16],
+    uvalues: &[f64],
+    work: &mut [f64],
+) -> Factored
+    requires { ⌜ BackReady n (now uindex) (now uruns) (now ustarts) (length (now uvalues)) (now work) ⌝ }
+    ensures { λ a. ⌜ backAs (drop (n + n) (now (work .exit))) a
+        ≡ back (storeGiven n (now (work .entry)) (now (uindex .entry)) (now (uruns .entry)) (now (ustarts .entry)) (now (uvalues .entry))) n (drop (n + n) (now (work .entry))) ⌝ }
+{
+    let z = numeric::back_steps(work, n, uindex, uruns, ustarts, uvalues);
+    match z {
+        Back::Complete => Factored::Solved,
+        Back::Stopped(k) => Factored::Overflow(Place(k as u32)),
+    }
+}
+
+// ---- the plain form
+
+// Lower row k from its store into the marks, and its length.
+fn lower_plain(n: usize, k: Place, lstarts: &[u32], lindex: &[u16], marks: &mut [u32]) -> usize
+    requires { ⌜ ListIn (now lindex) (now lstarts) (now lstarts) (k .0) × LowerAt n (length (rowOf (now lstarts) (now lindex) (k .0))) (length (now marks)) ⌝ }
+    ensures { λ below. ⌜ (below ≡ length (rowOf (now (lstarts .entry)) (now (lindex .entry)) (k .0)))
+        × (now (marks .exit) ≡ sets (now (marks .entry)) (5 * n) (rowOf (now (lstarts .entry)) (now (lindex .entry)) (k .0))) ⌝ }
+{
+    let place = k.0 as usize;
+    let list = marks::list_part(lindex, lstarts, lstarts, place);
+    copy_list(list, marks, 5 * n);
+    list.len()
+}
+
+// L of row k, from its list start on.
+fn keep_plain(
+    n: usize,
+    k: Place,
+    lstarts: &[u32],
+    lvalues: &mut [f64],
+    work: &[f64],
+    marks: &[u32],
+    below: usize,
+)
+    requires { ⌜ LowerAt n below (length (now marks)) × Keepable n (k .0) below (now lstarts) (length (now lvalues)) (length (now work)) (lowerIn n below (now marks)) ⌝ }
+    ensures { λ _. ⌜ now (lvalues .exit) ≡ sets (now (lvalues .entry)) (getD (now (lstarts .entry)) (k .0) 0)
+        (gathered (lowerIn n below (now (marks .entry))) (take n (now (work .entry)))) ⌝ }
+{
+    let place = k.0 as usize;
+    let lower = lower_part(marks, n, below);
+    let from = marks::wide32(lstarts[place]);
+    numeric::keep_by_rows(&work[..n], lower, lvalues, from);
+}
+
+// Row k in the plain form: its lower row is read from the store, its L kept behind that of the rows above.
+fn row_plain(
+    n: usize,
+    k: Place,
+    starts: &[u32],
+    columns: &[u16],
+    values: &[f64],
+    r: &[u16],
+    c: &[u16],
+    b: &[f64],
+    lstarts: &[u32],
+    lindex: &[u16],
+    lvalues: &mut [f64],
+    ustarts: &[u32],
+    uindex: &[u16],
+    uvalues: &mut [f64],
+    d: &mut [f64],
+    work: &mut [f64],
+    marks: &mut [u32],
+) -> Factored
+    requires { ⌜ (k .0 < n) × Going Plain (inputOf n (now starts) (now columns) (now values) (now r) (now c) (now b)) (lists (now lstarts) (now lindex) (now ustarts) (now ustarts) (now uindex))
+        (k .0) (written (now lvalues) (now uvalues) (now d) (now work) (now marks)) ⌝ }
+    ensures { λ a. ⌜ CameTo Plain (inputOf n (now (starts .entry)) (now (columns .entry)) (now (values .entry)) (now (r .entry)) (now (c .entry)) (now (b .entry)))
+        (lists (now (lstarts .entry)) (now (lindex .entry)) (now (ustarts .entry)) (now (ustarts .entry)) (now (uindex .entry)))
+        (k .0 + 1) a (written (now (lvalues .exit)) (now (uvalues .exit)) (now (d .exit)) (now (work .exit)) (now (marks .exit))) ⌝ }
+{
+    let below = lower_plain(n, k, lstarts, lindex, marks);
+    let p = reduce_at(
+        n,
+        k,
+        starts,
+        columns,
+        values,
+        r,
+        c,
+        b,
+        ustarts,
+        ustarts,
+        uindex,
+        uvalues,
+        work,
+        marks,
+        below,
+    );
+    match p {
+        Pivot::Kept(t) => {
+            keep_plain(n, k, lstarts, lvalues, work, marks, below);
+            close_at(n, k, uindex, ustarts, ustarts, d, work, marks, below, t);
+            Factored::Solved
+        }
+        Pivot::Zero => Factored::Zero(k),
+        Pivot::Overflow => Factored::Overflow(k),
+    }
+}
+
+// The rows of the plain form, up to the first fault.
+fn rows_plain(
+    n: usize,
+    starts: &[u32],
+    columns: &[u16],
+    values: &[f64],
+    r: &[u16],
+    c: &[u16],
+    b: &[f64],
+    lstarts: &[u32],
+    lindex: &[u16],
+    lvalues: &mut [f64],
+    ustarts: &[u32],
+    uindex: &[u16],
+    uvalues: &mut [f64],
+    d: &mut [f64],
+    work: &mut [f64],
+    marks: &mut [u32],
+) -> Factored
+    requires { ⌜ Going Plain (inputOf n (now starts) (now columns) (now values) (now r) (now c) (now b)) (lists (now lstarts) (now lindex) (now ustarts) (now ustarts) (now uindex))
+        0 (written (now lvalues) (now uvalues) (now d) (now work) (now marks)) ⌝ }
+    ensures { λ a. ⌜ CameTo Plain (inputOf n (now (starts .entry)) (now (columns .entry)) (now (values .entry)) (now (r .entry)) (now (c .entry)) (now (b .entry)))
+        (lists (now (lstarts .entry)) (now (lindex .entry)) (now (ustarts .entry)) (now (ustarts .entry)) (now (uindex .entry)))
+        n a (written (now (lvalues .exit)) (now (uvalues .exit)) (now (d .exit)) (now (work .exit)) (now (marks .exit))) ⌝ }
+{
+    let mut k = 0;
+    while k < n {
+        let a = row_plain(
+            n,
+            Place(k as u32),
+            starts,
+            columns,
+            values,
+            r,
+            c,
+            b,
+            lstarts,
+            lindex,
+            lvalues,
+            ustarts,
+            uindex,
+            uvalues,
+            d,
+            work,
+            marks,
+        );
+        if met_fault(a) {
+            return a;
+        }
+        k += 1;
+    }
+    Factored::Solved
+}
+
+// Zeros where rows will stand, and the inverse order.
+fn begin_plain(
+    n: usize,
+    c: &[u16],
+    lvalues: &mut [f64],
+    uvalues: &mut [f64],
+    work: &mut [f64],
+    marks: &mut [u32],
+)
+    requires { ⌜ InverseLent n (now c) (length (now marks) - n) ⌝ }
+    ensures { λ _. ⌜ (now (lvalues .exit) ≡ blank nought (now (lvalues .entry))) × (now (uvalues .exit) ≡ blank nought (now (uvalues .entry)))
+        × (now (work .exit) ≡ blank nought (now (work .entry))) × (now (marks .exit) ≡ invertedAt (now (c .entry)) n (now (marks .entry))) ⌝ }
+{
+    base::clear_f64(lvalues);
+    base::clear_f64(uvalues);
+    base::clear_f64(work);
+    questions::invert_at(n, c, marks);
+}
+
+// The factors and z in the plain form. Another call clears scratch, and after a fault all that this one writes.
+pub fn factor_plain(
+    n: usize,
+    starts: &[u32],
+    columns: &[u16],
+    values: &[f64],
+    r: &[u16],
+    c: &[u16],
+    b: &[f64],
+    lstarts: &[u32],
+    lindex: &[u16],
+    lvalues: &mut [f64],
+    ustarts: &[u32],
+    uindex: &[u16],
+    uvalues: &mut [f64],
+    d: &mut [f64],
+    work: &mut [f64],
+    marks: &mut [u32],
+) -> Factored
+    requires { ⌜ Factorable Plain (inputOf n (now starts) (now columns) (now values) (now r) (now c) (now b)) (lists (now lstarts) (now lindex) (now ustarts) (now ustarts) (now uindex))
+        (written (now lvalues) (now uvalues) (now d) (now work) (now marks)) ⌝ }
+    ensures { λ a. ⌜ FactoredAs Plain (inputOf n (now (starts .entry)) (now (columns .entry)) (now (values .entry)) (now (r .entry)) (now (c .entry)) (now (b .entry))) a
+        (now (lvalues .exit)) (now (uvalues .exit)) (now (d .exit)) (drop (n + n) (now (work .exit))) ⌝ }
+{
+    begin_plain(n, c, lvalues, uvalues, work, marks);
+    let a = rows_plain(
+        n,
+        starts,
+        columns,
+        values,
+        r,
+        c,
+        b,
+        lstarts,
+        lindex,
+        lvalues,
+        ustarts,
+        uindex,
+        uvalues,
+        d,
+        work,
+        marks,
+    );
+    if met_fault(a) {
+        return a;
+    }
+    solve_back(n, ustarts, ustarts, uindex, uvalues, work)
+}
+
+// ---- the row form
+
+// Lower row k into the marks, and its length: the entries of row k united with the lists before it, as far as their cuts.
+fn find_lower(
+    n: usize,
+    k: Place,
+    starts: &[u32],
+    columns: &[u16],
+    r: &[u16],
+    c: &[u16],
+    ustarts: &[u32],
+    uruns: &[u32],
+    uindex: &[u16],
+    marks: &mut [u32],
+) -> usize
+    requires { ⌜ Findable (patternOf n (now starts) (now columns) (now r) (now c)) n (k .0) (now starts) (now columns) (now r) (now uindex) (now uruns) (now ustarts) (now marks) ⌝ }
+    ensures { λ below. ⌜ Found (patternOf n (now (starts .entry)) (now (columns .entry)) (now (r .entry)) (now (c .entry))) n (k .0) below
+        (now (uindex .entry)) (now (uruns .entry)) (now (ustarts .entry)) (now (marks .entry)) (now (marks .exit)) ⌝ }
+{
+    let stamp = k.0 + 1;
+    let cuts = 3 * n;
+    rows::load_row_place(marks, n, stamp, k, columns, starts, r);
+    rows::close_place(marks, n, stamp, k, cuts, uindex, uruns);
+    let found = rows::list_place(marks, n, stamp, k, 5 * n);
+    rows::renew_cuts(marks, n, stamp, k, cuts, uindex, uruns, ustarts);
+    found.below
+}
+
+// Row k in the row form: L is not kept.
+fn row_by_row(
+    n: usize,
+    k: Place,
+    starts: &[u32],
+    columns: &[u16],
+    values: &[f64],
+    r: &[u16],
+    c: &[u16],
+    b: &[f64],
+    ustarts: &[u32],
+    uruns: &[u32],
+    uindex: &[u16],
+    uvalues: &mut [f64],
+    d: &mut [f64],
+    work: &mut [f64],
+    marks: &mut [u32],
+) -> Factored
+    requires { ⌜ (k .0 < n) × Going ByRow (inputOf n (now starts) (now columns) (now values) (now r) (now c) (now b)) (lists [] [] (now ustarts) (now uruns) (now uindex))
+        (k .0) (written [] (now uvalues) (now d) (now work) (now marks)) ⌝ }
+    ensures { λ a. ⌜ CameTo ByRow (inputOf n (now (starts .entry)) (now (columns .entry)) (now (values .entry)) (now (r .entry)) (now (c .entry)) (now (b .entry)))
+        (lists [] [] (now (ustarts .entry)) (now (uruns .entry)) (now (uindex .entry))) (k .0 + 1) a
+        (written [] (now (uvalues .exit)) (now (d .exit)) (now (work .exit)) (now (marks .exit))) ⌝ }
+{
+    let below = find_lower(n, k, starts, columns, r, c, ustarts, uruns, uindex, marks);
+    let p = reduce_at(
+        n,
+        k,
+        starts,
+        columns,
+        values,
+        r,
+        c,
+        b,
+        ustarts,
+        uruns,
+        uindex,
+        uvalues,
+        work,
+        marks,
+        below,
+    );
+    match p {
+        Pivot::Kept(t) => {
+            close_at(n, k, uindex, uruns, ustarts, d, work, marks, below, t);
+            Factored::Solved
+        }
+        Pivot::Zero => Factored::Zero(k),
+        Pivot::Overflow => Factored::Overflow(k),
+    }
+}
+
+// The rows of the row form, up to the first fault.
+fn rows_by_row(
+    n: usize,
+    starts: &[u32],
+    columns: &[u16],
+    values: &[f64],
+    r: &[u16],
+    c: &[u16],
+    b: &[f64],
+    ustarts: &[u32],
+    uruns: &[u32],
+    uindex: &[u16],
+    uvalues: &mut [f64],
+    d: &mut [f64],
+    work: &mut [f64],
+    marks: &mut [u32],
+) -> Factored
+    requires { ⌜ Going ByRow (inputOf n (now starts) (now columns) (now values) (now r) (now c) (now b)) (lists [] [] (now ustarts) (now uruns) (now uindex))
+        0 (written [] (now uvalues) (now d) (now work) (now marks)) ⌝ }
+    ensures { λ a. ⌜ CameTo ByRow (inputOf n (now (starts .entry)) (now (columns .entry)) (now (values .entry)) (now (r .entry)) (now (c .entry)) (now (b .entry)))
+        (lists [] [] (now (ustarts .entry)) (now (uruns .entry)) (now (uindex .entry))) n a
+        (written [] (now (uvalues .exit)) (now (d .exit)) (now (work .exit)) (now (marks .exit))) ⌝ }
+{
+    let mut k = 0;
+    while k < n {
+        let a = row_by_row(
+            n,
+            Place(k as u32),
+            starts,
+            columns,
+            values,
+            r,
+            c,
+            b,
+            ustarts,
+            uruns,
+            uindex,
+            uvalues,
+            d,
+            work,
+            marks,
+        );
+        if met_fault(a) {
+            return a;
+        }
+        k += 1;
+    }
+    Factored::Solved
+}
+
+// Zeros where rows will stand, no marks, and the inverse order.
+fn begin_found(n: usize, c: &[u16], uvalues: &mut [f64], work: &mut [f64], marks: &mut [u32])
+    requires { ⌜ InverseLent n (now c) (length (now marks) - n) ⌝ }
+    ensures { λ _. ⌜ (now (uvalues .exit) ≡ blank nought (now (uvalues .entry))) × (now (work .exit) ≡ blank nought (now (work .entry)))
+        × (now (marks .exit) ≡ invertedAt (now (c .entry)) n (blank 0 (now (marks .entry)))) ⌝ }
+{
+    base::clear_f64(uvalues);
+    base::clear_f64(work);
+    base::clear_u32(marks);
+    questions::invert_at(n, c, marks);
+}
+
+// The factors and z in the row form. Another call clears all that this one writes.
+pub fn factor_row(
+    n: usize,
+    starts: &[u32],
+    columns: &[u16],
+    values: &[f64],
+    r: &[u16],
+    c: &[u16],
+    b: &[f64],
+    ustarts: &[u32],
+    uruns: &[u32],
+    uindex: &[u16],
+    uvalues: &mut [f64],
+    d: &mut [f64],
+    work: &mut [f64],
+    marks: &mut [u32],
+) -> Factored
+    requires { ⌜ Factorable ByRow (inputOf n (now starts) (now columns) (now values) (now r) (now c) (now b)) (lists [] [] (now ustarts) (now uruns) (now uindex))
+        (written [] (now uvalues) (now d) (now work) (now marks)) ⌝ }
+    ensures { λ a. ⌜ FactoredAs ByRow (inputOf n (now (starts .entry)) (now (columns .entry)) (now (values .entry)) (now (r .entry)) (now (c .entry)) (now (b .entry))) a
+        [] (now (uvalues .exit)) (now (d .exit)) (drop (n + n) (now (work .exit))) ⌝ }
+{
+    begin_found(n, c, uvalues, work, marks);
+    let a = rows_by_row(
+        n,
+        starts,
+        columns,
+        values,
+        r,
+        c,
+        b,
+        ustarts,
+        uruns,
+        uindex,
+        uvalues,
+        d,
+        work,
+        marks,
+    );
+    if met_fault(a) {
+        return a;
+    }
+    solve_back(n, ustarts, uruns, uindex, uvalues, work)
+}
