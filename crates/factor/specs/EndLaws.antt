@@ -22,11 +22,7 @@ use Rattle.outcome.specs.Forms.{valueNeed}
 use Rattle.outcome.specs.Placed.{PlacedSide, start-at, size-at, list-at}
 use Rattle.outcome.specs.Solve.{system, listed, valuesKept, pivotsKept}
 use Rattle.questions.specs.Lent.{invertedAt}
-use Rattle.questions.specs.ScatterLaws.{placed-front, placed-inverse, placed-rest}
-use Rattle.base.specs.ZerosLaws.{blank-length, blank-at}
-use Rattle.marks.specs.Marks.{Fresh}
-use Rattle.rows.specs.Rows as found
-use Rattle.rows.specs.CutLaws as cuts
+use Rattle.questions.specs.ScatterLaws.{placed-inverse}
 use Rattle.numeric.specs.declared.Back.the-variants.{Complete, Stopped}
 use Rattle.numeric.specs.declared.Back.{Back}
 use Rattle.numeric.specs.Stores.{storeGiven, numberedBack}
@@ -73,39 +69,6 @@ pub plain-start : {i : Input} {L : Lists} {w : Written} (x : Written) → Factor
 plain-start {i} {L} {w} x F s el eu ew em =
     going-start (same-given s F) (cleared (x .upper) (w .upper) (s .upper-size) eu) (cleared (x .work) (w .work) (s .work-size) ew)
     (stacked-none nought (lOf []) (L .lower-starts) (x .lower) (cleared (x .lower) (w .lower) (s .lower-size) el)) (inverse-start i (x .marks) (w .marks) (omega (arith, F .slots)) em) tt
-
--- the marks of the other forms are cleared first
-module _ (i : Input) (m s : List ℕ) (l : 8 * i .n ≤ length s) (e : m ≡ invertedAt (i .c) (i .n) (blank 0 s)) where
-  long : length (blank 0 s) ≡ length s
-  long = blank-length 0 s
-
-  pub marks-inverse : Inverse i m
-  marks-inverse = inverse-start i m (blank 0 s) (omega (arith, long)) e
-
-  fresh-marks : Fresh (i .n) 1 m
-  fresh-marks j b =
-      let q : getD m j 0 ≡ 0 =
-      rw e (sym (getD-take (i .n) (invertedAt (i .c) (i .n) (blank 0 s)) j 0 b) ∙ ap (λ (x : List ℕ). getD x j 0) (placed-front (i .c) (i .n) (blank 0 s) (omega (arith, long)))
-      ∙ getD-take (i .n) (blank 0 s) j 0 b ∙ blank-at 0 s j 0 (omega arith)) in
-      omega arith
-
-  pub marks-finding : (index runs starts : List ℕ) → found.Held (stored i) (i .n) 0 (0 + 1) (3 * i .n) m index runs starts
-  marks-finding index runs starts = cuts.held-start (stored i) (i .n) 1 (3 * i .n) m index runs starts fresh-marks
-
-  pub marks-cursors : (j : ℕ) → j < i .n → getD (drop (4 * i .n) m) j 0 ≡ 0
-  marks-cursors j b =
-      let q : i .n + i .n + (2 * i .n + j) ≡ 4 * i .n + j = omega arith in
-      getD-drop (4 * i .n) m j 0
-      ∙ rw e (rw (← q) (sym (getD-drop (i .n + i .n) (invertedAt (i .c) (i .n) (blank 0 s)) (2 * i .n + j) 0)
-      ∙ ap (λ (x : List ℕ). getD x (2 * i .n + j) 0) (placed-rest (i .c) (i .n) (blank 0 s) (omega (arith, long))) ∙ getD-drop (i .n + i .n) (blank 0 s) (2 * i .n + j) 0
-      ∙ blank-at 0 s (i .n + i .n + (2 * i .n + j)) 0 (omega arith)))
-
-pub row-start : {i : Input} {L : Lists} {w : Written} (x : Written) → Factorable ByRow i L w → Sizes w x → x .upper ≡ blank nought (w .upper)
-    → x .work ≡ blank nought (w .work) → x .marks ≡ invertedAt (i .c) (i .n) (blank 0 (w .marks)) → Going ByRow i L 0 x
-row-start {i} {L} {w} x F s eu ew em =
-    let F′ = same-given s F in
-    going-start F′ (cleared (x .upper) (w .upper) (s .upper-size) eu) (cleared (x .work) (w .work) (s .work-size) ew) (F′ .lower-side)
-    (marks-inverse i (x .marks) (w .marks) (F .slots) em) (marks-finding i (x .marks) (w .marks) (F .slots) em (L .upper-index) (L .upper-runs) (L .upper-starts))
 
 -- ---- a fault in the back steps is an overflow at one of the n places
 

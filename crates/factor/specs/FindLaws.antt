@@ -5,16 +5,9 @@ use mathlib.Core.List.{List, [], _∷_, _++_, map}
 use Prim.Native.Nat.{ℕ, zero, suc, _+_, _-_, _*_, _<_, _≤_}
 use native.Mathlib.Omega.{arith}
 use lib.ListN.{length, getD, take, drop, length-drop}
-use lib.Ieee.{Float}
 use lib.Seq.{getD-take, getD-drop, ext-getD, length-take-le}
 use Rattle.base.specs.Lists.{has, listAt, rowOf}
 use Rattle.base.specs.declared.Form.{Form}
-use Rattle.base.specs.declared.Form.the-variants.{ByRow}
-use Rattle.base.specs.declared.RowSums.{RowSums}
-use Rattle.outcome.specs.Solve.{system}
-use Rattle.numeric.specs.declared.Pivot.{Pivot}
-use Rattle.numeric.specs.declared.Pivot.the-variants.{Kept}
-use Rattle.numeric.specs.Rows.{Reduced, Shut}
 use Rattle.base.specs.declared.Side.the-variants.{Upper}
 use Rattle.fill.specs.Fill.{Pattern, filled, lowerRow, upperRow}
 use Rattle.matrix.specs.Input.{Input, inputOf, ic, stored}
@@ -28,8 +21,8 @@ use Rattle.rows.specs.Rows.{Stored, Cuts, Held, Loaded, Closed, Listed, Renewed
 use Rattle.rows.specs.FillLaws.{held-parts}
 use Rattle.rows.specs.ListLaws.{listed-lower, listed-but, lower-le, upper-le}
 use Rattle.rows.specs.Turn.{loaded-cuts, closed-marks, listed-marks, listed-cuts, place-turn}
-use Rattle.factor.specs.Factoring.{Lists, Written, written, Inverse, Going, RowAt, lowerIn}
-use Rattle.factor.specs.TurnLaws.{Sizes, row-at, going-more}
+use Rattle.factor.specs.Factoring.{Lists, Written, Inverse, Going, RowAt, lowerIn}
+use Rattle.factor.specs.TurnLaws.{row-at}
 
 -- ---- definitions
 
@@ -189,15 +182,3 @@ module _ {f : Form} {i : Input} {L : Lists} {k : ℕ} {w : Written} (G : Going f
 
     pub found-row : length m ≡ length (w .marks) → RowAt i k below (L .upper-starts) (L .upper-runs) (L .upper-index) m (length (w .upper)) (length (w .work))
     found-row em = row-at G h m below em found-inverse (as-stored .size) (as-stored .lower)
-
--- ---- the row form
-
-pub row-more : {i : Input} {L : Lists} {k : ℕ} {w : Written} (G : Going ByRow i L k w) (h : k < i .n) {m : List ℕ} {below : ℕ}
-    (e : Found (patternOf (i .n) (i .starts) (i .columns) (i .r) (i .c)) (i .n) k below (L .upper-index) (L .upper-runs) (L .upper-starts) (w .marks) m)
-    (u d g f : List Float) → Sizes w (written [] u d f m) → length g ≡ length (w .work) → (t : RowSums) (p : Pivot) → p ≡ Kept t
-    → Reduced (system i) (G .rows) (i .n) k (L .upper-starts) (w .work) g (w .upper) u p
-    → Shut (i .n) k (lowerIn (i .n) below m) (listAt (L .upper-index) (L .upper-runs) (L .upper-starts) k) g f (w .d) d t
-    → Going ByRow i L (k + 1) (written [] u d f m)
-row-more {i} {L} {k} {w} G h {m} {below} e u d g f s lg t p ep R Q =
-    going-more G h (written [] u d f m) s (lowerIn (i .n) below m) (found-row G h (G .finding) e (s .marks-size) .lower) g lg t p ep R Q
-    refl (found-inverse G h (G .finding) e) (found-next G h (G .finding) e)
