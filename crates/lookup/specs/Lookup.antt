@@ -44,16 +44,23 @@ spanOf fit k n s runs slots =
 unfoldable pub within : List ℕ → Span → List ℕ
 within l s = take (s .to - s .from) (drop (s .from) l)
 
-unfoldable pub partOf : Bool → Place → ℕ → Lists → List ℕ
-partOf fit k n l = within (l .index) (spanOf fit k n (l .starts) (l .runs) (length (l .index)))
-
 abbrev pub ofSide : Side → Lists → Lists → Lists
 ofSide Lower l u = l
 ofSide Upper l u = u
 
+-- where the list of a side at a place stands in that side's store
+unfoldable pub spanIn : Side → Place → ℕ → ℕ → Lists → Lists → Span
+spanIn side k n extra l u =
+    spanOf (bothFit n extra (length (l .starts)) (length (l .runs)) (length (l .index)) (length (u .starts)) (length (u .runs)) (length (u .index))) k n
+    (ofSide side l u .starts) (ofSide side l u .runs) (length (ofSide side l u .index))
+
 unfoldable pub lookup : Side → Place → ℕ → ℕ → Lists → Lists → List ℕ
-lookup side k n extra l u =
-    partOf (bothFit n extra (length (l .starts)) (length (l .runs)) (length (l .index)) (length (u .starts)) (length (u .runs)) (length (u .index))) k n (ofSide side l u)
+lookup side k n extra l u = within (ofSide side l u .index) (spanIn side k n extra l u)
+
+-- a span within a store
+pub record Inside (s : Span) (slots : ℕ) : Type 0 where
+  pub up : s .from ≤ s .to
+  pub end : s .to ≤ slots
 
 -- what fitting lengths give the code
 pub record SideLent (fit : Bool) (n : ℕ) (s runs : List ℕ) : Type 0 where

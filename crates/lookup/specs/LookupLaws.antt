@@ -1,5 +1,5 @@
 -- Laws of the lookup: its spans stand within their stores, and a well shaped list is found as it is stored.
-use mathlib.Core.Path.{_≡_, refl, sym, _∙_}
+use mathlib.Core.Path.{_≡_, refl, sym, subst, _∙_}
 use mathlib.Core.Bool.{Bool, true, false, cond, _&&_}
 use mathlib.Core.List.{List}
 use Prim.Native.Nat.{ℕ, _+_, _-_, _≤_, _<_}
@@ -15,13 +15,9 @@ use Rattle.base.specs.declared.Side.{Side}
 use Rattle.base.specs.declared.Side.the-variants.{Lower, Upper}
 use Rattle.matrix.specs.Limits.{rowsWithin, maxRows, maxSlots}
 use Rattle.lookup.specs.declared.Span.{Span}
-use Rattle.lookup.specs.Lookup.{SideLent, Lists, listsOf, sized, bothFit, spanFrom, runSpan, spanOf, within, partOf, lookup}
+use Rattle.lookup.specs.Lookup.{SideLent, Lists, listsOf, sized, bothFit, spanFrom, runSpan, spanOf, ofSide, spanIn, Inside, within, lookup}
 
 -- ---- a span is within its store
-
-pub record Inside (s : Span) (slots : ℕ) : Type 0 where
-  pub up : s .from ≤ s .to
-  pub end : s .to ≤ slots
 
 choose : (b : Bool) (s t : Span) (slots : ℕ) → (b ≡ true → Inside s slots) → Inside t slots → Inside (cond b s t) slots
 choose true s t slots f g = f refl
@@ -71,22 +67,36 @@ module _ (fit : Bool) (k : Place) (n : ℕ) (s runs : List ℕ) (slots : ℕ) wh
   unfolding spanOf
   span-unfit f = rw f
 
-pub part-of : (fit : Bool) (k : Place) (n : ℕ) (s runs index : List ℕ) (o : Span) → o ≡ spanOf fit k n s runs (length index)
-    → take (o .to - o .from) (drop (o .from) index) ≡ partOf fit k n (listsOf s runs index)
-unfolding partOf within
-part-of fit k n s runs index o e = rw e
-
 -- the side that is named
-module _ (side : Side) (k : Place) (n extra : ℕ) (l u : Lists) (fit : Bool) (part : List ℕ) where
-  pub lower-named : side ≡ Lower → fit ≡ bothFit n extra (length (l .starts)) (length (l .runs)) (length (l .index)) (length (u .starts)) (length (u .runs)) (length (u .index))
-      → part ≡ partOf fit k n l → part ≡ lookup side k n extra l u
-  unfolding lookup
-  lower-named e f h = rw (e, ← f) h
+module _ (side : Side) (k : Place) (n extra : ℕ) (l u : Lists) where
+  pub lower-span : (fit : Bool) (o : Span) → side ≡ Lower → fit ≡ bothFit n extra (length (l .starts)) (length (l .runs)) (length (l .index)) (length (u .starts)) (length (u .runs)) (length (u .index))
+      → o ≡ spanOf fit k n (l .starts) (l .runs) (length (l .index)) → o ≡ spanIn side k n extra l u
+  unfolding spanIn
+  lower-span fit o e f h = rw (e, ← f) h
 
-  pub upper-named : side ≡ Upper → fit ≡ bothFit n extra (length (l .starts)) (length (l .runs)) (length (l .index)) (length (u .starts)) (length (u .runs)) (length (u .index))
-      → part ≡ partOf fit k n u → part ≡ lookup side k n extra l u
-  unfolding lookup
-  upper-named e f h = rw (e, ← f) h
+  pub upper-span : (fit : Bool) (o : Span) → side ≡ Upper → fit ≡ bothFit n extra (length (l .starts)) (length (l .runs)) (length (l .index)) (length (u .starts)) (length (u .runs)) (length (u .index))
+      → o ≡ spanOf fit k n (u .starts) (u .runs) (length (u .index)) → o ≡ spanIn side k n extra l u
+  unfolding spanIn
+  upper-span fit o e f h = rw (e, ← f) h
+
+  module _ (o : Span) (g : o ≡ spanIn side k n extra l u) where
+    pub span-in : Inside o (length (ofSide side l u .index))
+    unfolding spanIn
+    span-in = span-inside _ k n (ofSide side l u .starts) (ofSide side l u .runs) (length (ofSide side l u .index)) o g
+
+    pub lower-inside : side ≡ Lower → Inside o (length (l .index))
+    lower-inside e = subst (λ s. Inside o (length (ofSide s l u .index))) e span-in
+
+    pub upper-inside : side ≡ Upper → Inside o (length (u .index))
+    upper-inside e = subst (λ s. Inside o (length (ofSide s l u .index))) e span-in
+
+    pub lower-named : (part : List ℕ) → side ≡ Lower → part ≡ within (l .index) o → part ≡ lookup side k n extra l u
+    unfolding lookup
+    lower-named part e h = rw (← g, e) h
+
+    pub upper-named : (part : List ℕ) → side ≡ Upper → part ≡ within (u .index) o → part ≡ lookup side k n extra l u
+    unfolding lookup
+    upper-named part e h = rw (← g, e) h
 
 -- ---- fitting lengths
 
@@ -127,8 +137,8 @@ upper-lent n extra ls lr li us ur ui fit e = side-lent fit n extra us ur ui (λ 
 -- ---- a list that stands within its store is found as it is stored
 
 pub part-is : (k : Place) (n : ℕ) (s runs index : List ℕ) → k .0 < n → getD s (k .0) 0 ≤ getD s (k .0 + 1) 0
-    → getD runs (k .0) 0 + (getD s (k .0 + 1) 0 - getD s (k .0) 0) ≤ length index → partOf true k n (listsOf s runs index) ≡ listAt index runs s (k .0)
-unfolding partOf spanOf within listAt
+    → getD runs (k .0) 0 + (getD s (k .0 + 1) 0 - getD s (k .0) 0) ≤ length index → within index (spanOf true k n s runs (length index)) ≡ listAt index runs s (k .0)
+unfolding spanOf within listAt
 part-is k n s runs index l h b =
     let e = run-taken (getD s (k .0) 0) (getD s (k .0 + 1) 0) (getD runs (k .0) 0) (length index) h b in
     rw (lt-ltb (k .0) n l, ← e, add-sub-cancel-left)

@@ -1,7 +1,8 @@
 // A stored list by side and place, handed back as a part of the index store that holds it.
 ghost use mathlib.Core.Path.{_≡_};
 ghost use Prim.Native.Nat.{_<_, _≤_};
-ghost use Rattle.lookup.specs.Lookup.{SideLent, listsOf, sized, bothFit, runSpan, spanOf, partOf, lookup};
+ghost use lib.ListN.{length};
+ghost use Rattle.lookup.specs.Lookup.{SideLent, listsOf, sized, bothFit, runSpan, spanOf, spanIn, Inside, within, lookup};
 use base::Place;
 use base::Side;
 use matrix::Matrix;
@@ -81,21 +82,102 @@ fn list_span(fit: bool, k: Place, n: usize, starts: &[u32], runs: &[u32], slots:
     Span { from: 0, to: 0 }
 }
 
-fn list_of<'a>(
-    fit: bool,
+// Where the list of a side at a place stands in that side's store, of which the lengths are given.
+fn span_of(
+    side: Side,
     k: Place,
     n: usize,
-    starts: &[u32],
-    runs: &[u32],
-    index: &'a [u16],
-) -> &'a [u16]
-    requires { ⌜ SideLent fit n (now starts) (now runs) ⌝ }
-    ensures { λ l. ⌜ now l ≡ partOf fit k n (listsOf (now (starts .entry)) (now (runs .entry)) (now (index .entry))) ⌝ }
+    extra: usize,
+    lower_starts: &[u32],
+    lower_runs: &[u32],
+    lower_index: &[u16],
+    upper_starts: &[u32],
+    upper_runs: &[u32],
+    upper_index: &[u16],
+) -> Span
+    requires { ⌜ extra ≤ 1 ⌝ }
+    ensures { λ s. ⌜ s ≡ spanIn side k n extra (listsOf (now («lower_starts» .entry)) (now («lower_runs» .entry)) (now («lower_index» .entry))) (listsOf (now («upper_starts» .entry)) (now («upper_runs» .entry)) (now («upper_index» .entry))) ⌝ }
 {
-    let s = list_span(fit, k, n, starts, runs, index.len());
+    let lower_slots = lower_index.len();
+    let upper_slots = upper_index.len();
+    let fit = both_fit(
+        n,
+        extra,
+        lower_starts.len(),
+        lower_runs.len(),
+        lower_slots,
+        upper_starts.len(),
+        upper_runs.len(),
+        upper_slots,
+    );
+    match side {
+        Side::Lower => list_span(fit, k, n, lower_starts, lower_runs, lower_slots),
+        Side::Upper => list_span(fit, k, n, upper_starts, upper_runs, upper_slots),
+    }
+}
+
+// The slots of a span that stands within its store.
+fn part<'a>(index: &'a [u16], s: Span) -> &'a [u16]
+    requires { ⌜ Inside s (length (now index)) ⌝ }
+    ensures { λ l. ⌜ now l ≡ within (now (index .entry)) s ⌝ }
+{
     let from = s.from;
     let to = s.to;
     &index[from..to]
+}
+
+// Where the list of a side at a place stands in that side's index store, in the shared form.
+pub fn span_shared(
+    side: Side,
+    k: Place,
+    n: usize,
+    lower_starts: &[u32],
+    lower_runs: &[u32],
+    lower_index: &[u16],
+    upper_starts: &[u32],
+    upper_runs: &[u32],
+    upper_index: &[u16],
+) -> Span
+    ensures { λ s. ⌜ s ≡ spanIn side k n 0 (listsOf (now («lower_starts» .entry)) (now («lower_runs» .entry)) (now («lower_index» .entry))) (listsOf (now («upper_starts» .entry)) (now («upper_runs» .entry)) (now («upper_index» .entry))) ⌝ }
+{
+    span_of(
+        side,
+        k,
+        n,
+        0,
+        lower_starts,
+        lower_runs,
+        lower_index,
+        upper_starts,
+        upper_runs,
+        upper_index,
+    )
+}
+
+// The same in the plain form: the runs start where the lists do.
+pub fn span_plain(
+    side: Side,
+    k: Place,
+    n: usize,
+    lower_starts: &[u32],
+    lower_index: &[u16],
+    upper_starts: &[u32],
+    upper_index: &[u16],
+) -> Span
+    ensures { λ s. ⌜ s ≡ spanIn side k n 1 (listsOf (now («lower_starts» .entry)) (now («lower_starts» .entry)) (now («lower_index» .entry))) (listsOf (now («upper_starts» .entry)) (now («upper_starts» .entry)) (now («upper_index» .entry))) ⌝ }
+{
+    span_of(
+        side,
+        k,
+        n,
+        1,
+        lower_starts,
+        lower_starts,
+        lower_index,
+        upper_starts,
+        upper_starts,
+        upper_index,
+    )
 }
 
 // The list of a side at a place, in the shared form.
@@ -112,23 +194,24 @@ pub fn list_shared<'a>(
 ) -> &'a [u16]
     ensures { λ l. ⌜ now l ≡ lookup side k n 0 (listsOf (now («lower_starts» .entry)) (now («lower_runs» .entry)) (now («lower_index» .entry))) (listsOf (now («upper_starts» .entry)) (now («upper_runs» .entry)) (now («upper_index» .entry))) ⌝ }
 {
-    let fit = both_fit(
+    let s = span_shared(
+        side,
+        k,
         n,
-        0,
-        lower_starts.len(),
-        lower_runs.len(),
-        lower_index.len(),
-        upper_starts.len(),
-        upper_runs.len(),
-        upper_index.len(),
+        lower_starts,
+        lower_runs,
+        lower_index,
+        upper_starts,
+        upper_runs,
+        upper_index,
     );
     match side {
-        Side::Lower => list_of(fit, k, n, lower_starts, lower_runs, lower_index),
-        Side::Upper => list_of(fit, k, n, upper_starts, upper_runs, upper_index),
+        Side::Lower => part(lower_index, s),
+        Side::Upper => part(upper_index, s),
     }
 }
 
-// The list of a side at a place, in the plain form: the runs start where the lists do.
+// The list of a side at a place, in the plain form.
 pub fn list_plain<'a>(
     side: Side,
     k: Place,
@@ -140,18 +223,17 @@ pub fn list_plain<'a>(
 ) -> &'a [u16]
     ensures { λ l. ⌜ now l ≡ lookup side k n 1 (listsOf (now («lower_starts» .entry)) (now («lower_starts» .entry)) (now («lower_index» .entry))) (listsOf (now («upper_starts» .entry)) (now («upper_starts» .entry)) (now («upper_index» .entry))) ⌝ }
 {
-    let fit = both_fit(
+    let s = span_plain(
+        side,
+        k,
         n,
-        1,
-        lower_starts.len(),
-        lower_starts.len(),
-        lower_index.len(),
-        upper_starts.len(),
-        upper_starts.len(),
-        upper_index.len(),
+        lower_starts,
+        lower_index,
+        upper_starts,
+        upper_index,
     );
     match side {
-        Side::Lower => list_of(fit, k, n, lower_starts, lower_starts, lower_index),
-        Side::Upper => list_of(fit, k, n, upper_starts, upper_starts, upper_index),
+        Side::Lower => part(lower_index, s),
+        Side::Upper => part(upper_index, s),
     }
 }
