@@ -16,7 +16,7 @@ use Rattle.arithmetic.specs.Arith.{ok, met, overflow, any, load, Given, Work, s
 use Rattle.arithmetic.specs.RowEnd.{finiteOn, finiteAll, products}
 use Rattle.arithmetic.specs.Sticky.{step-any, rest-at}
 use Rattle.numeric.specs.Rows.{Shut}
-use Rattle.numeric.specs.Stores.{Below, Ascending, storeGiven, placesOf, work, Stepped, gathered, zeroed, Columns, columns, keepColumns, Spacious}
+use Rattle.numeric.specs.Stores.{Below, Ascending, storeGiven, placesOf, work, Stepped, gathered, zeroed, Columns, columns, keepColumns}
 
 -- ---- step 1
 
@@ -149,12 +149,6 @@ pub record Keeping (starts : List ℕ) (w : List Float) (lower cursors₀ : List
 
 module _ {starts : List ℕ} {w : List Float} {lower cursors₀ : List ℕ} {l₀ : List Float} {cursors : List ℕ} {l : List Float} {p : ℕ}
     (I : Keeping starts w lower cursors₀ l₀ cursors l p) (h : p < length lower) (i a b : ℕ) (ei : i ≡ getD lower p 0) (ea : a ≡ getD starts i 0) (eb : b ≡ getD cursors i 0) where
-  pub keeping-room : (size : ℕ) → Spacious size lower starts cursors₀ (length l₀) → a + b < length l
-  keeping-room size R =
-      let c : b ≡ getD cursors₀ (getD lower p 0) 0 = eb ∙ ap (λ (j : ℕ). getD cursors j 0) ei ∙ I .later p (omega arith) h in
-      let s : a ≡ getD starts (getD lower p 0) 0 = ea ∙ ap (λ (j : ℕ). getD starts j 0) ei in
-      omega (arith, R .room p h, I .same-l)
-
   pub keeping-more : Ascending lower → Keeping starts w lower cursors₀ l₀ (set cursors i (getD cursors i 0 + 1)) (set l (a + b) (getD w i nan)) (p + 1)
   unfolding keepColumns
   keeping-more asc = record {

@@ -13,7 +13,7 @@ use borrow.Author.Tests.{eqb-true}
 use Rattle.base.specs.Lists.{listAt, rowOf, has, pairs, nought}
 use Rattle.base.specs.Tests.{or-cases}
 use Rattle.arithmetic.specs.Arith.{System}
-use Rattle.numeric.specs.Stores.{Shape, Loadable, Reducible, Closable, Spacious, placesOf}
+use Rattle.numeric.specs.Stores.{Shape, Loadable, Reducible, Closable, placesOf}
 use Rattle.numeric.specs.Rows.{Closed, Lent, Held}
 use Rattle.numeric.specs.PassLaws.{held-start}
 
@@ -72,16 +72,6 @@ reducible = record {
 
 pub closable : Closable 2 1 6 (0 ∷ []) (1 ∷ []) both starts 2
 closable = record { place = lit< tt; scratch = refl; reciprocals = refl; below = single _ (lit< tt); list = shape .list 1 (lit< tt); above = shape .below 1 (lit< tt) }
-
-pub spacious : Spacious 2 (0 ∷ []) starts (0 ∷ 0 ∷ []) 1
-spacious = record {
-  ascending = λ p q h g. absurd (omega arith);
-  places = single _ (lit< tt);
-  begun = single _ (lit< tt);
-  counted = single _ (lit< tt);
-  room = single _ (lit< tt);
-  few = lit< tt;
-}
 
 one-of : (a j : ℕ) → has (a ∷ []) j ≡ true → a ≡ j
 unfolding has

@@ -16,7 +16,7 @@ use Rattle.base.specs.Lists.{has, count, bit, nought, rowOf, listAt}
 use Rattle.base.specs.Tests.{by-test, or-right}
 use Rattle.base.specs.AscLaws.{count-suc, count-zero, count-mono, count-lt}
 use Rattle.arithmetic.specs.Arith.{System, Row, none}
-use Rattle.numeric.specs.Stores.{Ascending, gathered, Columns, columns, keepColumns, Spacious}
+use Rattle.numeric.specs.Stores.{Ascending, gathered, Columns, columns, keepColumns}
 use Rattle.numeric.specs.Rows.{Closed, Stacked, lOf, only, beside, columnOf, InColumns, Fitting}
 use Rattle.numeric.specs.StoreLaws.{Rising, rises-to, stacked-more, drop-replicate}
 use Rattle.numeric.specs.RowLaws.{asc-head, asc-tail, has-at, mem-has}
@@ -133,12 +133,12 @@ module _ (S : System) (starts : List ℕ) (r : Rising starts (S .n)) (fit : Fitt
 
   module _ (rows : List Row) (k : ℕ) (lower cursors : List ℕ) (l : List Float) (h : k < S .n) (C : Closed S k) (el : S .lower k ≡ lower) (whole : getD starts (S .n) 0 ≤ length l)
       (lc : S .n ≤ length cursors) (I : InColumns (S .n) starts cursors l (columnOf (S .lower) rows k)) where
-    below : (i : ℕ) → has lower i ≡ true → i < S .n
-    below i m = let q = C .left i (rw el m) in omega arith
+    pub column-below : (i : ℕ) → has lower i ≡ true → i < S .n
+    column-below i m = let q = C .left i (rw el m) in omega arith
 
     -- a column that the row has is not yet full
-    room : (i : ℕ) → i < S .n → getD starts i 0 + length (columnOf (S .lower) rows k i) + bit (has lower i) ≤ getD starts (i + 1) 0
-    room i g =
+    pub column-room : (i : ℕ) → i < S .n → getD starts i 0 + length (columnOf (S .lower) rows k i) + bit (has lower i) ≤ getD starts (i + 1) 0
+    column-room i g =
         let e : bit (has lower i) ≡ bit (has (S .lower k) i) = ap (λ (x : List ℕ). bit (has x i)) (sym el) in
         omega (arith, fit i g, column-length (S .lower) rows k i, count-suc (λ j. has (S .lower j) i) k, count-mono (λ j. has (S .lower j) i) (suc k) (S .n) h)
 
@@ -146,25 +146,11 @@ module _ (S : System) (starts : List ℕ) (r : Rising starts (S .n)) (fit : Fitt
         → columns c m ≡ keepColumns starts w lower (columns cursors l) → InColumns (S .n) starts c m (columnOf (S .lower) (rows ++ (next ∷ [])) (k + 1))
     unfolding columnOf
     columns-more next w c m many en e =
-        let q = row-in (S .n) starts r w lower cursors l (columnOf (S .lower) rows k) (rw el at (C .ascending)) below lc room whole I in
+        let q = row-in (S .n) starts r w lower cursors l (columnOf (S .lower) rows k) (rw el at (C .ascending)) column-below lc column-room whole I in
         same-in (S .n) starts r c m (λ i. columnOf (S .lower) rows k i ++ only (has lower i) (getD w i nan)) (columnOf (S .lower) (rows ++ (next ∷ [])) (k + 1))
         (λ i g. rw (add-one k, column-same (S .lower) rows (next ∷ []) k i (omega arith), el)
         (ap (λ (x : List Float). columnOf (S .lower) rows k i ++ x)
         (sym (ap (λ (y : List Float). only (has lower i) (beside lower y i)) (ap (λ (q : Row). q .l) (getD-at rows next [] none k many) ∙ en) ∙ beside-gathered lower w i)))) (rw (← e) at q)
-
-    -- what the code asks
-    pub columns-room : (size : ℕ) → S .n ≤ size → S .n < length starts → length l < 4294967296 → Spacious size lower starts cursors (length l)
-    columns-room size ls lt few = record {
-      ascending = rw el at (C .ascending);
-      places = λ p g. omega (arith, below (getD lower p 0) (has-at lower p g));
-      begun = λ p g. omega (arith, below (getD lower p 0) (has-at lower p g));
-      counted = λ p g. omega (arith, below (getD lower p 0) (has-at lower p g));
-      room = λ p g.
-          let i = getD lower p 0 in
-          let b = below i (has-at lower p g) in
-          omega (arith, rw (has-at lower p g) at (room i b), I .used i b, rises-to starts (i + 1) (S .n) (S .n) r (omega arith) (omega arith));
-      few = few;
-    }
 
   -- the last row: the columns one after another
   pub columns-end : (rows : List Row) (cursors : List ℕ) (l : List Float) → InColumns (S .n) starts cursors l (columnOf (S .lower) rows (S .n))

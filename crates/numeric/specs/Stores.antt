@@ -126,15 +126,6 @@ keepColumns starts w (i ∷ is) a =
     keepColumns starts w is
     (columns (set (a .cursors) i (getD (a .cursors) i 0 + 1)) (set (a .l) (getD starts i 0 + getD (a .cursors) i 0) (getD w i nan)))
 
--- each listed column has a slot left in a store of that many slots, whose number fits 32 bits
-pub record Spacious (size : ℕ) (lower starts cursors : List ℕ) (slots : ℕ) : Type 0 where
-  pub ascending : Ascending lower
-  pub places : Below size lower
-  pub begun : Below (length starts) lower
-  pub counted : Below (length cursors) lower
-  pub room : (p : ℕ) → p < length lower → getD starts (getD lower p 0) 0 + getD cursors (getD lower p 0) 0 < slots
-  pub few : slots < 4294967296
-
 -- ---- the back steps
 
 -- question 13 for each of their answers, and z

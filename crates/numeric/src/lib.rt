@@ -14,7 +14,7 @@ ghost use lib.Ieee.Scale.{finite};
 ghost use Rattle.base.specs.Lists.{listAt, rowOf, pairs};
 ghost use Rattle.arithmetic.specs.Arith.{ok, any, load, subtract, rest, back, System, Row};
 ghost use Rattle.arithmetic.specs.RowEnd.{finiteOn, finiteAll, products};
-ghost use Rattle.numeric.specs.Stores.{Below, ListIn, Shape, Loadable, Reducible, Closable, Spacious, Stepped, Eliminated, Finished, storeGiven, placesOf, gathered, zeroed, columns, keepColumns, numberedBack};
+ghost use Rattle.numeric.specs.Stores.{Below, ListIn, Shape, Loadable, Reducible, Closable, Stepped, Eliminated, Finished, storeGiven, placesOf, gathered, zeroed, numberedBack};
 ghost use Rattle.numeric.specs.Rows.{Held, Lent, Closed, Reduced, Shut};
 
 fn wide16(x: u16) -> usize
@@ -312,22 +312,6 @@ pub fn keep_by_rows(w: &[f64], lower: &[u32], l: &mut [f64], from: usize)
     let mut p = 0;
     while p < lower.len() {
         l[from + p] = w[wide32(lower[p])];
-        p += 1;
-    }
-}
-
-// Row k's multipliers, each in the next slot of its column. The cursors count the slots used.
-pub fn keep_by_columns(w: &[f64], lower: &[u32], starts: &[u32], cursors: &mut [u32], l: &mut [f64])
-    requires { ⌜ Spacious (length (now w)) (now lower) (now starts) (now cursors) (length (now l)) ⌝ }
-    ensures { λ _. ⌜ columns (now (cursors .exit)) (now (l .exit))
-        ≡ keepColumns (now (starts .entry)) (now (w .entry)) (now (lower .entry)) (columns (now (cursors .entry)) (now (l .entry))) ⌝ }
-{
-    let mut p = 0;
-    while p < lower.len() {
-        let i = wide32(lower[p]);
-        let used = cursors[i];
-        l[wide32(starts[i]) + wide32(used)] = w[i];
-        cursors[i] = used + 1;
         p += 1;
     }
 }

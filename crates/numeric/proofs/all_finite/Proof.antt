@@ -19,12 +19,9 @@ Inv-loop w columns p₀ p = (p ≤ length columns) × (finiteOn (drop p columns)
 abbrev μ-loop : tie.MeasureT-loop
 μ-loop w columns p₀ p = length columns - p
 
--- helpers
 -- the place at turn p is one of w's
 inside : (c : tie.In-loop Inv-loop μ-loop) → getD (now (c .before .before .before .before .args .columns)) (c .before .loop .p) 0 < length (now (c .before .before .before .before .args .w))
 inside c = c .before .before .before .before .pre (c .before .loop .p) (c .loop-test .taken)
-
--- end helpers
 
 loop-holds : tie.Need-loop-holds Inv-loop μ-loop
 loop-holds c = search needs

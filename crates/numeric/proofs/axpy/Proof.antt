@@ -18,12 +18,9 @@ Inv-loop w₀ columns u m n p₀ w p =
 abbrev μ-loop : tie.MeasureT-loop
 μ-loop w₀ columns u m n p₀ w p = n - p
 
--- helpers
 -- the place at turn p is one of w's
 inside : (c : tie.In-loop Inv-loop μ-loop) → getD (now (c .before .before .args .columns)) (c .before .loop .p) 0 < length (c .before .loop .w)
 inside c = rw (c .before .loop .inv .2) (c .before .before .pre .1 (c .before .loop .p) (c .loop-test .taken))
-
--- end helpers
 
 loop-holds : tie.Need-loop-holds Inv-loop μ-loop
 loop-holds c = search needs

@@ -23,12 +23,9 @@ Inv-loop w₀ columns values ic p₀ w p =
 abbrev μ-loop : tie.MeasureT-loop
 μ-loop w₀ columns values ic p₀ w p = length columns - p
 
--- helpers
 -- the place at turn p
 here : (c : tie.In-loop Inv-loop μ-loop) → getD (now (c .before .before .before .before .before .before .args .ic)) (getD (now (c .before .before .before .before .before .before .args .columns)) (c .before .loop .p) 0) 0 < length (c .before .loop .w)
 here c = rw (c .before .loop .inv .1) (c .before .before .before .before .before .before .pre .inside (c .before .loop .p) (c .loop-test .taken))
-
--- end helpers
 
 loop-holds : tie.Need-loop-holds Inv-loop μ-loop
 loop-holds c = search needs

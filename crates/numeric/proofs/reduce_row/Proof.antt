@@ -18,12 +18,9 @@ use Rattle.numeric.proofs.index_part.Reads as index-part-reads
 use Rattle.numeric.proofs.load_row.Reads as load-row-reads
 use Rattle.numeric.proofs.wide32.Reads as wide32-reads
 
--- helpers
 -- the scratch is as long as it was
 long : (c : tie.After-eliminate) → length (c .eliminate .last .0) ≡ length (now (c .before .before .before .before .before .before .before .before .before .before .before .before .before .before .before .before .args .f))
 long c = c .eliminate .kept .0 ∙ length-front (now (c .before .before .before .before .before .before .before .before .before .before .before .before .before .before .before .before .args .f)) (c .before .before .before .before .before .load-row .last .0) (c .before .before .before .before .before .before .before .before .before .before .before .before .before .before .before .before .args .n) (c .before .before .before .before .before .load-row .kept .0)
-
--- end helpers
 
 slice-relend-prefix-load-row : tie.Need-slice-relend-prefix-load-row
 slice-relend-prefix-load-row c = omega (arith, c .before .before .before .before .before .before .before .before .before .pre .scratch)

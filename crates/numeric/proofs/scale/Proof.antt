@@ -24,12 +24,9 @@ Inv-loop w columns u₀ from d p₀ u p =
 abbrev μ-loop : tie.MeasureT-loop
 μ-loop w columns u₀ from d p₀ u p = length columns - p
 
--- helpers
 -- the place at turn p is one of w's
 inside : (c : tie.In-loop Inv-loop μ-loop) → getD (now (c .before .before .before .before .before .args .columns)) (c .before .loop .p) 0 < length (now (c .before .before .before .before .before .args .w))
 inside c = c .before .before .before .before .before .pre .1 (c .before .loop .p) (c .loop-test .taken)
-
--- end helpers
 
 loop-holds : tie.Need-loop-holds Inv-loop μ-loop
 loop-holds c = (omega arith, refl, refl, rw add-zero)
