@@ -1,28 +1,25 @@
 -- Questions 9, 10 and 11 at a place, by what the code finds.
-use mathlib.Core.Path.{_≡_, refl, sym, ap, _∙_}
-use mathlib.Core.Bool.{Bool, true, false, _&&_}
+use mathlib.Core.Path.{_≡_, refl}
+use mathlib.Core.Bool.{true, false}
 use mathlib.Core.List.{List, []}
-use Prim.Native.Nat.{ℕ, zero, suc, _+_, _<_, _≤_}
+use Prim.Native.Nat.{ℕ, zero, suc, _+_, _<_}
 use native.Mathlib.Omega.{arith}
-use lib.ListN.{length}
-use lib.Dec.{leb}
+use lib.Seq.{drop-nil}
 use borrow.Author.Tests.{le-leb}
-use Rattle.base.specs.Answers.{spot, holds, andThen}
+use Rattle.base.specs.Answers.{spot}
 use Rattle.base.specs.declared.Form.{Form}
 use Rattle.base.specs.declared.Form.the-variants.{Plain, Shared, ByRow}
 use Rattle.base.specs.declared.Side.the-variants.{Lower, Upper}
 use Rattle.base.specs.declared.Refusal.{Refusal}
 use Rattle.base.specs.declared.Refusal.the-variants.{NullPivot, LowerSlots, UpperSlots}
-use Rattle.base.specs.declared.Asked.{Asked}
 use Rattle.base.specs.declared.Asked.the-variants.{Pass, Stop}
 use Rattle.fill.specs.Fill.{Pattern, filled, upperRow, lowerRow, flip}
-use Rattle.placement.specs.Placing.{plain, shared, startOf}
+use Rattle.placement.specs.Placing.{plain, shared, Plan, State, placed, after, startOf}
 use Rattle.placement.specs.PlacingLaws.{room}
 use Rattle.placing.specs.Ways.{wayOf}
 use Rattle.outcome.specs.Buffers.{Sizes}
 use Rattle.outcome.specs.Forms.{placedTo, indexNeed, valueNeed}
 use Rattle.outcome.specs.Structure.{fits, askPlace, askPlaces}
-use Rattle.outcome.specs.Placed.{lists-kept}
 use Rattle.outcome.proofs.Places.{places-hit, places-more}
 use Rattle.symbolic.specs.Pass.{placingOf, slotsOf}
 
@@ -42,6 +39,25 @@ module _ (P : Pattern) (n li lv ui uv k : ℕ) where
   pub fits-shared : fits Shared Lower P n (slotsOf li lv ui uv) k ≡ room shared (upperRow (flip P) n) (lowerRow (flip P)) li lv k
   unfolding fits indexNeed valueNeed placedTo
   fits-shared = refl
+
+-- "The row form keeps no L": no slots are needed below
+none-after : (s : State) (p : Plan) → s .slots ≡ [] → after s [] p .slots ≡ []
+unfolding after
+none-after s p e = rw e (drop-nil (p .have))
+
+none-slots : (R : ℕ → List ℕ) (k : ℕ) → placed shared (λ (j : ℕ). []) R k .slots ≡ []
+unfolding placed
+none-slots R zero = refl
+none-slots R (suc k) = none-after (placed shared (λ (j : ℕ). []) R k) _ (none-slots R k)
+
+none-starts : (k : ℕ) → startOf (λ (j : ℕ). []) k ≡ 0
+unfolding startOf
+none-starts zero = refl
+none-starts (suc k) = rw (none-starts k)
+
+pub fits-row : (P : Pattern) (n : ℕ) (z : Sizes) (k : ℕ) → fits ByRow Lower P n z k ≡ true
+unfolding fits indexNeed valueNeed placedTo
+fits-row P n z k = rw (none-slots (lowerRow (flip P)) (suc k), none-starts (suc k), le-leb 0 (z .lower .index) (omega arith), le-leb 0 (z .lower .values) (omega arith))
 
 -- ---- one place
 

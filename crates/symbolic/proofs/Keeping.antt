@@ -1,26 +1,25 @@
 -- Keeping T(k): the stores hold it, and the cuts are those of place k + 1. One law for both ways of placing and both sides.
-use mathlib.Core.Path.{_≡_, refl, sym, ap, _∙_, subst}
-use mathlib.Core.Bool.{Bool, true, false}
-use mathlib.Core.List.{List, [], map}
+use mathlib.Core.Path.{_≡_, ap, _∙_, subst}
+use mathlib.Core.Bool.{true, false}
+use mathlib.Core.List.{List, map}
 use Prim.Native.Nat.{ℕ, suc, _+_, _-_, _*_, _<_, _≤_}
 use native.Mathlib.Omega.{arith}
 use native.Mathlib.Nat.{add-sub-cancel-left}
 use native.Mathlib.Numerals.{add-one}
 use lib.ListN.{length, getD, take, drop}
 use lib.Seq.{length-take-le}
-use Rattle.base.specs.Lists.{blank, listAt, sum, total}
+use Rattle.base.specs.Lists.{blank, sum, total}
 use Rattle.base.specs.ZerosLaws.{blank-length}
 use Rattle.base.specs.AscLaws.{asc-at, length-asc}
 use Rattle.base.specs.declared.Side.the-variants.{Upper}
 use Rattle.fill.specs.Fill.{Pattern, filled, upperRow, lowerRow, flip}
-use Rattle.matrix.specs.Limits.{maxRows, maxSlots}
 use Rattle.placement.specs.PlacingLaws.{room}
-use Rattle.marks.specs.Marks.{Room, Base, Holds, ListIn}
-use Rattle.rows.specs.Rows.{Stored, Cuts, Held, Renewed, But, rowSteps, lengthIn, Countable}
+use Rattle.marks.specs.Marks.{ListIn}
+use Rattle.rows.specs.Rows.{Stored, Renewed, rowSteps, lengthIn, Countable}
 use Rattle.rows.specs.FillLaws.{upper-below}
 use Rattle.rows.specs.ListLaws.{lower-le, upper-le, row-products-is, held-countable, products-fit}
 use Rattle.placing.specs.Ways.{wayOf, Suited}
-use Rattle.placing.specs.Slices.{Ready, Readable}
+use Rattle.placing.specs.Slices.{Ready}
 use Rattle.placing.specs.Held.{Holding, RowIs, Turn, Stepped}
 use Rattle.placing.specs.HeldLaws.{index-long, list-held, list-readable}
 use Rattle.placing.specs.StepLaws.{turn-ready}
@@ -30,7 +29,7 @@ use Rattle.placing.specs.declared.Way.the-variants.{OneAfterAnother, Sharing}
 use Rattle.placing.specs.declared.Extent.{Extent}
 use Rattle.placing.specs.declared.Put.{Put}
 use Rattle.placing.specs.declared.Put.the-variants.{Done, Full}
-use Rattle.symbolic.specs.Places.{runCount, Stores, ListsAt, Keep, Kept, KeepLower, LowerEnds, Adding}
+use Rattle.symbolic.specs.Places.{runCount, Keep, Kept, KeepLower, LowerEnds, Adding}
 use Rattle.symbolic.specs.declared.OpenRow.{OpenRow}
 
 -- what is told of a value is told of the case that it is

@@ -1,7 +1,7 @@
 -- Opening a place: what its steps leave, one after another, from the load to the lists.
-use mathlib.Core.Path.{_≡_, refl, sym, ap, _∙_}
-use mathlib.Core.Bool.{Bool, true, false}
-use mathlib.Core.List.{List, []}
+use mathlib.Core.Path.{_≡_, sym, ap, _∙_}
+use mathlib.Core.Bool.{true}
+use mathlib.Core.List.{List}
 use Prim.Native.Nat.{ℕ, suc, _+_, _-_, _*_, _<_, _≤_, _/_}
 use native.Mathlib.Omega.{arith}
 use native.Mathlib.Decide.{ℕ-discrete, decLt}
@@ -9,23 +9,22 @@ use lib.ListN.{length, getD, set, take, drop, length-take, length-drop}
 use lib.Seq.{getD-set-other, getD-set-same, set-out, ext-getD, getD-take, getD-drop}
 use Rattle.base.specs.declared.Side.{Side}
 use Rattle.base.specs.declared.Side.the-variants.{Lower, Upper}
-use Rattle.fill.specs.Fill.{Pattern, filled, upperRow, lowerRow}
-use Rattle.matrix.specs.Input.{Input, stored}
-use Rattle.marks.specs.Marks.{Room, Base, Blocks, Fresh, Holds, Free, Same, Parts}
+use Rattle.fill.specs.Fill.{Pattern, filled}
+use Rattle.matrix.specs.Input.{Input}
+use Rattle.marks.specs.Marks.{Room, Base, Fresh, Holds, Free, Same, Parts}
 use Rattle.marks.specs.MarkLaws.{holds-kept}
-use Rattle.rows.specs.Rows.{Stored, Cuts, Held, Closed, Listed, But}
-use Rattle.rows.specs.CutLaws.{cuts-kept, cuts-same, cuts-but}
+use Rattle.rows.specs.Rows.{Cuts, Closed, Listed, But}
+use Rattle.rows.specs.CutLaws.{cuts-kept}
 use Rattle.rows.specs.FillLaws.{held-parts}
 use Rattle.rows.specs.ListLaws.{listed-lower, listed-upper, listed-but, lower-le, upper-le}
-use Rattle.columns.specs.Marks.{Below, markAt, stamped}
-use Rattle.columns.specs.Columns.{Space, orderOf, Outside, Unmarked, Untouched, Steady, Given, Ready, rowsOf}
-use Rattle.columns.specs.Sides.{sidePattern, sideRow, SideReady, SideLoaded, Inverse, Sound, rowsIn}
+use Rattle.columns.specs.Marks.{Below, markAt}
+use Rattle.columns.specs.Columns.{Space, orderOf, Untouched, Given, Ready}
+use Rattle.columns.specs.Sides.{sideRow, SideReady, SideLoaded, rowsIn}
 use Rattle.columns.proofs.Keeps.{order-read, stamped-keeps, unmarked-stamped, rows-same}
 use Rattle.columns.proofs.WindowLaws.{ready-steady}
 use Rattle.columns.proofs.SideLaws.{side-marks, side-below, side-untouched}
 use Rattle.columns.proofs.Stored.{given-sound, side-set, side-blocks}
-use Rattle.symbolic.specs.Places.{patternOf, cutsOf, Foreign, Apart, Begun, Open, Listing, RowFound}
-use Rattle.symbolic.specs.declared.OpenRow.{OpenRow}
+use Rattle.symbolic.specs.Places.{patternOf, cutsOf, Foreign, Apart, Begun, Open, RowFound}
 
 -- ---- what is not written
 

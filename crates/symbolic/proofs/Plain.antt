@@ -1,23 +1,22 @@
 -- One place of the plain form: from what it finds to what place k + 1 finds.
-use mathlib.Core.Path.{_≡_, refl, sym, ap, _∙_}
-use mathlib.Core.Bool.{Bool, true, false}
+use mathlib.Core.Path.{_≡_, _∙_}
+use mathlib.Core.Bool.{true, false}
 use mathlib.Core.List.{List}
-use Prim.Native.Nat.{ℕ, suc, _+_, _<_, _≤_}
+use Prim.Native.Nat.{ℕ, _+_, _<_}
 use native.Mathlib.Omega.{arith}
 use native.Mathlib.Numerals.{add-one}
 use lib.ListN.{length}
 use Rattle.base.specs.Lists.{blank, sum}
 use Rattle.base.specs.Answers.{spot}
 use Rattle.base.specs.declared.Form.the-variants.{Plain}
-use Rattle.base.specs.declared.Side.the-variants.{Lower, Upper}
+use Rattle.base.specs.declared.Side.the-variants.{Upper}
 use Rattle.base.specs.declared.Refusal.the-variants.{NullPivot, LowerSlots, UpperSlots}
-use Rattle.base.specs.declared.Asked.the-variants.{Pass, Stop}
+use Rattle.base.specs.declared.Asked.the-variants.{Stop}
 use Rattle.fill.specs.Fill.{Pattern, filled, upperRow, lowerRow, flip}
 use Rattle.matrix.specs.Input.{Input, stored}
 use Rattle.placement.specs.Placing.{plain}
 use Rattle.placement.specs.PlacingLaws.{room}
 use Rattle.marks.specs.Marks.{Room}
-use Rattle.marks.specs.MarkLaws.{room-kept}
 use Rattle.rows.specs.Rows.{rowSteps}
 use Rattle.outcome.specs.Structure.{askPlaces}
 use Rattle.placing.specs.Held.{Holding}
@@ -27,9 +26,9 @@ use Rattle.symbolic.specs.Places.{Open, RowFound, Keep, Kept, KeepLower,
 use Rattle.symbolic.specs.Pass.{slotsOf, At}
 use Rattle.symbolic.specs.declared.OpenRow.{OpenRow}
 use Rattle.symbolic.specs.declared.Progress.{Progress}
-use Rattle.symbolic.proofs.Opening.{room-of, base-of, begun-apart}
+use Rattle.symbolic.proofs.Opening.{begun-apart}
 use Rattle.symbolic.proofs.Keeping.{stored-held}
-use Rattle.symbolic.proofs.Sides.{side-apart, side-last}
+use Rattle.symbolic.proofs.Sides.{lists-open, room-found, lists-keep, side-apart, side-last}
 use Rattle.symbolic.proofs.Asking.{fits-upper, fits-plain, stop-null, stop-lower, stop-upper, goes-on}
 
 module _ (i : Input) (low : List ℕ) (lv : ℕ) (up : List ℕ) (uv k : ℕ) (ls li us ui s : List ℕ) (g : Progress) (h : At Plain i low lv up uv k ls ls li us us ui s g) (place : k < i .n) where
@@ -40,19 +39,14 @@ module _ (i : Input) (low : List ℕ) (lv : ℕ) (up : List ℕ) (uv k : ℕ) (l
   P = stored i
 
   pub plain-open : Open Upper i k (k + 1) 0 ui us us s
-  plain-open = record {
-    begun = h .begun;
-    below = place;
-    held = record { fresh = h .fresh; store = stored-held (h .most) (h .upper .held); cut = h .upper .cut };
-    ready = tt;
-  }
+  plain-open = lists-open (h .begun) place (h .upper) (h .fresh) tt
 
   pub plain-null : filled P k k ≡ false → askPlaces Plain P n (slotsOf (length low) lv (length up) uv) n ≡ Stop (NullPivot (spot k))
   plain-null a = stop-null Plain P n _ k place (h .passed) a
 
   module _ (s₁ : List ℕ) (o : OpenRow) (found : RowFound Upper i k (k + 1) s s₁ o) where
     space : Room n s₁
-    space = room-kept n s s₁ (found .apart .size) (room-of (h .begun .space))
+    space = room-found (h .begun) place (h .upper) found
 
     pub plain-lower : KeepLower P n k low lv ls li s₁ (o .below) (g .lower)
     plain-lower = record {
@@ -80,14 +74,7 @@ module _ (i : Input) (low : List ℕ) (lv : ℕ) (up : List ℕ) (uv k : ℕ) (l
     }
 
     pub plain-keep : Keep OneAfterAnother P n k (k + 1) (n + n + n) up uv us us ui s₁ o (g .upper)
-    plain-keep = record {
-      below = place;
-      few = h .begun .few;
-      space = space;
-      base = base-of Upper n;
-      lists = found .lists;
-      at = record { held = h .upper .held; cut = found .cut; stores = h .upper .stores };
-    }
+    plain-keep = lists-keep (h .begun) place (h .upper) found
 
     module _ (fits : room plain (lowerRow P) (lowerRow (flip P)) (length low) lv k ≡ true) where
       pub plain-full : room plain (upperRow P n) (lowerRow P) (length up) uv k ≡ false → askPlaces Plain P n (slotsOf (length low) lv (length up) uv) n ≡ Stop (UpperSlots (spot k))

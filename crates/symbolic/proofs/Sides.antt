@@ -1,24 +1,51 @@
--- A side after place k: it was opened, and its list is kept. One law for both sides and both ways of placing.
-use mathlib.Core.Path.{_≡_, refl, sym, ap, _∙_}
+-- A side at place k: what opening it and keeping its list ask for, and what they leave. One law for both sides and both ways of placing.
+use mathlib.Core.Path.{_≡_, _∙_}
 use mathlib.Core.List.{List}
-use Prim.Native.Nat.{ℕ, suc, _+_, _*_, _<_, _≤_}
+use Prim.Native.Nat.{ℕ, suc, _+_, _*_, _<_}
 use native.Mathlib.Omega.{arith}
-use lib.ListN.{length, getD, take, drop}
+use lib.ListN.{length, take, drop}
 use Rattle.base.specs.declared.Side.{Side}
 use Rattle.base.specs.declared.Side.the-variants.{Lower, Upper}
-use Rattle.fill.specs.Fill.{Pattern, filled, upperRow, lowerRow}
-use Rattle.matrix.specs.Input.{Input, stored}
-use Rattle.marks.specs.Marks.{Fresh}
-use Rattle.rows.specs.Rows.{Cuts, But}
-use Rattle.rows.specs.CutLaws.{cuts-kept}
-use Rattle.rows.specs.ListLaws.{lower-le}
-use Rattle.columns.specs.Columns.{Ready}
+use Rattle.fill.specs.Fill.{lowerRow}
+use Rattle.matrix.specs.Input.{Input}
+use Rattle.marks.specs.Marks.{Room, Fresh}
+use Rattle.marks.specs.MarkLaws.{room-kept}
+use Rattle.rows.specs.Rows.{But}
 use Rattle.columns.specs.Sides.{SideReady, rowsIn}
 use Rattle.placing.specs.declared.Way.{Way}
+use Rattle.placing.specs.declared.Way.the-variants.{Sharing}
 use Rattle.placing.specs.declared.Extent.{Extent}
-use Rattle.symbolic.specs.Places.{patternOf, cutsOf, Apart, Begun, RowFound, ListsAt, Kept}
+use Rattle.symbolic.specs.Places.{patternOf, cutsOf, Apart, Begun, Open, RowFound, ListsAt, Keep, Kept, SideAt, SideNext}
 use Rattle.symbolic.specs.declared.OpenRow.{OpenRow}
-use Rattle.symbolic.proofs.Opening.{apart-then, apart-cuts, base-of, part-kept, rows-apart, ready-kept}
+use Rattle.symbolic.proofs.Opening.{room-of, apart-then, apart-cuts, base-of, part-kept, rows-apart, ready-kept}
+use Rattle.symbolic.proofs.Keeping.{stored-held}
+
+-- ---- before
+
+module _ {way : Way} {side : Side} {i : Input} {k : ℕ} {store : List ℕ} {values : ℕ} {starts runs index s : List ℕ} {e : Extent} (begun : Begun i s) (place : k < i .n)
+    (at : ListsAt way (patternOf side i) (i .n) k (cutsOf side (i .n)) store values starts runs index s e) where
+  pub lists-open : {t window : ℕ} → Fresh (i .n) t s → SideReady side (i .n) k window (rowsIn i s) s → Open side i k t window index runs starts s
+  lists-open f r = record {
+    begun = begun;
+    below = place;
+    held = record { fresh = f; store = stored-held (omega arith) (at .held); cut = at .cut };
+    ready = r;
+  }
+
+  pub room-found : {t : ℕ} {s₁ : List ℕ} {o : OpenRow} → RowFound side i k t s s₁ o → Room (i .n) s₁
+  room-found {t} {s₁} found = room-kept (i .n) s s₁ (found .apart .size) (room-of (begun .space))
+
+  pub lists-keep : {t : ℕ} {s₁ : List ℕ} {o : OpenRow} → RowFound side i k t s s₁ o → Keep way (patternOf side i) (i .n) k t (cutsOf side (i .n)) store values starts runs index s₁ o e
+  lists-keep found = record {
+    below = place;
+    few = begun .few;
+    space = room-found found;
+    base = base-of side (i .n);
+    lists = found .lists;
+    at = record { held = at .held; cut = found .cut; stores = at .stores };
+  }
+
+-- ---- after
 
 module _ (side : Side) (i : Input) (k t : ℕ) (s₀ s₁ s₂ : List ℕ) (o : OpenRow) (found : RowFound side i k t s₀ s₁ o) (place : k < i .n) (size : length s₂ ≡ length s₁)
     (but : But (cutsOf side (i .n)) (cutsOf side (i .n) + k + 1) s₁ s₂) where
@@ -30,15 +57,40 @@ module _ (side : Side) (i : Input) (k t : ℕ) (s₀ s₁ s₂ : List ℕ) (o : 
   side-last j l = let b = base-of side (i .n) .low in rw (but j (λ w. absurd (omega arith))) (found .lists .marks .last j l)
 
   -- the lower row still stands in scratch
-  pub side-lower : take (o .below) (drop (5 * i .n) s₂) ≡ lowerRow (patternOf side i) k
+  side-lower : take (o .below) (drop (5 * i .n) s₂) ≡ lowerRow (patternOf side i) k
   side-lower =
       let b = base-of side (i .n) .high in
       part-kept (5 * i .n) (o .below) s₁ s₂ size (λ q a c. but q (λ w. omega arith)) ∙ found .lists .lower
 
-  pub side-ready : SideReady side (i .n) (k + 1) (o .window) (rowsIn i s₂) s₂
+  side-ready : SideReady side (i .n) (k + 1) (o .window) (rowsIn i s₂) s₂
   side-ready = go side but (found .ready) (rows-apart side i s₁ s₂ (apart-cuts side (i .n) k s₁ s₂ size place but))
     where
       go : (side : Side) → But (cutsOf side (i .n)) (cutsOf side (i .n) + k + 1) s₁ s₂ → SideReady side (i .n) (k + 1) (o .window) (rowsIn i s₁) s₁ → rowsIn i s₂ ≡ rowsIn i s₁
           → SideReady side (i .n) (k + 1) (o .window) (rowsIn i s₂) s₂
       go Upper b r e = tt
       go Lower b r e = rw e (ready-kept (λ q a c d. b q (λ w. omega arith)) r)
+
+-- ---- by what the code finds
+
+module _ {side : Side} {i : Input} {store : List ℕ} {values k t window : ℕ} {starts runs index s : List ℕ} {e : Extent} (h : SideAt side i store values k t window starts runs index s e) where
+  pub side-open : Open side i k t window index runs starts s
+  side-open = lists-open (h .begun) (h .below) (h .at) (h .fresh) (h .ready)
+
+  module _ {s₁ : List ℕ} {o : OpenRow} (found : RowFound side i k t s s₁ o) (cuts : ℕ) (c : cuts ≡ cutsOf side (i .n)) where
+    pub side-keep : Keep Sharing (patternOf side i) (i .n) k t cuts store values starts runs index s₁ o e
+    side-keep = rw c (lists-keep (h .begun) (h .below) (h .at) found)
+
+    pub side-next : {starts′ runs′ index′ s₂ : List ℕ} {e′ : Extent} → Kept Sharing (patternOf side i) (i .n) k cuts store values starts′ runs′ index′ s₁ s₂ e′ → length s₂ ≡ length s₁
+        → SideNext side i store values k t starts′ runs′ index′ s s₂ (record { below = o .below; window = o .window; extent = e′ })
+    side-next {s₂ = s₂} kept′ size =
+        let kept = rw c at kept′ in
+        record {
+          diagonal = found .diagonal;
+          fits = kept .fits;
+          at = kept .at;
+          ready = side-ready side i k t s s₁ s₂ o found (h .below) size (kept .but);
+          last = side-last side i k t s s₁ s₂ o found (h .below) size (kept .but);
+          apart = side-apart side i k t s s₁ s₂ o found (h .below) size (kept .but);
+          size = found .lists .below-is;
+          lower = side-lower side i k t s s₁ s₂ o found (h .below) size (kept .but);
+        }

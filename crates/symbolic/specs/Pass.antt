@@ -13,8 +13,8 @@ use Rattle.base.specs.declared.Asked.{Asked}
 use Rattle.base.specs.declared.Asked.the-variants.{Pass, Stop}
 use Rattle.base.specs.declared.Answer.{Answer}
 use Rattle.base.specs.declared.Answer.the-variants as answers
-use Rattle.fill.specs.Fill.{upperRow, lowerRow, flip}
-use Rattle.matrix.specs.Limits.{maxRows, maxEntries, maxSlots}
+use Rattle.fill.specs.Fill.{lowerRow, flip}
+use Rattle.matrix.specs.Limits.{maxRows, maxEntries}
 use Rattle.matrix.specs.Input.{Input, inputOf, stored}
 use Rattle.marks.specs.Marks.{Fresh}
 use Rattle.rows.specs.Rows.{rowSteps}
@@ -100,6 +100,12 @@ nothing = record { used = 0; last = 0; entries = 0 }
 
 abbrev pub noProgress : Progress
 noProgress = record { lower = nothing; upper = nothing; products = 0; window = 0 }
+
+-- scratch of the shared form
+pub record ColumnsBegun (i : Input) (s : List ℕ) : Type 0 where
+  pub begun : Begun i s
+  pub fresh : Fresh (i .n) 1 s
+  pub ready : Ready (i .n) 0 0 (rowsIn i s) s
 
 -- the counts that the pass has added up
 abbrev pub countsAt : Progress → Counts

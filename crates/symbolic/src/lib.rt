@@ -12,8 +12,8 @@ ghost use Rattle.base.specs.Lists.{blank, sum};
 ghost use Rattle.base.specs.declared.Form.{Form};
 ghost use Rattle.placing.specs.declared.Way.{Way};
 ghost use Rattle.questions.specs.Lent.{invertedAt, InverseLent};
-ghost use Rattle.symbolic.specs.Pass.{At, Due, TurnEnds, noProgress, countsAt, slotsOf, FoundBoth, PlainLent};
-ghost use Rattle.symbolic.specs.Places.{cutsOf, Open, Opening, OpenEnds, Keep, Keeping, KeepEnds, KeepLower, KeepingLower, LowerEnds, Adding, Addable};
+ghost use Rattle.symbolic.specs.Pass.{At, Due, TurnEnds, noProgress, countsAt, slotsOf, Found, FoundBoth, MatrixLent, PlainLent, RowLent, SharedLent, ColumnsBegun};
+ghost use Rattle.symbolic.specs.Places.{cutsOf, Open, Opening, OpenEnds, Keep, Keeping, KeepEnds, KeepLower, KeepingLower, LowerEnds, Adding, Addable, SideAt, SideDue, SideEnds};
 use base::Answer;
 use base::Counts;
 use base::Place;
@@ -128,7 +128,17 @@ fn keep_shared(
     let at = 5 * n;
     let mid = at + row.below;
     let end = mid + row.above;
-    let put = placing::place_list(Way::Sharing, index, runs, starts, values, &marks[at..mid], &marks[mid..end], k, e);
+    let put = placing::place_list(
+        Way::Sharing,
+        index,
+        runs,
+        starts,
+        values,
+        &marks[at..mid],
+        &marks[mid..end],
+        k,
+        e,
+    );
     match put {
         Put::Done(next) => {
             rows::renew_cuts(marks, n, stamp, k, cuts, index, runs, starts);
@@ -194,6 +204,66 @@ fn add_products(n: usize, starts: &[u32], marks: &[u32], below: usize, before: u
     before + rows::row_products(&marks[at..end], starts)
 }
 
+// One side of a sharing form at place k: its lists are found, and T(k) goes into the stores.
+fn place_side(
+    side: Side,
+    n: usize,
+    starts: &[u32],
+    columns: &[u16],
+    r: &[u16],
+    side_starts: &mut [u32],
+    side_runs: &mut [u32],
+    side_index: &mut [u16],
+    side_values: usize,
+    marks: &mut [u32],
+    stamp: u32,
+    k: Place,
+    window: usize,
+    e: Extent,
+) -> SideEnd
+    requires { ⌜ SideDue side n «side_values» (k .0) stamp window (now starts) (now columns) (now r) (now «side_starts») (now «side_runs») (now «side_index») (now marks) e ⌝ }
+    ensures { λ o. ⌜ ((c store : List ℕ) → SideAt side (inputOf n (now (starts .entry)) (now (columns .entry)) [] (now (r .entry)) c []) store «side_values» (k .0) stamp window (now («side_starts» .entry)) (now («side_runs» .entry)) (now («side_index» .entry)) (now (marks .entry)) e → SideEnds side (inputOf n (now (starts .entry)) (now (columns .entry)) [] (now (r .entry)) c []) store «side_values» (k .0) stamp (now («side_starts» .exit)) (now («side_runs» .exit)) (now («side_index» .exit)) (now (marks .entry)) (now (marks .exit)) o) ⌝ }
+{
+    let opened = open_place(
+        side,
+        n,
+        starts,
+        columns,
+        r,
+        side_index,
+        side_runs,
+        marks,
+        stamp,
+        k,
+        window,
+    );
+    let Opened::Row(row) = opened else {
+        return SideEnd::NoDiagonal;
+    };
+    let cuts = cuts_of(side, n);
+    let put = keep_shared(
+        n,
+        side_starts,
+        side_runs,
+        side_index,
+        side_values,
+        marks,
+        stamp,
+        k,
+        cuts,
+        row,
+        e,
+    );
+    let Put::Done(extent) = put else {
+        return SideEnd::NoRoom;
+    };
+    SideEnd::Placed(SidePlace {
+        below: row.below,
+        window: row.window,
+        extent,
+    })
+}
+
 // ---- the ends of the pass
 
 // Scratch is zero but for the inverse column order.
@@ -203,6 +273,15 @@ fn begin_marks(n: usize, c: &[u16], marks: &mut [u32])
 {
     base::clear_u32(marks);
     questions::invert_at(n, c, marks);
+}
+
+// The same, and the columns of M' can be handed out.
+fn begin_columns(n: usize, starts: &[u32], columns: &[u16], r: &[u16], c: &[u16], marks: &mut [u32])
+    requires { ⌜ MatrixLent (inputOf n (now starts) (now columns) [] (now r) (now c) []) (length (now marks)) ⌝ }
+    ensures { λ _. ⌜ ColumnsBegun (inputOf n (now (starts .entry)) (now (columns .entry)) [] (now (r .entry)) (now (c .entry)) []) (now (marks .exit)) ⌝ }
+{
+    begin_marks(n, c, marks);
+    columns::start_columns(marks, n, columns, starts, r);
 }
 
 fn no_progress() -> Progress
@@ -255,16 +334,47 @@ fn plain_place(
     ensures { λ t. ⌜ ((c low up : List ℕ) → At Form.Plain (inputOf n (now (starts .entry)) (now (columns .entry)) [] (now (r .entry)) c []) low «lower_values» up «upper_values» (k .0) (now («lower_starts» .entry)) (now («lower_starts» .entry)) (now («lower_index» .entry)) (now («upper_starts» .entry)) (now («upper_starts» .entry)) (now («upper_index» .entry)) (now (marks .entry)) g → TurnEnds Form.Plain (inputOf n (now (starts .entry)) (now (columns .entry)) [] (now (r .entry)) c []) low «lower_values» up «upper_values» (k .0) (now («lower_starts» .exit)) (now («lower_starts» .exit)) (now («lower_index» .exit)) (now («upper_starts» .exit)) (now («upper_starts» .exit)) (now («upper_index» .exit)) (now (marks .exit)) t) ⌝ }
 {
     let stamp = k.0 + 1;
-    let opened = open_place(Side::Upper, n, starts, columns, r, upper_index, upper_starts, marks, stamp, k, 0);
+    let opened = open_place(
+        Side::Upper,
+        n,
+        starts,
+        columns,
+        r,
+        upper_index,
+        upper_starts,
+        marks,
+        stamp,
+        k,
+        0,
+    );
     let Opened::Row(row) = opened else {
         return Turned::Stopped(Refusal::NullPivot(k));
     };
-    let low = keep_lower(n, lower_starts, lower_index, lower_values, marks, k, row.below, g.lower);
+    let low = keep_lower(
+        n,
+        lower_starts,
+        lower_index,
+        lower_values,
+        marks,
+        k,
+        row.below,
+        g.lower,
+    );
     let Put::Done(lower) = low else {
         return Turned::Stopped(Refusal::LowerSlots(k));
     };
     let products = add_products(n, upper_starts, marks, row.below, g.products);
-    let up = keep_plain(n, upper_starts, upper_index, upper_values, marks, stamp, k, row, g.upper);
+    let up = keep_plain(
+        n,
+        upper_starts,
+        upper_index,
+        upper_values,
+        marks,
+        stamp,
+        k,
+        row,
+        g.upper,
+    );
     let Put::Done(upper) = up else {
         return Turned::Stopped(Refusal::UpperSlots(k));
     };
@@ -303,7 +413,265 @@ pub fn find_plain(
     let mut k = 0;
     while k < n {
         let place = Place(k as u32);
-        let turned = plain_place(n, starts, columns, r, lower_starts, lower_index, lower_values, upper_starts, upper_index, upper_values, marks, place, g);
+        let turned = plain_place(
+            n,
+            starts,
+            columns,
+            r,
+            lower_starts,
+            lower_index,
+            lower_values,
+            upper_starts,
+            upper_index,
+            upper_values,
+            marks,
+            place,
+            g,
+        );
+        match turned {
+            Turned::Next(next) => {
+                g = next;
+            }
+            Turned::Stopped(q) => {
+                return Answer::Refused(q);
+            }
+        }
+        k += 1;
+    }
+    Answer::Done(counts_at(g))
+}
+
+// ---- the row form
+
+// Place k: 9 and 11 are asked, T(k) is placed, and the entries of lower row k are counted.
+fn row_place(
+    n: usize,
+    starts: &[u32],
+    columns: &[u16],
+    r: &[u16],
+    upper_starts: &mut [u32],
+    upper_runs: &mut [u32],
+    upper_index: &mut [u16],
+    upper_values: usize,
+    marks: &mut [u32],
+    k: Place,
+    g: Progress,
+) -> Turned
+    requires { ⌜ Due Form.ByRow n 0 «upper_values» (k .0) (now starts) (now columns) (now r) [] [] [] (now «upper_starts») (now «upper_runs») (now «upper_index») (now marks) g ⌝ }
+    ensures { λ t. ⌜ ((c low up : List ℕ) → At Form.ByRow (inputOf n (now (starts .entry)) (now (columns .entry)) [] (now (r .entry)) c []) low 0 up «upper_values» (k .0) [] [] [] (now («upper_starts» .entry)) (now («upper_runs» .entry)) (now («upper_index» .entry)) (now (marks .entry)) g → TurnEnds Form.ByRow (inputOf n (now (starts .entry)) (now (columns .entry)) [] (now (r .entry)) c []) low 0 up «upper_values» (k .0) [] [] [] (now («upper_starts» .exit)) (now («upper_runs» .exit)) (now («upper_index» .exit)) (now (marks .exit)) t) ⌝ }
+{
+    let side = place_side(
+        Side::Upper,
+        n,
+        starts,
+        columns,
+        r,
+        upper_starts,
+        upper_runs,
+        upper_index,
+        upper_values,
+        marks,
+        k.0 + 1,
+        k,
+        0,
+        g.upper,
+    );
+    match side {
+        SideEnd::NoDiagonal => Turned::Stopped(Refusal::NullPivot(k)),
+        SideEnd::NoRoom => Turned::Stopped(Refusal::UpperSlots(k)),
+        SideEnd::Placed(p) => {
+            let products = add_products(n, upper_starts, marks, p.below, g.products);
+            let upper = p.extent;
+            let counted = g.lower;
+            let lower = Extent {
+                used: 0,
+                last: 0,
+                entries: counted.entries + p.below,
+            };
+            Turned::Next(Progress {
+                lower,
+                upper,
+                products,
+                window: 0,
+            })
+        }
+    }
+}
+
+// The row form's structure: T(k) sharing runs, and the counts.
+pub fn find_row(
+    n: usize,
+    starts: &[u32],
+    columns: &[u16],
+    r: &[u16],
+    c: &[u16],
+    upper_starts: &mut [u32],
+    upper_runs: &mut [u32],
+    upper_index: &mut [u16],
+    upper_values: usize,
+    marks: &mut [u32],
+) -> Answer
+    requires { ⌜ RowLent (inputOf n (now starts) (now columns) [] (now r) (now c) []) (now «upper_starts») (now «upper_runs») (now «upper_index») «upper_values» (length (now marks)) ⌝ }
+    ensures { λ a. ⌜ Found Form.ByRow (inputOf n (now (starts .entry)) (now (columns .entry)) [] (now (r .entry)) (now (c .entry)) []) (slotsOf 0 0 (length (now («upper_index» .entry))) «upper_values») (now («upper_starts» .exit)) (now («upper_runs» .exit)) (now («upper_index» .exit)) «upper_values» a ⌝ }
+{
+    base::clear_u32(upper_starts);
+    base::clear_u16(upper_index);
+    begin_marks(n, c, marks);
+    let mut g = no_progress();
+    let mut k = 0;
+    while k < n {
+        let place = Place(k as u32);
+        let turned = row_place(
+            n,
+            starts,
+            columns,
+            r,
+            upper_starts,
+            upper_runs,
+            upper_index,
+            upper_values,
+            marks,
+            place,
+            g,
+        );
+        match turned {
+            Turned::Next(next) => {
+                g = next;
+            }
+            Turned::Stopped(q) => {
+                return Answer::Refused(q);
+            }
+        }
+        k += 1;
+    }
+    Answer::Done(counts_at(g))
+}
+
+// ---- the shared form
+
+// Place k: 9, 10 and 11 are asked, and the lists of both sides are placed, the lower side's first.
+fn shared_place(
+    n: usize,
+    starts: &[u32],
+    columns: &[u16],
+    r: &[u16],
+    lower_starts: &mut [u32],
+    lower_runs: &mut [u32],
+    lower_index: &mut [u16],
+    lower_values: usize,
+    upper_starts: &mut [u32],
+    upper_runs: &mut [u32],
+    upper_index: &mut [u16],
+    upper_values: usize,
+    marks: &mut [u32],
+    k: Place,
+    g: Progress,
+) -> Turned
+    requires { ⌜ Due Form.Shared n «lower_values» «upper_values» (k .0) (now starts) (now columns) (now r) (now «lower_starts») (now «lower_runs») (now «lower_index») (now «upper_starts») (now «upper_runs») (now «upper_index») (now marks) g ⌝ }
+    ensures { λ t. ⌜ ((c low up : List ℕ) → At Form.Shared (inputOf n (now (starts .entry)) (now (columns .entry)) [] (now (r .entry)) c []) low «lower_values» up «upper_values» (k .0) (now («lower_starts» .entry)) (now («lower_runs» .entry)) (now («lower_index» .entry)) (now («upper_starts» .entry)) (now («upper_runs» .entry)) (now («upper_index» .entry)) (now (marks .entry)) g → TurnEnds Form.Shared (inputOf n (now (starts .entry)) (now (columns .entry)) [] (now (r .entry)) c []) low «lower_values» up «upper_values» (k .0) (now («lower_starts» .exit)) (now («lower_runs» .exit)) (now («lower_index» .exit)) (now («upper_starts» .exit)) (now («upper_runs» .exit)) (now («upper_index» .exit)) (now (marks .exit)) t) ⌝ }
+{
+    let stamp = k.0 + k.0 + 1;
+    let low = place_side(
+        Side::Lower,
+        n,
+        starts,
+        columns,
+        r,
+        lower_starts,
+        lower_runs,
+        lower_index,
+        lower_values,
+        marks,
+        stamp,
+        k,
+        g.window,
+        g.lower,
+    );
+    match low {
+        SideEnd::NoDiagonal => Turned::Stopped(Refusal::NullPivot(k)),
+        SideEnd::NoRoom => Turned::Stopped(Refusal::LowerSlots(k)),
+        SideEnd::Placed(l) => {
+            let up = place_side(
+                Side::Upper,
+                n,
+                starts,
+                columns,
+                r,
+                upper_starts,
+                upper_runs,
+                upper_index,
+                upper_values,
+                marks,
+                stamp + 1,
+                k,
+                0,
+                g.upper,
+            );
+            match up {
+                SideEnd::NoDiagonal => Turned::Stopped(Refusal::NullPivot(k)),
+                SideEnd::NoRoom => Turned::Stopped(Refusal::UpperSlots(k)),
+                SideEnd::Placed(u) => {
+                    let products = add_products(n, upper_starts, marks, u.below, g.products);
+                    let lower = l.extent;
+                    let upper = u.extent;
+                    Turned::Next(Progress {
+                        lower,
+                        upper,
+                        products,
+                        window: l.window,
+                    })
+                }
+            }
+        }
+    }
+}
+
+// The shared form's structure: columns of L and T(k), each side's sharing runs, and the counts.
+pub fn find_shared(
+    n: usize,
+    starts: &[u32],
+    columns: &[u16],
+    r: &[u16],
+    c: &[u16],
+    lower_starts: &mut [u32],
+    lower_runs: &mut [u32],
+    lower_index: &mut [u16],
+    lower_values: usize,
+    upper_starts: &mut [u32],
+    upper_runs: &mut [u32],
+    upper_index: &mut [u16],
+    upper_values: usize,
+    marks: &mut [u32],
+) -> Answer
+    requires { ⌜ SharedLent (inputOf n (now starts) (now columns) [] (now r) (now c) []) (now «lower_starts») (now «lower_runs») (now «lower_index») «lower_values» (now «upper_starts») (now «upper_runs») (now «upper_index») «upper_values» (length (now marks)) ⌝ }
+    ensures { λ a. ⌜ FoundBoth Form.Shared (inputOf n (now (starts .entry)) (now (columns .entry)) [] (now (r .entry)) (now (c .entry)) []) (slotsOf (length (now («lower_index» .entry))) «lower_values» (length (now («upper_index» .entry))) «upper_values») (now («lower_starts» .exit)) (now («lower_runs» .exit)) (now («lower_index» .exit)) «lower_values» (now («upper_starts» .exit)) (now («upper_runs» .exit)) (now («upper_index» .exit)) «upper_values» a ⌝ }
+{
+    base::clear_u32(lower_starts);
+    base::clear_u16(lower_index);
+    base::clear_u32(upper_starts);
+    base::clear_u16(upper_index);
+    begin_columns(n, starts, columns, r, c, marks);
+    let mut g = no_progress();
+    let mut k = 0;
+    while k < n {
+        let place = Place(k as u32);
+        let turned = shared_place(
+            n,
+            starts,
+            columns,
+            r,
+            lower_starts,
+            lower_runs,
+            lower_index,
+            lower_values,
+            upper_starts,
+            upper_runs,
+            upper_index,
+            upper_values,
+            marks,
+            place,
+            g,
+        );
         match turned {
             Turned::Next(next) => {
                 g = next;

@@ -1,8 +1,8 @@
 use Rattle.symbolic.proofs.Opening.{open-given, loaded-room, loaded-marks, loaded-parts, closed-marks, closed-room, row-found, base-of, base-at, parts-at, closed-at}
-use Rattle.symbolic.specs.Places.{Open, patternOf, cutsOf}
+use Rattle.symbolic.specs.Places.{patternOf, cutsOf}
 use Rattle.matrix.specs.Input.{Input, inputOf}
 use Rattle.rows.specs.Rows.{Closed}
-use mathlib.Core.Path.{_≡_, sym, _∙_}
+use mathlib.Core.Path.{sym, _∙_}
 use mathlib.Core.List.{List, []}
 use Prim.Native.Nat.{ℕ}
 use native.Mathlib.Omega.{arith}
