@@ -1,13 +1,13 @@
 -- L by columns: what the cursors leave is the paper's L along column k.
 use mathlib.Core.Path.{_≡_, refl, sym, ap, ap₂, _∙_}
-use mathlib.Core.Bool.{Bool, true, false, cond, _&&_, _||_, true≢false}
+use mathlib.Core.Bool.{Bool, true, false, _&&_, true≢false}
 use mathlib.Core.List.{List, [], _∷_, _++_, map, map-append, append-nil}
-use Prim.Native.Nat.{ℕ, zero, suc, _+_, _-_, _<_, _≤_}
+use Prim.Native.Nat.{ℕ, zero, suc, _+_, _-_}
 use native.Mathlib.Omega.{arith}
 use lib.ListN.{length, getD}
 use lib.Dec.{eqb, ltb}
 use lib.Ieee.{Float, nan}
-use Rattle.base.specs.Lists.{has, asc, keep, count, table, joined, padded}
+use Rattle.base.specs.Lists.{has, asc, keep, padded}
 use Rattle.base.specs.Tests.{by-test}
 use Rattle.base.specs.AscLaws.{has-asc, length-asc, count-ext}
 use Rattle.base.specs.declared.Form.the-variants.{Shared}
@@ -16,7 +16,7 @@ use Rattle.fill.specs.Fill.{Pattern, filled, upper, upperRow, lowerRow, flip}
 use Rattle.fill.specs.RowRule.{filled-flip}
 use Rattle.placement.specs.Placing.{firstAt}
 use Rattle.matrix.specs.Input.{Input, stored}
-use Rattle.arithmetic.specs.Arith.{System, Row}
+use Rattle.arithmetic.specs.Arith.{Row}
 use Rattle.outcome.specs.Forms.{placedTo, indexNeed}
 use Rattle.outcome.specs.Placed.{PlacedSide, size-at}
 use Rattle.outcome.specs.Solve.{system, multiplier}

@@ -1,14 +1,13 @@
 -- Before the first row, and from the last row and the back steps to the answer.
-use mathlib.Core.Path.{_≡_, refl, sym, ap, _∙_}
-use mathlib.Core.Bool.{Bool, true, false, cond}
-use mathlib.Core.List.{List, [], _∷_, _++_}
+use mathlib.Core.Path.{_≡_, refl, sym, ap, _∙_, subst}
+use mathlib.Core.List.{List, [], _∷_}
 use Prim.Native.Nat.{ℕ, zero, suc, _+_, _-_, _*_, _<_, _≤_}
 use native.Mathlib.Omega.{arith}
-use lib.ListN.{length, getD, take, drop, set, replicate, length-replicate}
-use lib.Seq.{ext-getD, getD-take, getD-drop, drop-drop}
+use lib.ListN.{length, getD, drop, set, replicate, length-replicate, getD-replicate}
+use lib.Seq.{ext-getD, getD-take, getD-drop}
 use lib.Ieee.{Float, nan, binary64, mul, sub}
 use lib.Ieee.Scale.{finite}
-use Rattle.base.specs.Lists.{nought, blank, listAt, rowOf, joined, padded, table}
+use Rattle.base.specs.Lists.{nought, blank, joined, padded, table}
 use Rattle.base.specs.Tests.{by-test}
 use Rattle.base.specs.TableLaws.{getD-table, length-table}
 use Rattle.base.specs.declared.Form.{Form}
@@ -17,22 +16,23 @@ use Rattle.base.specs.declared.Side.the-variants.{Lower, Upper}
 use Rattle.fill.specs.Fill.{Pattern}
 use Rattle.placement.specs.Placing.{startOf}
 use Rattle.matrix.specs.Input.{Input, ic, stored}
-use Rattle.arithmetic.specs.Arith.{Fault, zeroPivot, overflow, Out, ok, met, _>>=_, at, less, System, Row, none, Given, rest, back, Result}
+use Rattle.arithmetic.specs.Arith.{Fault, zeroPivot, overflow, Out, ok, met, _>>=_, at, less, Row, none, Given, rest, back}
 use Rattle.outcome.specs.Forms.{valueNeed}
 use Rattle.outcome.specs.Placed.{PlacedSide, start-at, size-at, list-at}
 use Rattle.outcome.specs.Solve.{system, listed, valuesKept, pivotsKept}
 use Rattle.questions.specs.Lent.{invertedAt}
-use Rattle.questions.specs.ScatterLaws.{placed-inverse}
+use Rattle.questions.specs.ScatterLaws.{placed-front, placed-inverse, placed-rest}
+use Rattle.rows.specs.CutLaws as found
 use Rattle.numeric.specs.declared.Back.the-variants.{Complete, Stopped}
 use Rattle.numeric.specs.declared.Back.{Back}
 use Rattle.numeric.specs.Stores.{storeGiven, numberedBack}
-use Rattle.numeric.specs.Rows.{Held, Stacked, uOf, lOf, columnOf}
-use Rattle.numeric.specs.KeepLaws.{columns-end}
+use Rattle.numeric.specs.Rows.{uOf, lOf, columnOf}
+use Rattle.numeric.specs.KeepLaws.{columns-start, columns-end}
 use Rattle.numeric.specs.StoreLaws.{stacked-none, stacked-all}
-use Rattle.numeric.specs.PassLaws.{forward-length, held-start, held-y, held-solved, held-stopped}
+use Rattle.numeric.specs.PassLaws.{held-start, held-y, held-solved, held-stopped}
 use Rattle.factor.specs.Factoring.{Factors, FactoredAs, Lists, Written, LowerPlaced, Factorable, LowerHeld, Inverse, Finding, Going, backAs, BackReady}
 use Rattle.factor.specs.SystemLaws.{placed-shape}
-use Rattle.factor.specs.TurnLaws.{Sizes, same-given}
+use Rattle.factor.specs.TurnLaws.{Sizes, none-left, same-given}
 use Rattle.factor.specs.ColumnLaws.{shared-side, shared-fits, column-is}
 use Rattle.factor.specs.declared.Factored.{Factored}
 use Rattle.factor.specs.declared.Factored.the-variants.{Solved, Zero, Overflow}
@@ -63,12 +63,52 @@ going-start {f} {i} {L} {w} F eu ew lower inv find = record {
   finding = find;
 }
 
--- the plain form, w as it was lent and x once it is cleared
-pub plain-start : {i : Input} {L : Lists} {w : Written} (x : Written) → Factorable Plain i L w → Sizes w x → x .lower ≡ blank nought (w .lower) → x .upper ≡ blank nought (w .upper)
-    → x .work ≡ blank nought (w .work) → x .marks ≡ invertedAt (i .c) (i .n) (w .marks) → Going Plain i L 0 x
-plain-start {i} {L} {w} x F s el eu ew em =
-    going-start (same-given s F) (cleared (x .upper) (w .upper) (s .upper-size) eu) (cleared (x .work) (w .work) (s .work-size) ew)
-    (stacked-none nought (lOf []) (L .lower-starts) (x .lower) (cleared (x .lower) (w .lower) (s .lower-size) el)) (inverse-start i (x .marks) (w .marks) (omega (arith, F .slots)) em) tt
+-- w as it was lent, and x once all is cleared and the inverse order written
+module _ (i : Input) (L : Lists) {w : Written} (x : Written) (s : Sizes w x) (slots : 8 * i .n ≤ length (w .marks)) (el : x .lower ≡ blank nought (w .lower))
+    (em : x .marks ≡ invertedAt (i .c) (i .n) (blank 0 (w .marks))) where
+  long : length (blank 0 (w .marks)) ≡ length (w .marks)
+  unfolding blank
+  long = length-replicate (length (w .marks)) 0
+
+  mark-at : (j : ℕ) → j < i .n → getD (x .marks) j 0 ≡ 0
+  unfolding blank
+  mark-at j b =
+      rw em (sym (getD-take (i .n) (invertedAt (i .c) (i .n) (blank 0 (w .marks))) j 0 b) ∙ ap (λ (l : List ℕ). getD l j 0) (placed-front (i .c) (i .n) (blank 0 (w .marks)) (omega (arith, long)))
+      ∙ getD-take (i .n) (blank 0 (w .marks)) j 0 b ∙ getD-replicate (length (w .marks)) j 0 0 (omega arith))
+
+  cursor-at : (j : ℕ) → j < i .n → getD (drop (4 * i .n) (x .marks)) j 0 ≡ 0
+  unfolding blank
+  cursor-at j b =
+      let e : 4 * i .n + j ≡ i .n + i .n + (i .n + i .n + j) = omega arith in
+      getD-drop (4 * i .n) (x .marks) j 0 ∙ rw (em, e) (sym (getD-drop (i .n + i .n) (invertedAt (i .c) (i .n) (blank 0 (w .marks))) (i .n + i .n + j) 0)
+      ∙ ap (λ (l : List ℕ). getD l (i .n + i .n + j) 0) (placed-rest (i .c) (i .n) (blank 0 (w .marks)) (omega (arith, long)))
+      ∙ getD-drop (i .n + i .n) (blank 0 (w .marks)) (i .n + i .n + j) 0 ∙ getD-replicate (length (w .marks)) (i .n + i .n + (i .n + i .n + j)) 0 0 (omega arith))
+
+  -- no mark and no cut yet
+  found-start : Finding ByRow i L 0 (x .marks)
+  found-start = found.held-start (stored i) (i .n) (0 + 1) (3 * i .n) (x .marks) (L .upper-index) (L .upper-runs) (L .upper-starts) (λ j b. omega (arith, mark-at j b))
+
+  finding-start : (f : Form) → Finding f i L 0 (x .marks)
+  finding-start Plain = tt
+  finding-start Shared = found-start
+  finding-start ByRow = found-start
+
+  lower-start : (f : Form) → LowerPlaced f (stored i) (i .n) L (x .lower) → LowerHeld f (system i) [] 0 (L .lower-starts) (drop (4 * i .n) (x .marks)) (x .lower)
+  unfolding system
+  lower-start Plain S = stacked-none nought (lOf []) (L .lower-starts) (x .lower) (cleared (x .lower) (w .lower) (s .lower-size) el)
+  lower-start Shared S =
+      columns-start (system i) (L .lower-starts)
+      (λ j b. omega (arith, size-at Shared Lower (stored i) (i .n) (L .lower-starts) _ _ (length (x .lower)) (shared-side (stored i) (i .n) (L .lower-starts) (length (x .lower)) S) j b))
+      (shared-fits i (L .lower-starts) (length (x .lower)) S) [] (drop (4 * i .n) (x .marks)) (x .lower) cursor-at (cleared (x .lower) (w .lower) (s .lower-size) el)
+  lower-start ByRow S = S
+
+pub form-start : (f : Form) {i : Input} {L : Lists} {w : Written} (x : Written) → Factorable f i L w → Sizes w x → x .lower ≡ blank nought (w .lower) → x .upper ≡ blank nought (w .upper)
+    → x .work ≡ blank nought (w .work) → x .marks ≡ invertedAt (i .c) (i .n) (blank 0 (w .marks)) → Going f i L 0 x
+unfolding blank
+form-start f {i} {L} {w} x F s el eu ew em =
+    let G = same-given s F in
+    going-start G (cleared (x .upper) (w .upper) (s .upper-size) eu) (cleared (x .work) (w .work) (s .work-size) ew)
+    (lower-start i L x s (F .slots) el em f (G .lower-side)) (inverse-start i (x .marks) (blank 0 (w .marks)) (omega (arith, F .slots, long i L x s (F .slots) el em)) em) (finding-start i L x s (F .slots) el em f)
 
 -- ---- a fault in the back steps is an overflow at one of the n places
 
@@ -195,3 +235,7 @@ module _ {f : Form} {i : Input} {L : Lists} {w : Written} (G : Going f i L (i .n
       let p = back-fault _ (i .n) _ (zeroPivot (k .0)) (sym e) in
       let q = p .2 in
       absurd (let y : _≡_ {A = ℕ} 0 1 = cc in omega arith)
+
+-- the row form's empty lower values
+pub row-end : (i : Input) (a : Factored) (l u d z : List Float) → length l ≡ length {A = Float} [] → FactoredAs ByRow i a l u d z → FactoredAs ByRow i a [] u d z
+row-end i a l u d z e F = subst (λ (x : List Float). FactoredAs ByRow i a x u d z) (none-left [] l e refl) F

@@ -3,24 +3,26 @@ use mathlib.Core.Path.{_≡_}
 use mathlib.Core.List.{List, []}
 use Prim.Native.Nat.{ℕ, _+_, _*_, _<_, _≤_}
 use lib.ListN.{length, getD, take, drop}
+use lib.Seq.{sets}
 use mathlib.Core.Bool.{Bool, true, false}
 use lib.Ieee.{Float, nan}
 use lib.Ieee.Scale.{finite}
-use Rattle.base.specs.Lists.{nought, padded, table}
+use Rattle.base.specs.Lists.{nought, padded, table, has, rowOf}
 use Rattle.base.specs.declared.Form.{Form}
 use Rattle.base.specs.declared.Form.the-variants.{Plain, Shared, ByRow}
 use Rattle.base.specs.declared.Side.the-variants.{Lower, Upper}
 use Rattle.fill.specs.Fill.{Pattern, lowerRow}
-use Rattle.matrix.specs.Input.{Input, ic, stored}
+use Rattle.matrix.specs.Input.{Input, inputOf, ic, stored}
 use Rattle.arithmetic.specs.Arith.{Out, ok, met, zeroPivot, overflow, System, Row, none, Result}
 use Rattle.outcome.specs.Forms.{valueNeed}
 use Rattle.outcome.specs.Placed.{PlacedSide}
 use Rattle.outcome.specs.Solve.{system, listed, valuesKept, pivotsKept}
 use Rattle.questions.specs.Lent.{SolveLent}
 use Rattle.questions.specs.Settled.{RowIn, Settled}
-use Rattle.numeric.specs.Stores.{Below, Shape}
-use Rattle.numeric.specs.Rows.{Held, Reduced, Stacked, lOf, columnOf, InColumns}
+use Rattle.marks.specs.Marks as marking
 use Rattle.rows.specs.Rows as found
+use Rattle.numeric.specs.Stores.{Below, Ascending, Shape, gathered, columns, keepColumns}
+use Rattle.numeric.specs.Rows.{Held, Stacked, lOf, columnOf, InColumns}
 use Rattle.factor.specs.declared.Factored.{Factored}
 use Rattle.factor.specs.declared.Factored.the-variants.{Solved, Zero, Overflow}
 
@@ -138,6 +140,46 @@ pub record LowerAt (n below slots : ℕ) : Type 0 where
   pub few : n ≤ 65536
   pub room : 5 * n + below ≤ slots
 
+-- M' of what is lent to find it
+abbrev pub patternOf : ℕ → List ℕ → List ℕ → List ℕ → List ℕ → Pattern
+patternOf n starts columns r c = stored (inputOf n starts columns [] r c [])
+
+-- what finding it asks
+pub record Findable (P : Pattern) (n k : ℕ) (starts columns r index runs ustarts s : List ℕ) : Type 0 where
+  pub place : k < n
+  pub room : marking.Room n s
+  pub own-place : k < length r
+  pub row : marking.ListIn columns starts starts (getD r k 0)
+  pub columns-below : Below n (rowOf starts columns (getD r k 0))
+  pub inverse : (j : ℕ) → j < n → getD s (n + j) 0 < n
+  pub entries : (j : ℕ) → j < n → has (marking.through s n (rowOf starts columns (getD r k 0))) j ≡ P k j
+  pub held : found.Held P n k (k + 1) (3 * n) s index runs ustarts
+  pub store : found.Stored P n (k + 1) index runs ustarts
+
+-- lower row k, so long, stands from slot 5n on; the inverse order and the cursors are as they were, and row k + 1 can be found
+pub record Found (P : Pattern) (n k below : ℕ) (index runs ustarts s₀ s : List ℕ) : Type 0 where
+  pub next : found.Held P n (k + 1) (k + 1 + 1) (3 * n) s index runs ustarts
+  pub size : below ≡ length (lowerRow P k)
+  pub lower : lowerIn n below s ≡ lowerRow P k
+  pub inverse : (j : ℕ) → j < n → getD s (n + j) 0 ≡ getD s₀ (n + j) 0
+  pub cursors : (j : ℕ) → j < n → getD s (4 * n + j) 0 ≡ getD s₀ (4 * n + j) 0
+
+-- the plain form reads it, the others find it anew: what that asks, and what it leaves
+abbrev pub readsLower : Form → Bool
+readsLower Plain = true
+readsLower Shared = false
+readsLower ByRow = false
+
+unfoldable pub LowerAsked : Bool → ℕ → ℕ → List ℕ → List ℕ → List ℕ → List ℕ → Lists → List ℕ → Type 0
+LowerAsked true n k starts columns r c L s =
+    marking.ListIn (L .lower-index) (L .lower-starts) (L .lower-starts) k × LowerAt n (length (rowOf (L .lower-starts) (L .lower-index) k)) (length s)
+LowerAsked false n k starts columns r c L s = Findable (patternOf n starts columns r c) n k starts columns r (L .upper-index) (L .upper-runs) (L .upper-starts) s
+
+unfoldable pub LowerGiven : Bool → ℕ → ℕ → ℕ → List ℕ → List ℕ → List ℕ → List ℕ → Lists → List ℕ → List ℕ → Type 0
+LowerGiven true n k below starts columns r c L s₀ s =
+    (below ≡ length (rowOf (L .lower-starts) (L .lower-index) k)) × (s ≡ sets s₀ (5 * n) (rowOf (L .lower-starts) (L .lower-index) k))
+LowerGiven false n k below starts columns r c L s₀ s = Found (patternOf n starts columns r c) n k below (L .upper-index) (L .upper-runs) (L .upper-starts) s₀ s
+
 -- what its steps find
 pub record RowAt (i : Input) (k below : ℕ) (starts runs index marks : List ℕ) (upper work : ℕ) : Type 0 where
   pub place : k < i .n
@@ -153,12 +195,42 @@ pub record RowAt (i : Input) (k below : ℕ) (starts runs index marks : List ℕ
   pub inverse : Inverse i marks
   pub lower : lowerIn (i .n) below marks ≡ lowerRow (stored i) k
 
+-- once its lower row stands there
+pub record RowReady (f : Form) (i : Input) (L : Lists) (k upper work : ℕ) (s : List ℕ) : Type 0 where
+  pub asked : LowerAsked (readsLower f) (i .n) k (i .starts) (i .columns) (i .r) (i .c) L s
+  pub row : (m : List ℕ) (below : ℕ) → length m ≡ length s → LowerGiven (readsLower f) (i .n) k below (i .starts) (i .columns) (i .r) (i .c) L s m
+      → RowAt i k below (L .upper-starts) (L .upper-runs) (L .upper-index) m upper work
+
 -- room for its L from its list start on, and its multipliers in the working row
 pub record Keepable (n k below : ℕ) (starts : List ℕ) (slots work : ℕ) (lower : List ℕ) : Type 0 where
   pub start : k < length starts
   pub room : getD starts k 0 + below ≤ slots
   pub row : n ≤ work
   pub places : Below n lower
+
+-- or a slot left in each of its columns
+pub record Spread (n below : ℕ) (starts : List ℕ) (slots : ℕ) (marks : List ℕ) : Type 0 where
+  pub lower : LowerAt n below (length marks)
+  pub start : n ≤ length starts
+  pub ascending : Ascending (lowerIn n below marks)
+  pub places : Below n (lowerIn n below marks)
+  pub room : (p : ℕ) → p < below → getD starts (getD (lowerIn n below marks) p 0) 0 + getD marks (4 * n + getD (lowerIn n below marks) p 0) 0 < slots
+  pub few : (p : ℕ) → p < below → getD marks (4 * n + getD (lowerIn n below marks) p 0) 0 < 65536
+
+unfoldable pub KeepAsked : Form → ℕ → ℕ → ℕ → List ℕ → ℕ → ℕ → List ℕ → Type 0
+KeepAsked Plain n k below starts slots work s = LowerAt n below (length s) × Keepable n k below starts slots work (lowerIn n below s)
+KeepAsked Shared n k below starts slots work s = (n ≤ work) × Spread n below starts slots s
+KeepAsked ByRow n k below starts slots work s = Unit {0}
+
+-- its L where the form keeps it; of the marks the cursors alone are written
+unfoldable pub LowerKept : Form → ℕ → ℕ → ℕ → List ℕ → List Float → List Float → List Float → List ℕ → List ℕ → Type 0
+LowerKept Plain n k below starts w l₀ l s₀ s = l ≡ sets l₀ (getD starts k 0) (gathered (lowerIn n below s₀) w)
+LowerKept Shared n k below starts w l₀ l s₀ s = columns (drop (4 * n) s) l ≡ keepColumns starts w (lowerIn n below s₀) (columns (drop (4 * n) s₀) l₀)
+LowerKept ByRow n k below starts w l₀ l s₀ s = l ≡ l₀
+
+pub record KeepGiven (f : Form) (n k below : ℕ) (starts : List ℕ) (w l₀ l : List Float) (s₀ s : List ℕ) : Type 0 where
+  pub values : LowerKept f n k below starts w l₀ l s₀ s
+  pub same : found.But (4 * n) (5 * n) s₀ s
 
 -- ---- the back steps
 

@@ -1,53 +1,26 @@
--- Lower row k found anew, in the forms that keep no lower rows: what finding it asks and leaves, and how it goes on from row to row.
+-- Lower row k found anew, in the forms that keep no lower rows: from what its calls leave, and between two rows.
 use mathlib.Core.Path.{_≡_, refl, sym, ap, _∙_, subst}
-use mathlib.Core.Bool.{Bool, true, false}
-use mathlib.Core.List.{List, [], _∷_, _++_, map}
-use Prim.Native.Nat.{ℕ, zero, suc, _+_, _-_, _*_, _<_, _≤_}
+use mathlib.Core.List.{List, [], _∷_, map}
+use Prim.Native.Nat.{ℕ, suc, _+_, _-_, _*_, _<_, _≤_}
 use native.Mathlib.Omega.{arith}
-use lib.ListN.{length, getD, take, drop, length-drop}
+use lib.ListN.{length, getD, drop, length-drop}
 use lib.Seq.{getD-take, getD-drop, ext-getD, length-take-le}
-use Rattle.base.specs.Lists.{has, listAt, rowOf}
+use Rattle.base.specs.Lists.{has, rowOf}
 use Rattle.base.specs.declared.Form.{Form}
 use Rattle.base.specs.declared.Side.the-variants.{Upper}
-use Rattle.fill.specs.Fill.{Pattern, filled, lowerRow, upperRow}
-use Rattle.matrix.specs.Input.{Input, inputOf, ic, stored}
+use Rattle.fill.specs.Fill.{Pattern, filled}
+use Rattle.matrix.specs.Input.{Input, ic, stored}
 use Rattle.matrix.specs.OrderLaws.{order-below, place-hits}
 use Rattle.questions.specs.Settled.{Under, columnsAt}
 use Rattle.questions.specs.SettledLaws.{row-under, stored-is}
 use Rattle.outcome.specs.Placed.{PlacedSide, starts-long, size-at, run-at, run-inside, list-at}
-use Rattle.marks.specs.Marks.{Below, Room, Holds, Base, ListIn, Parts, Blocks, through}
-use Rattle.marks.specs.MarkLaws.{holds-same, room-kept}
-use Rattle.rows.specs.Rows.{Stored, Cuts, Held, Loaded, Closed, Listed, Renewed}
+use Rattle.marks.specs.Marks.{Below, Holds, Base, Parts, Blocks, through}
+use Rattle.marks.specs.MarkLaws.{holds-same}
+use Rattle.rows.specs.Rows.{Stored, Held, Loaded, Closed, Listed, Renewed}
 use Rattle.rows.specs.FillLaws.{held-parts}
-use Rattle.rows.specs.ListLaws.{listed-lower, listed-but, lower-le, upper-le}
-use Rattle.rows.specs.Turn.{loaded-cuts, closed-marks, listed-marks, listed-cuts, place-turn}
-use Rattle.factor.specs.Factoring.{Lists, Written, Inverse, Going, RowAt, lowerIn}
-use Rattle.factor.specs.TurnLaws.{row-at}
-
--- ---- definitions
-
--- M' of what is lent to find a lower row
-abbrev pub patternOf : ℕ → List ℕ → List ℕ → List ℕ → List ℕ → Pattern
-patternOf n starts columns r c = stored (inputOf n starts columns [] r c [])
-
-pub record Findable (P : Pattern) (n k : ℕ) (starts columns r index runs ustarts s : List ℕ) : Type 0 where
-  pub place : k < n
-  pub room : Room n s
-  pub own-place : k < length r
-  pub row : ListIn columns starts starts (getD r k 0)
-  pub columns-below : Below n (rowOf starts columns (getD r k 0))
-  pub inverse : (j : ℕ) → j < n → getD s (n + j) 0 < n
-  pub entries : (j : ℕ) → j < n → has (through s n (rowOf starts columns (getD r k 0))) j ≡ P k j
-  pub held : Held P n k (k + 1) (3 * n) s index runs ustarts
-  pub store : Stored P n (k + 1) index runs ustarts
-
--- lower row k, so long, stands from slot 5n on; the inverse order and the cursors are as they were, and row k + 1 can be found
-pub record Found (P : Pattern) (n k below : ℕ) (index runs ustarts s₀ s : List ℕ) : Type 0 where
-  pub next : Held P n (k + 1) (k + 1 + 1) (3 * n) s index runs ustarts
-  pub size : below ≡ length (lowerRow P k)
-  pub lower : lowerIn n below s ≡ lowerRow P k
-  pub inverse : (j : ℕ) → j < n → getD s (n + j) 0 ≡ getD s₀ (n + j) 0
-  pub cursors : (j : ℕ) → j < n → getD s (4 * n + j) 0 ≡ getD s₀ (4 * n + j) 0
+use Rattle.rows.specs.ListLaws.{listed-lower, listed-but, lower-le}
+use Rattle.rows.specs.Turn.{loaded-cuts, closed-marks, listed-marks, place-turn}
+use Rattle.factor.specs.Factoring.{Lists, Written, Going, patternOf, Findable, Found, lowerIn}
 
 -- ---- one finding, from what its calls leave
 
@@ -170,15 +143,7 @@ module _ {f : Form} {i : Input} {L : Lists} {k : ℕ} {w : Written} (G : Going f
         store = placed-stored f (stored i) (i .n) k (L .upper-starts) (L .upper-runs) (L .upper-index) (length (w .upper)) h (G .given .upper-side);
       })
 
-  module _ {m : List ℕ} {below : ℕ} (e : Found (patternOf (i .n) (i .starts) (i .columns) (i .r) (i .c)) (i .n) k below (L .upper-index) (L .upper-runs) (L .upper-starts) (w .marks) m) where
-    as-stored : Found (stored i) (i .n) k below (L .upper-index) (L .upper-runs) (L .upper-starts) (w .marks) m
-    as-stored = subst (λ (P : Pattern). Found P (i .n) k below (L .upper-index) (L .upper-runs) (L .upper-starts) (w .marks) m) (sym (pattern-is i)) e
-
-    pub found-next : Held (stored i) (i .n) (k + 1) (k + 1 + 1) (3 * i .n) m (L .upper-index) (L .upper-runs) (L .upper-starts)
-    found-next = as-stored .next
-
-    pub found-inverse : Inverse i m
-    found-inverse j l = as-stored .inverse j l ∙ G .inverse j l
-
-    pub found-row : length m ≡ length (w .marks) → RowAt i k below (L .upper-starts) (L .upper-runs) (L .upper-index) m (length (w .upper)) (length (w .work))
-    found-row em = row-at G h m below em found-inverse (as-stored .size) (as-stored .lower)
+  -- what it leaves, with M' as the factors have it
+  pub as-stored : {m : List ℕ} {below : ℕ} → Found (patternOf (i .n) (i .starts) (i .columns) (i .r) (i .c)) (i .n) k below (L .upper-index) (L .upper-runs) (L .upper-starts) (w .marks) m
+      → Found (stored i) (i .n) k below (L .upper-index) (L .upper-runs) (L .upper-starts) (w .marks) m
+  as-stored {m} {below} = subst (λ (P : Pattern). Found P (i .n) k below (L .upper-index) (L .upper-runs) (L .upper-starts) (w .marks) m) (sym (pattern-is i))

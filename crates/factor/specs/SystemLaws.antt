@@ -1,33 +1,32 @@
 -- The system of an input that passed its questions: the fill closes each row, and a row of M is lent as the steps ask for it.
 use mathlib.Core.Path.{_≡_, refl, sym, ap, _∙_}
-use mathlib.Core.Bool.{Bool, true, false, _&&_, _||_}
+use mathlib.Core.Bool.{true, _&&_, _||_}
 use mathlib.Core.List.{List, [], _∷_, _++_, map}
-use Prim.Native.Nat.{ℕ, zero, suc, _+_, _-_, _*_, _<_, _≤_}
+use Prim.Native.Nat.{ℕ, suc, _+_, _-_, _*_, _<_, _≤_}
 use native.Mathlib.Omega.{arith}
 use native.Mathlib.Decide.{decLt}
-use lib.ListN.{length, getD, take, drop, length-take, length-drop, length-map}
+use lib.ListN.{length, getD, take, drop, length-take, length-drop}
 use lib.Seq.{getD-take, getD-drop, ext-getD, length-take-le}
 use lib.Dec.{eqb, ltb}
 use lib.Ieee.{Float, nan}
 use lib.Ieee.Scale.{finite}
 use borrow.Author.Tests.{lt-ltb, ltb-true, eq-eqb}
-use Rattle.base.specs.Lists.{has, asc, table, pairs, listAt, rowOf}
+use Rattle.base.specs.Lists.{has, asc, table, listAt, rowOf}
 use Rattle.base.specs.Tests.{and-cases, or-right}
 use Rattle.base.specs.AscLaws.{has-asc, has-append, asc-ascends, length-asc}
-use Rattle.base.specs.TableLaws.{getD-table, length-table, getD-map-lt}
+use Rattle.base.specs.TableLaws.{getD-table, length-table}
 use Rattle.base.specs.declared.Form.{Form}
 use Rattle.base.specs.declared.Side.the-variants.{Upper}
 use Rattle.fill.specs.Fill.{Pattern, filled, upper, upperRow, lowerRow}
 use Rattle.fill.specs.RowRule.{filled-stored, filled-through}
 use Rattle.matrix.specs.Input.{Input, ic, stored, entries, rightAt}
-use Rattle.matrix.specs.OrderLaws.{order-below, place-hits}
+use Rattle.matrix.specs.OrderLaws.{place-hits}
 use Rattle.outcome.specs.Solve.{system}
 use Rattle.outcome.specs.Placed.{PlacedSide, starts-long, size-at, values-at, run-at, run-inside, list-at}
-use Rattle.questions.specs.Lent.{SolveLent}
-use Rattle.questions.specs.Settled.{Settled, Under, Finite, columnsAt, placesAt}
+use Rattle.questions.specs.Settled.{Under, Finite, placesAt}
 use Rattle.questions.specs.SettledLaws.{row-under, row-length, stored-is, places-under}
 use Rattle.rows.specs.FillLaws.{upper-below}
-use Rattle.numeric.specs.Stores.{Below, Ascending, ListIn, Shape, Loadable, Reducible, Closable, placesOf}
+use Rattle.numeric.specs.Stores.{Below, Ascending, Shape, Reducible, placesOf}
 use Rattle.numeric.specs.Rows.{filledRow, Closed, Lent}
 use Rattle.numeric.specs.RowLaws.{has-at}
 use Rattle.factor.specs.Factoring.{Inverse, RowAt}
@@ -65,7 +64,7 @@ module _ (P : Pattern) (n k : ℕ) where
 pub lower-below : (P : Pattern) (n k : ℕ) → k ≤ n → Below n (lowerRow P k)
 lower-below P n k h p g = let q = lower-has P n k (getD (lowerRow P k) p 0) (has-at (lowerRow P k) p g) in omega arith
 
-lower-ascends : (P : Pattern) (k : ℕ) → Ascending (lowerRow P k)
+pub lower-ascends : (P : Pattern) (k : ℕ) → Ascending (lowerRow P k)
 unfolding lowerRow
 lower-ascends P k p q g l = asc-ascends (filled P k) k p q g (omega (arith, length-asc (filled P k) k))
 

@@ -2,40 +2,31 @@
 use mathlib.Core.Path.{_≡_, refl, sym, ap, _∙_, subst}
 use mathlib.Core.Bool.{Bool, true, false, true≢false}
 use mathlib.Core.List.{List, [], _∷_, _++_}
-use Prim.Native.Nat.{ℕ, zero, suc, _+_, _-_, _*_, _<_, _≤_}
-use native.Mathlib.Numerals.{add-one}
+use Prim.Native.Nat.{ℕ, _+_, _-_, _*_, _<_}
 use native.Mathlib.Omega.{arith}
 use native.Mathlib.Decide.{decLt}
-use lib.ListN.{length, getD, take, drop, set, replicate, List·getD-append}
-use lib.Seq.{sets, length-sets, getD-at, getD-set-same, getD-set-other, ext-getD, getD-take, getD-drop, length-take-le}
+use lib.ListN.{length, getD, take, drop, List·getD-append}
+use lib.Seq.{getD-at, getD-set-same, getD-set-other}
 use lib.Ieee.{Float, nan}
-use Rattle.base.specs.Lists.{nought, listAt, rowOf, joined, padded, table}
-use Rattle.base.specs.TableLaws.{getD-table, length-table}
+use Rattle.base.specs.Lists.{listAt, rowOf}
 use Rattle.base.specs.declared.Form.{Form}
 use Rattle.base.specs.declared.Form.the-variants.{Plain, Shared, ByRow}
-use Rattle.base.specs.declared.Side.the-variants.{Lower, Upper}
 use Rattle.base.specs.declared.RowSums.{RowSums}
 use Rattle.fill.specs.Fill.{Pattern, lowerRow}
 use Rattle.matrix.specs.Input.{Input, stored}
 use Rattle.matrix.specs.OrderLaws.{order-below}
-use Rattle.arithmetic.specs.Arith.{ok, met, zeroPivot, overflow, System, Row, none}
-use Rattle.outcome.specs.Forms.{valueNeed}
-use Rattle.outcome.specs.Placed.{PlacedSide, start-at, starts-long, size-at, values-at, run-at, run-inside, list-at}
-use Rattle.outcome.specs.Solve.{system, listed, valuesKept, pivotsKept}
-use Rattle.marks.specs.Marks.{ListIn}
-use Rattle.marks.specs.MarkLaws.{sets-below}
+use Rattle.arithmetic.specs.Arith.{met, zeroPivot, overflow, Row, none}
+use Rattle.outcome.specs.Solve.{system, listed}
 use Rattle.rows.specs.ListLaws.{lower-le}
 use Rattle.numeric.specs.declared.Pivot.{Pivot}
 use Rattle.numeric.specs.declared.Pivot.the-variants.{Kept, Zero, Overflow}
 use Rattle.numeric.specs.Stores.{Below, Closable, gathered}
-use Rattle.numeric.specs.Rows.{Held, Reduced, Shut, Stacked, lOf, keptRow}
-use Rattle.numeric.specs.StoreLaws.{gathered-length, sets-part}
-use Rattle.numeric.specs.KeepLaws.{stacked-row}
+use Rattle.numeric.specs.Rows.{Reduced, Shut, keptRow}
 use Rattle.numeric.specs.PassLaws.{forward-length, held-more, held-zero, held-overflow}
 use Rattle.factor.specs.declared.Factored.{Factored}
 use Rattle.factor.specs.declared.Factored.the-variants.{Solved}
 use Rattle.factor.specs.declared.Factored.the-variants as done
-use Rattle.factor.specs.Factoring.{FactoredAs, CameTo, isFault, Lists, Written, written, LowerPlaced, Factorable, LowerHeld, Inverse, Finding, Going, RowAt, lowerIn, LowerAt, Keepable}
+use Rattle.factor.specs.Factoring.{FactoredAs, CameTo, isFault, Lists, Written, written, LowerPlaced, Factorable, LowerHeld, Inverse, Finding, Going, RowAt, lowerIn, LowerAt}
 use Rattle.factor.specs.SystemLaws.{lower-below, system-closed, placed-shape}
 
 -- ---- what is lent stays so: it depends on what is written by lengths alone
@@ -59,7 +50,7 @@ sizes-then s r = record {
   marks-size = r .marks-size ∙ s .marks-size;
 }
 
-none-left : (l m : List Float) → length m ≡ length l → l ≡ [] → m ≡ []
+pub none-left : (l m : List Float) → length m ≡ length l → l ≡ [] → m ≡ []
 none-left l [] e h = refl
 none-left l (x ∷ m) e h = absurd (omega (arith, e, ap length h))
 
@@ -188,74 +179,3 @@ module _ {f : Form} {i : Input} {L : Lists} {k : ℕ} {w : Written} (G : Going f
       inverse = inv;
       finding = find;
     }
-
--- ---- the plain form
-
-module _ {i : Input} {L : Lists} {k : ℕ} {w : Written} (G : Going Plain i L k w) (h : k < i .n) where
-  abbrev side : PlacedSide Plain Lower (stored i) (i .n) (L .lower-starts) (L .lower-starts) (L .lower-index) (length (w .lower))
-  side = G .given .lower-side
-
-  plain-size : getD (L .lower-starts) (k + 1) 0 ≡ getD (L .lower-starts) k 0 + length (lowerRow (stored i) k)
-  plain-size = size-at Plain Lower (stored i) (i .n) (L .lower-starts) (L .lower-starts) (L .lower-index) (length (w .lower)) side k h
-
-  plain-room : getD (L .lower-starts) k 0 + length (lowerRow (stored i) k) ≤ length (w .lower)
-  plain-room = omega (arith, plain-size, values-at Plain Lower (stored i) (i .n) (L .lower-starts) (L .lower-starts) (L .lower-index) (length (w .lower)) side k h)
-
-  -- lower row k as it is read
-  lower-read : rowOf (L .lower-starts) (L .lower-index) k ≡ lowerRow (stored i) k
-  lower-read = list-at Plain Lower (stored i) (i .n) (L .lower-starts) (L .lower-starts) (L .lower-index) (length (w .lower)) side k h
-
-  pub plain-readable : ListIn (L .lower-index) (L .lower-starts) (L .lower-starts) k × LowerAt (i .n) (length (rowOf (L .lower-starts) (L .lower-index) k)) (length (w .marks))
-  plain-readable = (
-    record {
-      has-run = omega (arith, starts-long Plain Lower (stored i) (i .n) (L .lower-starts) (L .lower-starts) (L .lower-index) (length (w .lower)) side);
-      has-start = omega (arith, starts-long Plain Lower (stored i) (i .n) (L .lower-starts) (L .lower-starts) (L .lower-index) (length (w .lower)) side);
-      rise = omega (arith, plain-size);
-      inside = run-inside Plain Lower (stored i) (i .n) (L .lower-starts) (L .lower-starts) (L .lower-index) (length (w .lower)) side k h;
-    },
-    record { few = omega (arith, G .given .lent .lent .orders .few); room = omega (arith, ap length lower-read, lower-le (stored i) k, G .given .slots) },
-  )
-
-  -- it stands in the marks
-  module _ {m : List ℕ} {below : ℕ} (eb : below ≡ length (rowOf (L .lower-starts) (L .lower-index) k)) (em : m ≡ sets (w .marks) (5 * i .n) (rowOf (L .lower-starts) (L .lower-index) k)) where
-    pub plain-inverse : Inverse i m
-    plain-inverse j b = rw em (sets-below (w .marks) (5 * i .n) (rowOf (L .lower-starts) (L .lower-index) k) (i .n + j) (omega arith) ∙ G .inverse j b)
-
-    pub plain-row : RowAt i k below (L .upper-starts) (L .upper-runs) (L .upper-index) m (length (w .upper)) (length (w .work))
-    plain-row = row-at G h m below (ap length em ∙ length-sets (w .marks) (5 * i .n) (rowOf (L .lower-starts) (L .lower-index) k)) plain-inverse (eb ∙ ap length lower-read)
-        (rw em (sets-part (w .marks) (rowOf (L .lower-starts) (L .lower-index) k) (5 * i .n) below (sym eb) (omega (arith, plain-readable .1 .room)) ∙ lower-read))
-
-    pub plain-keepable : (g : List Float) → length g ≡ length (w .work)
-        → LowerAt (i .n) below (length m) × Keepable (i .n) k below (L .lower-starts) (length (w .lower)) (length g) (lowerIn (i .n) below m)
-    plain-keepable g lg = (
-      row-room plain-row,
-      record {
-        start = plain-readable .0 .has-run;
-        room = omega (arith, plain-room, eb, ap length lower-read);
-        row = omega (arith, G .given .scratch);
-        places = lower-in plain-row;
-      },
-    )
-
-  -- L of row k behind that of the rows above
-  plain-kept : (next : Row) (lower : List ℕ) (g : List Float) → lower ≡ lowerRow (stored i) k → next .l ≡ gathered lower g
-      → Stacked nought (lOf (G .rows ++ (next ∷ []))) (k + 1) (L .lower-starts) (sets (w .lower) (getD (L .lower-starts) k 0) (gathered lower g))
-  plain-kept next lower g el en =
-      stacked-row (λ (r : Row). r .l) (G .rows) next k (L .lower-starts) (w .lower) (gathered lower g) (forward-length (system i) k (G .rows) (G .held .done))
-      (λ j b. omega (arith, size-at Plain Lower (stored i) (i .n) (L .lower-starts) (L .lower-starts) (L .lower-index) (length (w .lower)) side j (omega arith)))
-      (omega (arith, plain-size, plain-room)) (omega (arith, plain-size, gathered-length lower g, ap length el)) en (G .lower)
-
-  pub plain-more : {m : List ℕ} {below : ℕ} (eb : below ≡ length (rowOf (L .lower-starts) (L .lower-index) k))
-      (em : m ≡ sets (w .marks) (5 * i .n) (rowOf (L .lower-starts) (L .lower-index) k))
-      (l u d g f : List Float) → Sizes w (written l u d f m) → length g ≡ length (w .work) → (t : RowSums) (p : Pivot) → p ≡ Kept t
-      → Reduced (system i) (G .rows) (i .n) k (L .upper-starts) (w .work) g (w .upper) u p
-      → Shut (i .n) k (lowerIn (i .n) below m) (listAt (L .upper-index) (L .upper-runs) (L .upper-starts) k) g f (w .d) d t
-      → l ≡ sets (w .lower) (getD (L .lower-starts) k 0) (gathered (lowerIn (i .n) below m) (take (i .n) g))
-      → Going Plain i L (k + 1) (written l u d f m)
-  unfolding system
-  plain-more {m} {below} eb em l u d g f s lg t p ep R Q e =
-      let el = plain-row eb em .lower in
-      going-more G h (written l u d f m) s (lowerIn (i .n) below m) el g lg t p ep R Q
-      (rw e (plain-kept (keptRow (gathered (lowerRow (stored i) k) (take (i .n) g)) (rowOf (L .upper-starts) u k) t) (lowerIn (i .n) below m) (take (i .n) g) el
-      (ap (λ (q : List ℕ). gathered q (take (i .n) g)) (sym el))))
-      (plain-inverse eb em) tt

@@ -1,5 +1,7 @@
 // The arithmetic of a solve over lists that stand in their stores: the factors row by row, then the back steps.
-// Scratch of 32-bit slots has the inverse column order from slot n on and lower row k from slot 5n on.
+// Scratch of 32-bit slots has marks, the inverse column order from slot n on, block stamps from 2n, cuts from 3n, the cursors of L from 4n
+// and lower row k from 5n.
+use base::Form;
 use base::OwnNumber;
 use base::Place;
 use base::RowSums;
@@ -7,7 +9,7 @@ use numeric::Back;
 use numeric::Pivot;
 ghost use mathlib.Core.Path.{_≡_};
 ghost use mathlib.Core.List.{List, []};
-ghost use Prim.Native.Nat.{ℕ, _+_, _*_, _-_, _<_, _≤_};
+ghost use Prim.Native.Nat.{_+_, _*_, _-_, _<_, _≤_};
 ghost use lib.ListN.{length, getD, take, drop};
 ghost use lib.Seq.{sets};
 ghost use lib.Ieee.{nan};
@@ -20,8 +22,7 @@ ghost use Rattle.arithmetic.specs.Arith.{Row, back};
 ghost use Rattle.outcome.specs.Solve.{system};
 ghost use Rattle.numeric.specs.Stores.{Closable, gathered, storeGiven};
 ghost use Rattle.numeric.specs.Rows.{Held, Reduced, Shut};
-ghost use Rattle.factor.specs.FindLaws.{patternOf, Findable, Found};
-ghost use Rattle.factor.specs.Factoring.{FactoredAs, lists, written, Factorable, Going, CameTo, isFault, OwnRow, RowAt, lowerIn, LowerAt, Keepable, BackReady, backAs};
+ghost use Rattle.factor.specs.Factoring.{FactoredAs, lists, written, Factorable, Going, CameTo, isFault, OwnRow, RowAt, lowerIn, LowerAt, patternOf, Findable, Found, readsLower, LowerAsked, LowerGiven, RowReady, Keepable, Spread, KeepAsked, KeepGiven, BackReady, backAs};
 
 // Every row is done and z is found, or what the arithmetic meets first.
 pub enum Factored {
@@ -195,7 +196,7 @@ fn solve_back(
     }
 }
 
-// ---- the plain form
+// ---- lower row k in the marks, by form
 
 // Lower row k from its store into the marks, and its length.
 fn lower_plain(n: usize, k: Place, lstarts: &[u32], lindex: &[u16], marks: &mut [u32]) -> usize
@@ -208,205 +209,6 @@ fn lower_plain(n: usize, k: Place, lstarts: &[u32], lindex: &[u16], marks: &mut 
     copy_list(list, marks, 5 * n);
     list.len()
 }
-
-// L of row k, from its list start on.
-fn keep_plain(
-    n: usize,
-    k: Place,
-    lstarts: &[u32],
-    lvalues: &mut [f64],
-    work: &[f64],
-    marks: &[u32],
-    below: usize,
-)
-    requires { ⌜ LowerAt n below (length (now marks)) × Keepable n (k .0) below (now lstarts) (length (now lvalues)) (length (now work)) (lowerIn n below (now marks)) ⌝ }
-    ensures { λ _. ⌜ now (lvalues .exit) ≡ sets (now (lvalues .entry)) (getD (now (lstarts .entry)) (k .0) 0)
-        (gathered (lowerIn n below (now (marks .entry))) (take n (now (work .entry)))) ⌝ }
-{
-    let place = k.0 as usize;
-    let lower = lower_part(marks, n, below);
-    let from = marks::wide32(lstarts[place]);
-    numeric::keep_by_rows(&work[..n], lower, lvalues, from);
-}
-
-// Row k in the plain form: its lower row is read from the store, its L kept behind that of the rows above.
-fn row_plain(
-    n: usize,
-    k: Place,
-    starts: &[u32],
-    columns: &[u16],
-    values: &[f64],
-    r: &[u16],
-    c: &[u16],
-    b: &[f64],
-    lstarts: &[u32],
-    lindex: &[u16],
-    lvalues: &mut [f64],
-    ustarts: &[u32],
-    uindex: &[u16],
-    uvalues: &mut [f64],
-    d: &mut [f64],
-    work: &mut [f64],
-    marks: &mut [u32],
-) -> Factored
-    requires { ⌜ (k .0 < n) × Going Plain (inputOf n (now starts) (now columns) (now values) (now r) (now c) (now b)) (lists (now lstarts) (now lindex) (now ustarts) (now ustarts) (now uindex))
-        (k .0) (written (now lvalues) (now uvalues) (now d) (now work) (now marks)) ⌝ }
-    ensures { λ a. ⌜ CameTo Plain (inputOf n (now (starts .entry)) (now (columns .entry)) (now (values .entry)) (now (r .entry)) (now (c .entry)) (now (b .entry)))
-        (lists (now (lstarts .entry)) (now (lindex .entry)) (now (ustarts .entry)) (now (ustarts .entry)) (now (uindex .entry)))
-        (k .0 + 1) a (written (now (lvalues .exit)) (now (uvalues .exit)) (now (d .exit)) (now (work .exit)) (now (marks .exit))) ⌝ }
-{
-    let below = lower_plain(n, k, lstarts, lindex, marks);
-    let p = reduce_at(
-        n,
-        k,
-        starts,
-        columns,
-        values,
-        r,
-        c,
-        b,
-        ustarts,
-        ustarts,
-        uindex,
-        uvalues,
-        work,
-        marks,
-        below,
-    );
-    match p {
-        Pivot::Kept(t) => {
-            keep_plain(n, k, lstarts, lvalues, work, marks, below);
-            close_at(n, k, uindex, ustarts, ustarts, d, work, marks, below, t);
-            Factored::Solved
-        }
-        Pivot::Zero => Factored::Zero(k),
-        Pivot::Overflow => Factored::Overflow(k),
-    }
-}
-
-// The rows of the plain form, up to the first fault.
-fn rows_plain(
-    n: usize,
-    starts: &[u32],
-    columns: &[u16],
-    values: &[f64],
-    r: &[u16],
-    c: &[u16],
-    b: &[f64],
-    lstarts: &[u32],
-    lindex: &[u16],
-    lvalues: &mut [f64],
-    ustarts: &[u32],
-    uindex: &[u16],
-    uvalues: &mut [f64],
-    d: &mut [f64],
-    work: &mut [f64],
-    marks: &mut [u32],
-) -> Factored
-    requires { ⌜ Going Plain (inputOf n (now starts) (now columns) (now values) (now r) (now c) (now b)) (lists (now lstarts) (now lindex) (now ustarts) (now ustarts) (now uindex))
-        0 (written (now lvalues) (now uvalues) (now d) (now work) (now marks)) ⌝ }
-    ensures { λ a. ⌜ CameTo Plain (inputOf n (now (starts .entry)) (now (columns .entry)) (now (values .entry)) (now (r .entry)) (now (c .entry)) (now (b .entry)))
-        (lists (now (lstarts .entry)) (now (lindex .entry)) (now (ustarts .entry)) (now (ustarts .entry)) (now (uindex .entry)))
-        n a (written (now (lvalues .exit)) (now (uvalues .exit)) (now (d .exit)) (now (work .exit)) (now (marks .exit))) ⌝ }
-{
-    let mut k = 0;
-    while k < n {
-        let a = row_plain(
-            n,
-            Place(k as u32),
-            starts,
-            columns,
-            values,
-            r,
-            c,
-            b,
-            lstarts,
-            lindex,
-            lvalues,
-            ustarts,
-            uindex,
-            uvalues,
-            d,
-            work,
-            marks,
-        );
-        if met_fault(a) {
-            return a;
-        }
-        k += 1;
-    }
-    Factored::Solved
-}
-
-// Zeros where rows will stand, and the inverse order.
-fn begin_plain(
-    n: usize,
-    c: &[u16],
-    lvalues: &mut [f64],
-    uvalues: &mut [f64],
-    work: &mut [f64],
-    marks: &mut [u32],
-)
-    requires { ⌜ InverseLent n (now c) (length (now marks) - n) ⌝ }
-    ensures { λ _. ⌜ (now (lvalues .exit) ≡ blank nought (now (lvalues .entry))) × (now (uvalues .exit) ≡ blank nought (now (uvalues .entry)))
-        × (now (work .exit) ≡ blank nought (now (work .entry))) × (now (marks .exit) ≡ invertedAt (now (c .entry)) n (now (marks .entry))) ⌝ }
-{
-    base::clear_f64(lvalues);
-    base::clear_f64(uvalues);
-    base::clear_f64(work);
-    questions::invert_at(n, c, marks);
-}
-
-// The factors and z in the plain form. Another call clears scratch, and after a fault all that this one writes.
-pub fn factor_plain(
-    n: usize,
-    starts: &[u32],
-    columns: &[u16],
-    values: &[f64],
-    r: &[u16],
-    c: &[u16],
-    b: &[f64],
-    lstarts: &[u32],
-    lindex: &[u16],
-    lvalues: &mut [f64],
-    ustarts: &[u32],
-    uindex: &[u16],
-    uvalues: &mut [f64],
-    d: &mut [f64],
-    work: &mut [f64],
-    marks: &mut [u32],
-) -> Factored
-    requires { ⌜ Factorable Plain (inputOf n (now starts) (now columns) (now values) (now r) (now c) (now b)) (lists (now lstarts) (now lindex) (now ustarts) (now ustarts) (now uindex))
-        (written (now lvalues) (now uvalues) (now d) (now work) (now marks)) ⌝ }
-    ensures { λ a. ⌜ FactoredAs Plain (inputOf n (now (starts .entry)) (now (columns .entry)) (now (values .entry)) (now (r .entry)) (now (c .entry)) (now (b .entry))) a
-        (now (lvalues .exit)) (now (uvalues .exit)) (now (d .exit)) (drop (n + n) (now (work .exit))) ⌝ }
-{
-    begin_plain(n, c, lvalues, uvalues, work, marks);
-    let a = rows_plain(
-        n,
-        starts,
-        columns,
-        values,
-        r,
-        c,
-        b,
-        lstarts,
-        lindex,
-        lvalues,
-        ustarts,
-        uindex,
-        uvalues,
-        d,
-        work,
-        marks,
-    );
-    if met_fault(a) {
-        return a;
-    }
-    solve_back(n, ustarts, ustarts, uindex, uvalues, work)
-}
-
-// ---- the row form
 
 // Lower row k into the marks, and its length: the entries of row k united with the lists before it, as far as their cuts.
 fn find_lower(
@@ -432,4 +234,503 @@ fn find_lower(
     let found = rows::list_place(marks, n, stamp, k, 5 * n);
     rows::renew_cuts(marks, n, stamp, k, cuts, uindex, uruns, ustarts);
     found.below
+}
+
+fn reads_lower(form: Form) -> bool
+    ensures { λ t. ⌜ t ≡ readsLower form ⌝ }
+{
+    match form {
+        Form::Plain => true,
+        Form::Shared => false,
+        Form::ByRow => false,
+    }
+}
+
+// The plain form reads lower row k, the others find it anew.
+fn lower_at(
+    form: Form,
+    n: usize,
+    k: Place,
+    starts: &[u32],
+    columns: &[u16],
+    r: &[u16],
+    c: &[u16],
+    lstarts: &[u32],
+    lindex: &[u16],
+    ustarts: &[u32],
+    uruns: &[u32],
+    uindex: &[u16],
+    marks: &mut [u32],
+) -> usize
+    requires { ⌜ LowerAsked (readsLower form) n (k .0) (now starts) (now columns) (now r) (now c) (lists (now lstarts) (now lindex) (now ustarts) (now uruns) (now uindex)) (now marks) ⌝ }
+    ensures { λ below. ⌜ LowerGiven (readsLower form) n (k .0) below (now (starts .entry)) (now (columns .entry)) (now (r .entry)) (now (c .entry))
+        (lists (now (lstarts .entry)) (now (lindex .entry)) (now (ustarts .entry)) (now (uruns .entry)) (now (uindex .entry))) (now (marks .entry)) (now (marks .exit)) ⌝ }
+{
+    if reads_lower(form) {
+        return lower_plain(n, k, lstarts, lindex, marks);
+    }
+    find_lower(n, k, starts, columns, r, c, ustarts, uruns, uindex, marks)
+}
+
+// ---- L of row k, by form
+
+// L of row k, from its list start on.
+fn keep_plain(
+    n: usize,
+    k: Place,
+    lstarts: &[u32],
+    lvalues: &mut [f64],
+    work: &[f64],
+    marks: &[u32],
+    below: usize,
+)
+    requires { ⌜ LowerAt n below (length (now marks)) × Keepable n (k .0) below (now lstarts) (length (now lvalues)) (length (now work)) (lowerIn n below (now marks)) ⌝ }
+    ensures { λ _. ⌜ now (lvalues .exit) ≡ sets (now (lvalues .entry)) (getD (now (lstarts .entry)) (k .0) 0)
+        (gathered (lowerIn n below (now (marks .entry))) (take n (now (work .entry)))) ⌝ }
+{
+    let place = k.0 as usize;
+    let lower = lower_part(marks, n, below);
+    let from = marks::wide32(lstarts[place]);
+    numeric::keep_by_rows(&work[..n], lower, lvalues, from);
+}
+
+// L of row k, each value in the next slot of its column. The cursors count the slots used.
+fn keep_shared(
+    n: usize,
+    lstarts: &[u32],
+    lvalues: &mut [f64],
+    w: &[f64],
+    marks: &mut [u32],
+    below: usize,
+)
+    requires { ⌜ (length (now w) ≡ n) × Spread n below (now lstarts) (length (now lvalues)) (now marks) ⌝ }
+    ensures { λ _. ⌜ KeepGiven Shared n 0 below (now (lstarts .entry)) (now (w .entry)) (now (lvalues .entry)) (now (lvalues .exit)) (now (marks .entry)) (now (marks .exit)) ⌝ }
+{
+    let cursors = 4 * n;
+    let lower = 5 * n;
+    let mut p = 0;
+    while p < below {
+        let i = marks::wide32(marks[lower + p]);
+        let used = marks[cursors + i];
+        let start = marks::wide32(lstarts[i]);
+        lvalues[start + marks::wide32(used)] = w[i];
+        marks[cursors + i] = used + 1;
+        p += 1;
+    }
+}
+
+// The plain form keeps L by rows, the shared form by columns, the row form not at all.
+fn keep_at(
+    form: Form,
+    n: usize,
+    k: Place,
+    lstarts: &[u32],
+    lvalues: &mut [f64],
+    work: &[f64],
+    marks: &mut [u32],
+    below: usize,
+)
+    requires { ⌜ KeepAsked form n (k .0) below (now lstarts) (length (now lvalues)) (length (now work)) (now marks) ⌝ }
+    ensures { λ _. ⌜ KeepGiven form n (k .0) below (now (lstarts .entry)) (take n (now (work .entry))) (now (lvalues .entry)) (now (lvalues .exit)) (now (marks .entry)) (now (marks .exit)) ⌝ }
+{
+    match form {
+        Form::Plain => keep_plain(n, k, lstarts, lvalues, work, marks, below),
+        Form::Shared => keep_shared(n, lstarts, lvalues, &work[..n], marks, below),
+        Form::ByRow => {}
+    }
+}
+
+// ---- the rows
+
+// How long lower row k is, and what the row comes to.
+struct RowReduced {
+    below: usize,
+    pivot: Pivot,
+}
+
+// Row k's lower row in the marks, and its steps over it.
+fn reduce_in(
+    form: Form,
+    n: usize,
+    k: Place,
+    starts: &[u32],
+    columns: &[u16],
+    values: &[f64],
+    r: &[u16],
+    c: &[u16],
+    b: &[f64],
+    lstarts: &[u32],
+    lindex: &[u16],
+    ustarts: &[u32],
+    uruns: &[u32],
+    uindex: &[u16],
+    uvalues: &mut [f64],
+    work: &mut [f64],
+    marks: &mut [u32],
+) -> RowReduced
+    requires { ⌜ RowReady form (inputOf n (now starts) (now columns) (now values) (now r) (now c) (now b)) (lists (now lstarts) (now lindex) (now ustarts) (now uruns) (now uindex)) (k .0) (length (now uvalues)) (length (now work)) (now marks) ⌝ }
+    ensures { λ p. ⌜ LowerGiven (readsLower form) n (k .0) (p .below) (now (starts .entry)) (now (columns .entry)) (now (r .entry)) (now (c .entry))
+        (lists (now (lstarts .entry)) (now (lindex .entry)) (now (ustarts .entry)) (now (uruns .entry)) (now (uindex .entry))) (now (marks .entry)) (now (marks .exit))
+        × ((rows : List Row)
+        → Held (system (inputOf n (now (starts .entry)) (now (columns .entry)) (now (values .entry)) (now (r .entry)) (now (c .entry)) (now (b .entry)))) rows n (k .0)
+        (now (work .entry)) (now (uindex .entry)) (now (uruns .entry)) (now (ustarts .entry)) (now (uvalues .entry))
+        → Reduced (system (inputOf n (now (starts .entry)) (now (columns .entry)) (now (values .entry)) (now (r .entry)) (now (c .entry)) (now (b .entry)))) rows n (k .0)
+        (now (ustarts .entry)) (now (work .entry)) (now (work .exit)) (now (uvalues .entry)) (now (uvalues .exit)) (p .pivot)) ⌝ }
+{
+    let below = lower_at(
+        form,
+        n,
+        k,
+        starts,
+        columns,
+        r,
+        c,
+        lstarts,
+        lindex,
+        ustarts,
+        uruns,
+        uindex,
+        marks,
+    );
+    let pivot = reduce_at(
+        n,
+        k,
+        starts,
+        columns,
+        values,
+        r,
+        c,
+        b,
+        ustarts,
+        uruns,
+        uindex,
+        uvalues,
+        work,
+        marks,
+        below,
+    );
+    RowReduced { below, pivot }
+}
+
+// Row k, and what is kept of it.
+fn do_row(
+    form: Form,
+    n: usize,
+    k: Place,
+    starts: &[u32],
+    columns: &[u16],
+    values: &[f64],
+    r: &[u16],
+    c: &[u16],
+    b: &[f64],
+    lstarts: &[u32],
+    lindex: &[u16],
+    lvalues: &mut [f64],
+    ustarts: &[u32],
+    uruns: &[u32],
+    uindex: &[u16],
+    uvalues: &mut [f64],
+    d: &mut [f64],
+    work: &mut [f64],
+    marks: &mut [u32],
+) -> Factored
+    requires { ⌜ (k .0 < n) × Going form (inputOf n (now starts) (now columns) (now values) (now r) (now c) (now b)) (lists (now lstarts) (now lindex) (now ustarts) (now uruns) (now uindex)) (k .0) (written (now lvalues) (now uvalues) (now d) (now work) (now marks)) ⌝ }
+    ensures { λ a. ⌜ CameTo form (inputOf n (now (starts .entry)) (now (columns .entry)) (now (values .entry)) (now (r .entry)) (now (c .entry)) (now (b .entry)))
+        (lists (now (lstarts .entry)) (now (lindex .entry)) (now (ustarts .entry)) (now (uruns .entry)) (now (uindex .entry))) (k .0 + 1) a (written (now (lvalues .exit)) (now (uvalues .exit)) (now (d .exit)) (now (work .exit)) (now (marks .exit))) ⌝ }
+{
+    let row = reduce_in(
+        form,
+        n,
+        k,
+        starts,
+        columns,
+        values,
+        r,
+        c,
+        b,
+        lstarts,
+        lindex,
+        ustarts,
+        uruns,
+        uindex,
+        uvalues,
+        work,
+        marks,
+    );
+    let below = row.below;
+    let p = row.pivot;
+    match p {
+        Pivot::Kept(t) => {
+            keep_at(form, n, k, lstarts, lvalues, work, marks, below);
+            close_at(n, k, uindex, uruns, ustarts, d, work, marks, below, t);
+            Factored::Solved
+        }
+        Pivot::Zero => Factored::Zero(k),
+        Pivot::Overflow => Factored::Overflow(k),
+    }
+}
+
+// The rows, up to the first fault.
+fn do_rows(
+    form: Form,
+    n: usize,
+    starts: &[u32],
+    columns: &[u16],
+    values: &[f64],
+    r: &[u16],
+    c: &[u16],
+    b: &[f64],
+    lstarts: &[u32],
+    lindex: &[u16],
+    lvalues: &mut [f64],
+    ustarts: &[u32],
+    uruns: &[u32],
+    uindex: &[u16],
+    uvalues: &mut [f64],
+    d: &mut [f64],
+    work: &mut [f64],
+    marks: &mut [u32],
+) -> Factored
+    requires { ⌜ Going form (inputOf n (now starts) (now columns) (now values) (now r) (now c) (now b)) (lists (now lstarts) (now lindex) (now ustarts) (now uruns) (now uindex)) 0 (written (now lvalues) (now uvalues) (now d) (now work) (now marks)) ⌝ }
+    ensures { λ a. ⌜ CameTo form (inputOf n (now (starts .entry)) (now (columns .entry)) (now (values .entry)) (now (r .entry)) (now (c .entry)) (now (b .entry)))
+        (lists (now (lstarts .entry)) (now (lindex .entry)) (now (ustarts .entry)) (now (uruns .entry)) (now (uindex .entry))) n a (written (now (lvalues .exit)) (now (uvalues .exit)) (now (d .exit)) (now (work .exit)) (now (marks .exit))) ⌝ }
+{
+    let mut k = 0;
+    while k < n {
+        let a = do_row(
+            form,
+            n,
+            Place(k as u32),
+            starts,
+            columns,
+            values,
+            r,
+            c,
+            b,
+            lstarts,
+            lindex,
+            lvalues,
+            ustarts,
+            uruns,
+            uindex,
+            uvalues,
+            d,
+            work,
+            marks,
+        );
+        if met_fault(a) {
+            return a;
+        }
+        k += 1;
+    }
+    Factored::Solved
+}
+
+// Zeros where rows will stand and in scratch, and the inverse order.
+fn begin(
+    n: usize,
+    c: &[u16],
+    lvalues: &mut [f64],
+    uvalues: &mut [f64],
+    work: &mut [f64],
+    marks: &mut [u32],
+)
+    requires { ⌜ InverseLent n (now c) (length (now marks) - n) ⌝ }
+    ensures { λ _. ⌜ (now (lvalues .exit) ≡ blank nought (now (lvalues .entry))) × (now (uvalues .exit) ≡ blank nought (now (uvalues .entry)))
+        × (now (work .exit) ≡ blank nought (now (work .entry))) × (now (marks .exit) ≡ invertedAt (now (c .entry)) n (blank 0 (now (marks .entry)))) ⌝ }
+{
+    base::clear_f64(lvalues);
+    base::clear_f64(uvalues);
+    base::clear_f64(work);
+    base::clear_u32(marks);
+    questions::invert_at(n, c, marks);
+}
+
+// The factors and z in a form.
+fn factor_in(
+    form: Form,
+    n: usize,
+    starts: &[u32],
+    columns: &[u16],
+    values: &[f64],
+    r: &[u16],
+    c: &[u16],
+    b: &[f64],
+    lstarts: &[u32],
+    lindex: &[u16],
+    lvalues: &mut [f64],
+    ustarts: &[u32],
+    uruns: &[u32],
+    uindex: &[u16],
+    uvalues: &mut [f64],
+    d: &mut [f64],
+    work: &mut [f64],
+    marks: &mut [u32],
+) -> Factored
+    requires { ⌜ Factorable form (inputOf n (now starts) (now columns) (now values) (now r) (now c) (now b)) (lists (now lstarts) (now lindex) (now ustarts) (now uruns) (now uindex)) (written (now lvalues) (now uvalues) (now d) (now work) (now marks)) ⌝ }
+    ensures { λ a. ⌜ FactoredAs form (inputOf n (now (starts .entry)) (now (columns .entry)) (now (values .entry)) (now (r .entry)) (now (c .entry)) (now (b .entry))) a
+        (now (lvalues .exit)) (now (uvalues .exit)) (now (d .exit)) (drop (n + n) (now (work .exit))) ⌝ }
+{
+    begin(n, c, lvalues, uvalues, work, marks);
+    let a = do_rows(
+        form,
+        n,
+        starts,
+        columns,
+        values,
+        r,
+        c,
+        b,
+        lstarts,
+        lindex,
+        lvalues,
+        ustarts,
+        uruns,
+        uindex,
+        uvalues,
+        d,
+        work,
+        marks,
+    );
+    if met_fault(a) {
+        return a;
+    }
+    solve_back(n, ustarts, uruns, uindex, uvalues, work)
+}
+
+// ---- the three forms. Another call clears scratch, and after a fault all that these write.
+
+pub fn factor_plain(
+    n: usize,
+    starts: &[u32],
+    columns: &[u16],
+    values: &[f64],
+    r: &[u16],
+    c: &[u16],
+    b: &[f64],
+    lstarts: &[u32],
+    lindex: &[u16],
+    lvalues: &mut [f64],
+    ustarts: &[u32],
+    uindex: &[u16],
+    uvalues: &mut [f64],
+    d: &mut [f64],
+    work: &mut [f64],
+    marks: &mut [u32],
+) -> Factored
+    requires { ⌜ Factorable Plain (inputOf n (now starts) (now columns) (now values) (now r) (now c) (now b)) (lists (now lstarts) (now lindex) (now ustarts) (now ustarts) (now uindex))
+        (written (now lvalues) (now uvalues) (now d) (now work) (now marks)) ⌝ }
+    ensures { λ a. ⌜ FactoredAs Plain (inputOf n (now (starts .entry)) (now (columns .entry)) (now (values .entry)) (now (r .entry)) (now (c .entry)) (now (b .entry))) a
+        (now (lvalues .exit)) (now (uvalues .exit)) (now (d .exit)) (drop (n + n) (now (work .exit))) ⌝ }
+{
+    factor_in(
+        Form::Plain,
+        n,
+        starts,
+        columns,
+        values,
+        r,
+        c,
+        b,
+        lstarts,
+        lindex,
+        lvalues,
+        ustarts,
+        ustarts,
+        uindex,
+        uvalues,
+        d,
+        work,
+        marks,
+    )
+}
+
+pub fn factor_shared(
+    n: usize,
+    starts: &[u32],
+    columns: &[u16],
+    values: &[f64],
+    r: &[u16],
+    c: &[u16],
+    b: &[f64],
+    lstarts: &[u32],
+    lvalues: &mut [f64],
+    ustarts: &[u32],
+    uruns: &[u32],
+    uindex: &[u16],
+    uvalues: &mut [f64],
+    d: &mut [f64],
+    work: &mut [f64],
+    marks: &mut [u32],
+) -> Factored
+    requires { ⌜ Factorable Shared (inputOf n (now starts) (now columns) (now values) (now r) (now c) (now b)) (lists (now lstarts) [] (now ustarts) (now uruns) (now uindex))
+        (written (now lvalues) (now uvalues) (now d) (now work) (now marks)) ⌝ }
+    ensures { λ a. ⌜ FactoredAs Shared (inputOf n (now (starts .entry)) (now (columns .entry)) (now (values .entry)) (now (r .entry)) (now (c .entry)) (now (b .entry))) a
+        (now (lvalues .exit)) (now (uvalues .exit)) (now (d .exit)) (drop (n + n) (now (work .exit))) ⌝ }
+{
+    factor_in(
+        Form::Shared,
+        n,
+        starts,
+        columns,
+        values,
+        r,
+        c,
+        b,
+        lstarts,
+        &columns[..0],
+        lvalues,
+        ustarts,
+        uruns,
+        uindex,
+        uvalues,
+        d,
+        work,
+        marks,
+    )
+}
+
+pub fn factor_row(
+    n: usize,
+    starts: &[u32],
+    columns: &[u16],
+    values: &[f64],
+    r: &[u16],
+    c: &[u16],
+    b: &[f64],
+    ustarts: &[u32],
+    uruns: &[u32],
+    uindex: &[u16],
+    uvalues: &mut [f64],
+    d: &mut [f64],
+    work: &mut [f64],
+    marks: &mut [u32],
+) -> Factored
+    requires { ⌜ Factorable ByRow (inputOf n (now starts) (now columns) (now values) (now r) (now c) (now b)) (lists [] [] (now ustarts) (now uruns) (now uindex))
+        (written [] (now uvalues) (now d) (now work) (now marks)) ⌝ }
+    ensures { λ a. ⌜ FactoredAs ByRow (inputOf n (now (starts .entry)) (now (columns .entry)) (now (values .entry)) (now (r .entry)) (now (c .entry)) (now (b .entry))) a
+        [] (now (uvalues .exit)) (now (d .exit)) (drop (n + n) (now (work .exit))) ⌝ }
+{
+    // The row form keeps no L.
+    let mut none = [0.0; 1];
+    factor_in(
+        Form::ByRow,
+        n,
+        starts,
+        columns,
+        values,
+        r,
+        c,
+        b,
+        &starts[..0],
+        &columns[..0],
+        &mut none[..0],
+        ustarts,
+        uruns,
+        uindex,
+        uvalues,
+        d,
+        work,
+        marks,
+    )
 }

@@ -6,7 +6,6 @@ use lib.ListN.{length}
 use mathlib.Core.List.{List}
 use mathlib.Core.Path.{sym, subst}
 use denote.Ref.{now}
-use native.Mathlib.Omega.{arith}
 use borrow.Author.Needs.{needs}
 use Rattle.factor.proofs.close_at.Statement.{statement}
 use Rattle.factor.proofs.close_at.Tie as tie

@@ -1,12 +1,10 @@
 use borrow.Author.Needs.{needs}
 use native.Mathlib.Omega.{arith}
-use native.Mathlib.Numerals.{add-one}
-use native.Mathlib.Nat.{add-assoc}
 use mathlib.Core.Path.{_≡_, refl, sym, _∙_}
-use Prim.Native.Nat.{ℕ, _+_, _-_, _≤_}
+use Prim.Native.Nat.{_+_, _-_, _≤_}
 use denote.Ref.{now}
-use lib.ListN.{length, drop, drop-of-length-le, length-set}
-use lib.Seq.{sets, drop-cons}
+use lib.ListN.{length, drop, length-set}
+use lib.Seq.{sets}
 use Rattle.factor.proofs.copy_list.Statement.{statement}
 use Rattle.factor.proofs.copy_list.Tie as tie
 use Rattle.factor.proofs.copy_list.Reads as reads

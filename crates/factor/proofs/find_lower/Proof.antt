@@ -48,9 +48,13 @@ renew-cuts-requires c κs =
     let l = c .before .before .before .before .before .before .before .before .before .before .before .load-row-place in
     let q = c .before .before .before .before .before .before .before .close-place in
     let p = c .before .before .before .list-place in
-    let r = room-kept (s .args .n) (l .last .0) (q .last .0) (q .kept .0) (room-kept (s .args .n) (now (s .args .marks)) (l .last .0) (l .kept .0) (F .room)) in
-    (F .store .read, ((F .place, base-at _, room-kept (s .args .n) (q .last .0) (p .last .0) (p .kept .0) r),
-    cut-blocks F (l .ensures) (l .kept .0) (q .ensures) (q .kept .0) (p .ensures) (p .kept .0)))
+    let r = room-kept (s .args .n) (l .last .0) (q .last .0) (q .kept .0) (room-kept (s .args .n) (now (s .args .marks)) (l .last .0) (l .kept .0) (F .room)) in (
+      F .store .read,
+      (
+        (F .place, base-at _, room-kept (s .args .n) (q .last .0) (p .last .0) (p .kept .0) r),
+        cut-blocks F (l .ensures) (l .kept .0) (q .ensures) (q .kept .0) (p .ensures) (p .kept .0),
+      ),
+    )
 
 same-length : tie.Need-same-length
 same-length c = search needs

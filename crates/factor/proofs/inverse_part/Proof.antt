@@ -1,6 +1,5 @@
 use denote.Ref.{now}
 use Rattle.factor.proofs.Parts.{part-from}
-use native.Mathlib.Omega.{arith}
 use borrow.Author.Needs.{needs}
 use Rattle.factor.proofs.inverse_part.Statement.{statement}
 use Rattle.factor.proofs.inverse_part.Tie as tie

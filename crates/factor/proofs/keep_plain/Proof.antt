@@ -8,7 +8,6 @@ use lib.ListN.{length, take}
 use mathlib.Core.List.{List}
 use mathlib.Core.Path.{_∙_, ap₂}
 use denote.Ref.{now}
-use native.Mathlib.Omega.{arith}
 use borrow.Author.Needs.{needs}
 use Rattle.factor.proofs.keep_plain.Statement.{statement}
 use Rattle.factor.proofs.keep_plain.Tie as tie

@@ -1,7 +1,6 @@
 use Prim.Native.Nat.{_*_}
 use denote.Ref.{now}
 use Rattle.factor.proofs.Parts.{part-from}
-use native.Mathlib.Omega.{arith}
 use borrow.Author.Needs.{needs}
 use Rattle.factor.proofs.lower_part.Statement.{statement}
 use Rattle.factor.proofs.lower_part.Tie as tie

@@ -2,7 +2,6 @@ use Rattle.base.specs.Lists.{rowOf}
 use mathlib.Core.Path.{_∙_, ap}
 use denote.Ref.{now}
 use Rattle.factor.proofs.Parts.{own-list}
-use native.Mathlib.Omega.{arith}
 use borrow.Author.Needs.{needs}
 use Rattle.factor.proofs.own_columns.Statement.{statement}
 use Rattle.factor.proofs.own_columns.Tie as tie

@@ -3,7 +3,6 @@ use lib.ListN.{getD}
 use Prim.Native.Nat.{ℕ}
 use mathlib.Core.Path.{ap}
 use denote.Ref.{now}
-use native.Mathlib.Omega.{arith}
 use borrow.Author.Needs.{needs}
 use Rattle.factor.proofs.own_right.Statement.{statement}
 use Rattle.factor.proofs.own_right.Tie as tie

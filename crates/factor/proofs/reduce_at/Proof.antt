@@ -3,7 +3,6 @@ use Rattle.outcome.specs.Solve.{system}
 use Rattle.matrix.specs.Input.{inputOf}
 use lib.ListN.{length}
 use denote.Ref.{now}
-use native.Mathlib.Omega.{arith}
 use borrow.Author.Needs.{needs}
 use Rattle.factor.proofs.reduce_at.Statement.{statement}
 use Rattle.factor.proofs.reduce_at.Tie as tie
