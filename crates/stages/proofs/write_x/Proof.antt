@@ -1,0 +1,17 @@
+use mathlib.Core.Path.{ap, _∙_}
+use Prim.Native.Nat.{_+_}
+use Rattle.matrix.specs.Input.{ownOrder}
+use Rattle.placing.specs.LoopLaws.{take-rest}
+use native.Mathlib.Omega.{arith}
+use borrow.Author.Needs.{needs}
+use Rattle.stages.proofs.write_x.Statement.{statement}
+use Rattle.stages.proofs.write_x.Tie as tie
+
+returns : tie.Need-returns
+returns c = let s = c .before .before .before .before .before .before .before .before .args in c .before .before .write-solution .ensures ∙ ap (ownOrder (s .c .now) (s .n)) (take-rest (s .n + s .n) (s .work .now))
+
+pub write-x-spec : {M : Type 1} → statement M
+write-x-spec =
+    tie.close
+    (tie.spec (λ c. search needs) (λ c. search needs) (λ c. search needs) (λ c. search needs) (λ c. search needs) (λ c κs. search needs)
+    (λ c. search needs) returns)

@@ -1,0 +1,6 @@
+pub mod Stages
+pub mod Shaped
+pub mod ShapedLaws
+pub mod StageLaws
+pub mod Sharing
+pub mod Branches

@@ -1,0 +1,210 @@
+-- From the tests of question 2 to the lengths, and from the lengths to what the passes ask for.
+use mathlib.Core.Path.{_≡_, refl, sym, ap, ap₂, _∙_}
+use mathlib.Core.Bool.{Bool, true, false}
+use mathlib.Core.List.{List, [], _∷_, _++_}
+use Prim.Native.Nat.{ℕ, zero, suc, _+_, _*_, _≤_}
+use native.Mathlib.Omega.{arith}
+use lib.ListN.{length}
+use lib.Dec.{leb}
+use borrow.Author.Tests.{eqb-true, leb-true}
+use Rattle.base.specs.All.{all}
+use Rattle.base.specs.AllLaws.{all-true}
+use Rattle.base.specs.Tests.{and-cases}
+use Rattle.base.specs.Answers.{andThen}
+use Rattle.fill.specs.Fill.{Pattern}
+use Rattle.matrix.specs.Limits.{maxRows, rowsWithin}
+use Rattle.matrix.specs.Input.{Input, stored}
+use Rattle.outcome.specs.Buffers.{SideSizes, Sizes, patternTests, matrixTests, listTests, scratchTests, structureTests, bufferTests}
+use Rattle.outcome.specs.Structure.{fits, askPlace, askPlaces, counts}
+use Rattle.outcome.specs.Placed.{PlacedSide}
+use Rattle.shape.specs.Join.{all-join}
+use Rattle.questions.specs.Lent.{Lent}
+use Rattle.questions.specs.Settled.{Structured}
+use Rattle.questions.specs.SettledLaws.{settled}
+use Rattle.symbolic.specs.Pass.{slotsOf, MatrixLent, PlainLent}
+use Rattle.factor.specs.Factoring.{Lists, Written, LowerPlaced}
+use Rattle.base.specs.declared.Counts.{Counts}
+use Rattle.base.specs.declared.Side.the-variants.{Upper}
+use Rattle.base.specs.declared.Form.{Form}
+use Rattle.base.specs.declared.Form.the-variants.{Plain, Shared, ByRow}
+use Rattle.stages.specs.Shaped.{numberSizes, vectorSizes, plainSizes, SideFits, LowerFits, StructureShaped, SolveShaped, pattern, SolveDue, FactorDue, SolutionDue}
+
+-- ---- the lengths, from the tests
+
+pub rows-few : (n : ℕ) (b : Bool) → b ≡ rowsWithin n → b ≡ true → n ≤ maxRows
+rows-few n b e t = leb-true n maxRows (and-cases (leb 1 n) (leb n maxRows) (sym e ∙ t) .1)
+
+split : (a b : List Bool) → all (a ++ b) ≡ true → (all a ≡ true) × (all b ≡ true)
+split a b e = and-cases (all a) (all b) (sym (all-join a b) ∙ e)
+
+sides-fit : (f : Form) (n : ℕ) (z : Sizes) → all (listTests f n z) ≡ true → LowerFits f n (z .lower) × SideFits f n (z .upper)
+sides-fit Plain n z e =
+    let t = all-true (listTests Plain n z) e in (
+      record { starts = eqb-true _ _ (t 0); index = leb-true _ _ (t 1); values = leb-true _ _ (t 2); runs = tt },
+      record { starts = eqb-true _ _ (t 3); index = leb-true _ _ (t 4); values = leb-true _ _ (t 5); runs = tt },
+    )
+sides-fit Shared n z e =
+    let t = all-true (listTests Shared n z) e in (
+      record { starts = eqb-true _ _ (t 0); index = leb-true _ _ (t 1); values = leb-true _ _ (t 2); runs = eqb-true _ _ (t 3) },
+      record { starts = eqb-true _ _ (t 4); index = leb-true _ _ (t 5); values = leb-true _ _ (t 6); runs = eqb-true _ _ (t 7) },
+    )
+sides-fit ByRow n z e =
+    let t = all-true (listTests ByRow n z) e in (
+      tt,
+      record { starts = eqb-true _ _ (t 0); index = leb-true _ _ (t 1); values = leb-true _ _ (t 2); runs = eqb-true _ _ (t 3) },
+    )
+
+module _ (f : Form) (i : Input) (z : Sizes) (w : rowsWithin (i .n) ≡ true) where
+  shaped-by : all (patternTests i) ≡ true → all (listTests f (i .n) z) ≡ true → all (scratchTests (i .n) z) ≡ true → StructureShaped f i z
+  shaped-by a b c =
+      let rows = and-cases (leb 1 (i .n)) (leb (i .n) maxRows) w in
+      let p = all-true (patternTests i) a in
+      let l = sides-fit f (i .n) z b in
+      let s = all-true (scratchTests (i .n) z) c in
+      record {
+        some = leb-true _ _ (rows .0);
+        few = leb-true _ _ (rows .1);
+        starts = eqb-true _ _ (p 0);
+        columns = leb-true _ _ (p 1);
+        row-order = eqb-true _ _ (p 2);
+        column-order = eqb-true _ _ (p 3);
+        lower = l .0;
+        upper = l .1;
+        work = eqb-true _ _ (s 0);
+        marks = eqb-true _ _ (s 1);
+      }
+
+  pub structure-shaped : all (patternTests i ++ structureTests f (i .n) z) ≡ true → StructureShaped f i z
+  structure-shaped e =
+      let a = split (patternTests i) (structureTests f (i .n) z) e in
+      let b = split (listTests f (i .n) z) (scratchTests (i .n) z) (a .1) in
+      shaped-by (a .0) (b .0) (b .1)
+
+  pub solve-shaped : all (matrixTests i ++ bufferTests f (i .n) z) ≡ true → SolveShaped f i z
+  solve-shaped e =
+      let a = split (matrixTests i) (bufferTests f (i .n) z) e in
+      let m = split (patternTests i) (numberSizes (i .n) (length (i .columns)) (length (i .values)) (length (i .b))) (a .0) in
+      let v = split (listTests f (i .n) z ++ vectorSizes (i .n) (z .d) (z .x)) (scratchTests (i .n) z) (a .1) in
+      let l = split (listTests f (i .n) z) (vectorSizes (i .n) (z .d) (z .x)) (v .0) in
+      let g = shaped-by (m .0) (l .0) (v .1) in
+      let p = all-true (numberSizes (i .n) (length (i .columns)) (length (i .values)) (length (i .b))) (m .1) in
+      let q = all-true (vectorSizes (i .n) (z .d) (z .x)) (l .1) in
+      record {
+        structure = record {
+          some = g .some;
+          few = g .few;
+          starts = g .starts;
+          columns = g .columns;
+          row-order = g .row-order;
+          column-order = g .column-order;
+          lower = g .lower;
+          upper = g .upper;
+          work = g .work;
+          marks = g .marks;
+        };
+        values = eqb-true _ _ (p 0);
+        right = eqb-true _ _ (p 1);
+        reciprocals = eqb-true _ _ (q 0);
+        solution = eqb-true _ _ (q 1);
+      }
+
+-- the marks were written to
+pub shaped-again : (f : Form) (i : Input) (l u : SideSizes) (d x w m m₁ : ℕ) → m₁ ≡ m
+    → StructureShaped f i (record { lower = l; upper = u; d = d; x = x; work = w; marks = m }) → StructureShaped f i (record { lower = l; upper = u; d = d; x = x; work = w; marks = m₁ })
+shaped-again f i l u d x w m m₁ e h = rw e h
+
+pub solve-again : (f : Form) (i : Input) (l u : SideSizes) (d x w m m₁ : ℕ) → m₁ ≡ m
+    → SolveShaped f i (record { lower = l; upper = u; d = d; x = x; work = w; marks = m }) → SolveShaped f i (record { lower = l; upper = u; d = d; x = x; work = w; marks = m₁ })
+solve-again f i l u d x w m m₁ e h = rw e h
+
+-- ---- what the questions and the structure pass ask for
+
+module _ (f : Form) (i : Input) (z : Sizes) (h : StructureShaped f i z) where
+  pub lent-of : Lent (i .n) (i .starts) (i .columns) (i .r) (i .c) (z .marks)
+  lent-of = record {
+    orders = record { few = h .few; row-order = h .row-order; column-order = h .column-order; slots = omega (arith, h .marks) };
+    starts = h .starts;
+    columns = h .columns;
+  }
+
+  pub matrix-lent : Structured i → MatrixLent i (z .marks)
+  matrix-lent g = record {
+    some = h .some;
+    few = h .few;
+    structured = g;
+    starts-size = h .starts;
+    entries = h .columns;
+    rows-size = h .row-order;
+    columns-size = h .column-order;
+    scratch = h .marks;
+  }
+
+pub plain-lent : (i : Input) (ls li us ui : List ℕ) (lv uv d x w m : ℕ) → StructureShaped Plain i (plainSizes (length ls) (length li) lv (length us) (length ui) uv d x w m) → Structured i
+    → PlainLent i ls li lv us ui uv m
+plain-lent i ls li us ui lv uv d x w m h g = record {
+  matrix = matrix-lent Plain i (plainSizes (length ls) (length li) lv (length us) (length ui) uv d x w m) h g;
+  lower = record { starts-size = h .lower .starts; runs-size = h .lower .starts; slots-fit = h .lower .index; values-fit = h .lower .values };
+  upper = record { starts-size = h .upper .starts; runs-size = h .upper .starts; slots-fit = h .upper .index; values-fit = h .upper .values };
+}
+
+-- a solve's matrix, for the structure pass
+pub pattern-structured : (i : Input) → Structured i → Structured (pattern i)
+pattern-structured i g = record {
+  readable = record { rows = g .readable .rows; columns = g .readable .columns; row-order = g .readable .row-order; column-order = g .readable .column-order };
+  entered = g .entered;
+  distinct = g .distinct;
+}
+
+-- ---- what the arithmetic asks for
+
+pub factor-due : (f : Form) (i : Input) (z : Sizes) (l : Lists) (w : Written) (x : ℕ) (k : Counts) → SolveDue f i z → length (w .marks) ≡ z .marks → length (w .d) ≡ z .d → length (w .work) ≡ z .work
+    → x ≡ z .x → LowerPlaced f (stored i) (i .n) l (w .lower) → PlacedSide f Upper (stored i) (i .n) (l .upper-starts) (l .upper-runs) (l .upper-index) (length (w .upper)) → k ≡ counts i
+    → FactorDue f i l w x k
+factor-due f i z l w x k h em ed ew ex low up c =
+    let g = h .shaped in
+    let s = g .structure in
+    record {
+      ready = record {
+        lent = record {
+          lent = record {
+            orders = record { few = s .few; row-order = s .row-order; column-order = s .column-order; slots = omega (arith, em, s .marks) };
+            starts = s .starts;
+            columns = s .columns;
+          };
+          values = g .values;
+          right = g .right;
+        };
+        settled = settled i (h .passed);
+        lower-side = low;
+        upper-side = up;
+        reciprocals = ed ∙ g .reciprocals;
+        scratch = omega (arith, ew, s .work);
+        slots = omega (arith, em, s .marks);
+      };
+      solution = ex ∙ g .solution;
+      counts-are = c;
+    }
+
+pub solution-due : (f : Form) (i : Input) (l : Lists) (w : Written) (x work : ℕ) (k : Counts) → FactorDue f i l w x k → work ≡ length (w .work) → SolutionDue (i .n) (i .c) work x
+solution-due f i l w x work k h e = record {
+  few = h .ready .lent .lent .orders .few;
+  scratch = e ∙ h .ready .scratch;
+  size = h .ready .lent .lent .orders .column-order;
+  to = h .solution;
+  order = h .ready .settled .structured .readable .column-order;
+}
+
+-- ---- 9 to 11 look at index and value stores only
+
+abbrev pub slots : Sizes → Sizes
+slots z = slotsOf (z .lower .index) (z .lower .values) (z .upper .index) (z .upper .values)
+
+module _ (f : Form) (P : Pattern) (n : ℕ) (z : Sizes) where
+  place-slots : (k : ℕ) → askPlace f P n z k ≡ askPlace f P n (slots z) k
+  unfolding askPlace fits
+  place-slots k = refl
+
+  pub places-slots : (k : ℕ) → askPlaces f P n z k ≡ askPlaces f P n (slots z) k
+  unfolding askPlaces
+  places-slots zero = refl
+  places-slots (suc k) = ap₂ andThen (places-slots k) (place-slots k)

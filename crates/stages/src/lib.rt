@@ -1,0 +1,107 @@
+// What the calls share: zeros, 12 and 13, and the solution. The stages of a call, and what its questions settle for them, are in specs/.
+ghost use mathlib.Core.Path.{_≡_};
+ghost use Prim.Native.Nat.{_+_};
+ghost use lib.ListN.{length, drop};
+ghost use Rattle.base.specs.Lists.{blank, nought};
+ghost use Rattle.matrix.specs.Input.{ownOrder};
+ghost use Rattle.symbolic.specs.Pass.{foundAnswer};
+ghost use Rattle.base.specs.declared.Answer.the-variants.{Refused};
+ghost use Rattle.base.specs.declared.Refusal.the-variants.{Rows, Lengths};
+ghost use Rattle.stages.specs.Shaped.{SolutionDue, faultAsked};
+ghost use Rattle.stages.specs.Branches.{isStop, isRefused, noCounts};
+use base::Answer;
+use base::Asked;
+use base::Counts;
+use base::Refusal;
+use factor::Factored;
+
+// The lists and the values of a side without run starts.
+pub fn clear_side(starts: &mut [u32], index: &mut [u16], values: &mut [f64])
+    ensures { λ _. ⌜ (now (starts .exit) ≡ blank 0 (now (starts .entry))) × (now (index .exit) ≡ blank 0 (now (index .entry))) × (now (values .exit) ≡ blank nought (now (values .entry))) ⌝ }
+{
+    base::clear_u32(starts);
+    base::clear_u16(index);
+    base::clear_f64(values);
+}
+
+pub fn clear_scratch(work: &mut [f64], marks: &mut [u32])
+    ensures { λ _. ⌜ (now (work .exit) ≡ blank nought (now (work .entry))) × (now (marks .exit) ≡ blank 0 (now (marks .entry))) ⌝ }
+{
+    base::clear_f64(work);
+    base::clear_u32(marks);
+}
+
+// 12 and 13.
+pub fn fault_of(a: Factored) -> Asked
+    ensures { λ o. ⌜ o ≡ faultAsked a ⌝ }
+{
+    match a {
+        Factored::Solved => Asked::Pass,
+        Factored::Zero(k) => Asked::Stop(Refusal::ZeroPivot(k)),
+        Factored::Overflow(k) => Asked::Stop(Refusal::Overflow(k)),
+    }
+}
+
+// z stands in the last n slots of scratch.
+pub fn write_x(n: usize, c: &[u16], work: &[f64], x: &mut [f64])
+    requires { ⌜ SolutionDue n (now c) (length (now work)) (length (now x)) ⌝ }
+    ensures { λ _. ⌜ now (x .exit) ≡ ownOrder (now (c .entry)) n (drop (n + n) (now (work .entry))) ⌝ }
+{
+    let from = n + n;
+    questions::write_solution(n, c, &work[from..], x);
+}
+
+// ---- answers by a test. The calls branch on these: a match on an answer beside all buffers is dear to prove.
+
+pub fn stops(a: Asked) -> bool
+    ensures { λ b. ⌜ b ≡ isStop a ⌝ }
+{
+    match a {
+        Asked::Pass => false,
+        Asked::Stop(_) => true,
+    }
+}
+
+pub fn refuses(a: Answer) -> bool
+    ensures { λ b. ⌜ b ≡ isRefused a ⌝ }
+{
+    match a {
+        Answer::Done(_) => false,
+        Answer::Refused(_) => true,
+    }
+}
+
+// The counts, or the refusal.
+pub fn ended_by(a: Asked, counts: Counts) -> Answer
+    ensures { λ r. ⌜ r ≡ foundAnswer a counts ⌝ }
+{
+    match a {
+        Asked::Pass => Answer::Done(counts),
+        Asked::Stop(q) => Answer::Refused(q),
+    }
+}
+
+// The refusal, where questions stop a call.
+pub fn refusal(a: Asked) -> Answer
+    ensures { λ r. ⌜ r ≡ foundAnswer a noCounts ⌝ }
+{
+    let none = Counts {
+        lower: 0,
+        upper: 0,
+        products: 0,
+    };
+    ended_by(a, none)
+}
+
+// 1 and 2.
+pub fn wrong_rows() -> Answer
+    ensures { λ r. ⌜ r ≡ Refused Rows ⌝ }
+{
+    Answer::Refused(Refusal::Rows)
+}
+
+pub fn wrong_lengths() -> Answer
+    ensures { λ r. ⌜ r ≡ Refused Lengths ⌝ }
+{
+    Answer::Refused(Refusal::Lengths)
+}
