@@ -1,4 +1,5 @@
 -- The solve in its three forms: questions 1 to 13 in order, the answer, and what every buffer holds at the end. Definitions only.
+use mathlib.Core.Path.{_≡_}
 use mathlib.Core.List.{List, [], _++_, map}
 use Prim.Native.Nat.{ℕ}
 use lib.ListN.{getD, replicate}
@@ -94,3 +95,7 @@ solve f i s =
     (stop Refused (askSolve i) (scratchCleared s)
     (stop Refused (askPlaces f (stored i) (i .n) (sizes s) (i .n)) (cleared (sizes s) (s .x))
     (concluded f i (sizes s) (s .x) (listed i))))
+
+-- what a solve's contract ensures: of the input i and the buffers s at entry, the answer a and the buffers t at exit
+abbrev pub Solves : Form → Input → Buffers → Answer → Buffers → Type 0
+Solves f i s a t = ended a t ≡ solve f i s

@@ -119,7 +119,7 @@ pub fn put_value(out: &mut [u8], at: usize, column: u64, bits: u64) -> usize
 // `refused 12 0`
 pub fn put_refused(out: &mut [u8], at: usize, number: u32, place: u32) -> usize
     requires { ⌜ at ≤ 65536 ⌝ }
-    ensures { λ r. ⌜ Written (refusedLine number place) (now (out .entry)) at (now (out .exit)) r ⌝ }
+    ensures { λ r. ⌜ Written (refusedLine number place) (now (out .entry)) at (now (out .exit)) r × (r ≤ at + 61) ⌝ }
 {
     let a = put_labelled(out, at, b"refused ", number as u64);
     let b = put_labelled(out, a, b" ", place as u64);
@@ -129,7 +129,7 @@ pub fn put_refused(out: &mut [u8], at: usize, number: u32, place: u32) -> usize
 // `too large`
 pub fn put_too_large(out: &mut [u8], at: usize) -> usize
     requires { ⌜ at ≤ 65536 ⌝ }
-    ensures { λ r. ⌜ Written tooLargeLine (now (out .entry)) at (now (out .exit)) r ⌝ }
+    ensures { λ r. ⌜ Written tooLargeLine (now (out .entry)) at (now (out .exit)) r × (r ≤ at + 10) ⌝ }
 {
     put_text(out, at, b"too large\n")
 }

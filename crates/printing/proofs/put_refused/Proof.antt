@@ -35,7 +35,10 @@ same-length c = search needs
 returns : tie.Need-returns
 unfolding refusedLine
 returns c =
-    then-written _ _ _ _ _ _ _ _ (then-written _ _ _ _ _ _ _ _ (c .before .before .before .before .before .before .before .before .before .before .before .before .put-labelled .ensures .0) (c .before .before .before .before .before .before .before .put-labelled2 .ensures .0)) (c .before .before .put-text .ensures)
+    let a = c .before .before .before .before .before .before .before .before .before .before .before .before .put-labelled .ensures in
+    let b = c .before .before .before .before .before .before .before .put-labelled2 .ensures in
+    let d = c .before .before .put-text .ensures in
+    (then-written _ _ _ _ _ _ _ _ (then-written _ _ _ _ _ _ _ _ (a .0) (b .0)) d, omega (arith, a .1, b .1, d .next))
 
 pub put-refused-spec : {M : Type 1} → statement M
 put-refused-spec =

@@ -21,8 +21,7 @@ same-length c = search needs
 
 returns : tie.Need-returns
 unfolding tooLargeLine
-returns c =
-    c .before .before .put-text .ensures
+returns c = let d = c .before .before .put-text .ensures in (d, omega (arith, d .next))
 
 pub put-too-large-spec : {M : Type 1} → statement M
 put-too-large-spec =
