@@ -1,0 +1,500 @@
+// The calls of the plain form. Their stages are in stages/specs/Stages: what is left of a call after each group of questions.
+ghost use mathlib.Core.Path.{_≡_};
+ghost use mathlib.Core.List.{[], _++_};
+ghost use Prim.Native.Nat.{_≤_};
+ghost use lib.ListN.{length};
+ghost use Rattle.base.specs.All.{all};
+ghost use Rattle.base.specs.declared.Form.{Form};
+ghost use Rattle.matrix.specs.Limits.{maxRows};
+ghost use Rattle.matrix.specs.Input.{inputOf};
+ghost use Rattle.outcome.specs.Buffers.{plainBuffers, sizes, ended, listTests, structureTests, bufferTests};
+ghost use Rattle.outcome.specs.Structure.{structure};
+ghost use Rattle.outcome.specs.Solve.{Solves};
+ghost use Rattle.factor.specs.Factoring.{lists, written};
+ghost use Rattle.stages.specs.Stages.{structureAsked, structurePlaced, solveAsked, solvePlaced, solveFactored};
+ghost use Rattle.stages.specs.Shaped.{patternSizes, numberSizes, plainSizes, StructureShaped, StructureDue, SolveShaped, SolveDue, FactorDue};
+use base::Answer;
+use base::Counts;
+
+// ---- question 2
+
+// The two sides of the plain form.
+fn plain_sides_fit(
+    n: usize,
+    lower_starts: usize,
+    lower_index: usize,
+    lower_values: usize,
+    upper_starts: usize,
+    upper_index: usize,
+    upper_values: usize,
+) -> bool
+    requires { ⌜ n ≤ maxRows ⌝ }
+    ensures { λ b. ⌜ b ≡ all (listTests Form.Plain n (plainSizes «lower_starts» «lower_index» «lower_values» «upper_starts» «upper_index» «upper_values» 0 0 0 0)) ⌝ }
+{
+    let lower = shape::side_fits(n, lower_starts, lower_index, lower_values);
+    let upper = shape::side_fits(n, upper_starts, upper_index, upper_values);
+    lower & upper
+}
+
+// A plain structure call's.
+fn structure_plain_fits(
+    n: usize,
+    starts: usize,
+    columns: usize,
+    r: usize,
+    c: usize,
+    lower_starts: usize,
+    lower_index: usize,
+    lower_values: usize,
+    upper_starts: usize,
+    upper_index: usize,
+    upper_values: usize,
+    work: usize,
+    marks: usize,
+) -> bool
+    requires { ⌜ n ≤ maxRows ⌝ }
+    ensures { λ b. ⌜ b ≡ all (patternSizes n starts columns r c ++ structureTests Form.Plain n (plainSizes «lower_starts» «lower_index» «lower_values» «upper_starts» «upper_index» «upper_values» 0 0 work marks)) ⌝ }
+{
+    let pattern = shape::pattern_fits(n, starts, columns, r, c);
+    let sides = plain_sides_fit(
+        n,
+        lower_starts,
+        lower_index,
+        lower_values,
+        upper_starts,
+        upper_index,
+        upper_values,
+    );
+    let scratch = shape::scratch_fits(n, work, marks);
+    pattern & (sides & scratch)
+}
+
+// ---- the structure in the plain form
+
+// After questions 3 to 8.
+fn structure_plain_placed(
+    n: usize,
+    starts: &[u32],
+    columns: &[u16],
+    r: &[u16],
+    c: &[u16],
+    lower_starts: &mut [u32],
+    lower_index: &mut [u16],
+    lower_values: &mut [f64],
+    upper_starts: &mut [u32],
+    upper_index: &mut [u16],
+    upper_values: &mut [f64],
+    work: &mut [f64],
+    marks: &mut [u32],
+) -> Answer
+    requires { ⌜ StructureDue Form.Plain (inputOf n (now starts) (now columns) [] (now r) (now c) []) (sizes (plainBuffers (now «lower_starts») (now «lower_index») (now «lower_values») (now «upper_starts») (now «upper_index») (now «upper_values») [] [] (now work) (now marks))) ⌝ }
+    ensures { λ a. ⌜ ended a (plainBuffers (now («lower_starts» .exit)) (now («lower_index» .exit)) (now («lower_values» .exit)) (now («upper_starts» .exit)) (now («upper_index» .exit)) (now («upper_values» .exit)) [] [] (now (work .exit)) (now (marks .exit)))
+        ≡ structurePlaced Form.Plain (inputOf n (now (starts .entry)) (now (columns .entry)) [] (now (r .entry)) (now (c .entry)) []) (plainBuffers (now («lower_starts» .entry)) (now («lower_index» .entry)) (now («lower_values» .entry)) (now («upper_starts» .entry)) (now («upper_index» .entry)) (now («upper_values» .entry)) [] [] (now (work .entry)) (now (marks .entry))) ⌝ }
+{
+    let a = symbolic::find_plain(
+        n,
+        starts,
+        columns,
+        r,
+        c,
+        lower_starts,
+        lower_index,
+        lower_values.len(),
+        upper_starts,
+        upper_index,
+        upper_values.len(),
+        marks,
+    );
+    if stages::refuses(a) {
+        stages::clear_side(lower_starts, lower_index, lower_values);
+        stages::clear_side(upper_starts, upper_index, upper_values);
+        stages::clear_scratch(work, marks);
+        return a;
+    }
+    base::clear_f64(lower_values);
+    base::clear_f64(upper_values);
+    stages::clear_scratch(work, marks);
+    a
+}
+
+// After questions 1 and 2.
+fn structure_plain_asked(
+    n: usize,
+    starts: &[u32],
+    columns: &[u16],
+    r: &[u16],
+    c: &[u16],
+    lower_starts: &mut [u32],
+    lower_index: &mut [u16],
+    lower_values: &mut [f64],
+    upper_starts: &mut [u32],
+    upper_index: &mut [u16],
+    upper_values: &mut [f64],
+    work: &mut [f64],
+    marks: &mut [u32],
+) -> Answer
+    requires { ⌜ StructureShaped Form.Plain (inputOf n (now starts) (now columns) [] (now r) (now c) []) (sizes (plainBuffers (now «lower_starts») (now «lower_index») (now «lower_values») (now «upper_starts») (now «upper_index») (now «upper_values») [] [] (now work) (now marks))) ⌝ }
+    ensures { λ a. ⌜ ended a (plainBuffers (now («lower_starts» .exit)) (now («lower_index» .exit)) (now («lower_values» .exit)) (now («upper_starts» .exit)) (now («upper_index» .exit)) (now («upper_values» .exit)) [] [] (now (work .exit)) (now (marks .exit)))
+        ≡ structureAsked Form.Plain (inputOf n (now (starts .entry)) (now (columns .entry)) [] (now (r .entry)) (now (c .entry)) []) (plainBuffers (now («lower_starts» .entry)) (now («lower_index» .entry)) (now («lower_values» .entry)) (now («upper_starts» .entry)) (now («upper_index» .entry)) (now («upper_values» .entry)) [] [] (now (work .entry)) (now (marks .entry))) ⌝ }
+{
+    let a = questions::ask_structure(n, starts, columns, r, c, marks);
+    if stages::stops(a) {
+        stages::clear_scratch(work, marks);
+        return stages::refusal(a);
+    }
+    structure_plain_placed(
+        n,
+        starts,
+        columns,
+        r,
+        c,
+        lower_starts,
+        lower_index,
+        lower_values,
+        upper_starts,
+        upper_index,
+        upper_values,
+        work,
+        marks,
+    )
+}
+
+// The fill of M' in the plain form: lower rows and T(k) one after another.
+pub fn structure_plain(
+    n: usize,
+    starts: &[u32],
+    columns: &[u16],
+    r: &[u16],
+    c: &[u16],
+    lower_starts: &mut [u32],
+    lower_index: &mut [u16],
+    lower_values: &mut [f64],
+    upper_starts: &mut [u32],
+    upper_index: &mut [u16],
+    upper_values: &mut [f64],
+    work: &mut [f64],
+    marks: &mut [u32],
+) -> Answer
+    ensures { λ a. ⌜ ended a (plainBuffers (now («lower_starts» .exit)) (now («lower_index» .exit)) (now («lower_values» .exit)) (now («upper_starts» .exit)) (now («upper_index» .exit)) (now («upper_values» .exit)) [] [] (now (work .exit)) (now (marks .exit)))
+        ≡ structure Form.Plain (inputOf n (now (starts .entry)) (now (columns .entry)) [] (now (r .entry)) (now (c .entry)) []) (plainBuffers (now («lower_starts» .entry)) (now («lower_index» .entry)) (now («lower_values» .entry)) (now («upper_starts» .entry)) (now («upper_index» .entry)) (now («upper_values» .entry)) [] [] (now (work .entry)) (now (marks .entry))) ⌝ }
+{
+    if shape::rows_within(n) {
+        if structure_plain_fits(
+            n,
+            starts.len(),
+            columns.len(),
+            r.len(),
+            c.len(),
+            lower_starts.len(),
+            lower_index.len(),
+            lower_values.len(),
+            upper_starts.len(),
+            upper_index.len(),
+            upper_values.len(),
+            work.len(),
+            marks.len(),
+        ) {
+            return structure_plain_asked(
+                n,
+                starts,
+                columns,
+                r,
+                c,
+                lower_starts,
+                lower_index,
+                lower_values,
+                upper_starts,
+                upper_index,
+                upper_values,
+                work,
+                marks,
+            );
+        }
+        return stages::wrong_lengths();
+    }
+    stages::wrong_rows()
+}
+
+// ---- the solve in the plain form
+
+// A plain solve's question 2.
+fn solve_plain_fits(
+    n: usize,
+    starts: usize,
+    columns: usize,
+    values: usize,
+    r: usize,
+    c: usize,
+    b: usize,
+    lower_starts: usize,
+    lower_index: usize,
+    lower_values: usize,
+    upper_starts: usize,
+    upper_index: usize,
+    upper_values: usize,
+    d: usize,
+    x: usize,
+    work: usize,
+    marks: usize,
+) -> bool
+    requires { ⌜ n ≤ maxRows ⌝ }
+    ensures { λ t. ⌜ t ≡ all ((patternSizes n starts columns r c ++ numberSizes n columns values b) ++ bufferTests Form.Plain n (plainSizes «lower_starts» «lower_index» «lower_values» «upper_starts» «upper_index» «upper_values» d x work marks)) ⌝ }
+{
+    let pattern = shape::pattern_fits(n, starts, columns, r, c);
+    let numbers = shape::values_fit(n, columns, values, b);
+    let sides = plain_sides_fit(
+        n,
+        lower_starts,
+        lower_index,
+        lower_values,
+        upper_starts,
+        upper_index,
+        upper_values,
+    );
+    let vectors = shape::vectors_fit(n, d, x);
+    let scratch = shape::scratch_fits(n, work, marks);
+    (pattern & numbers) & (sides & (vectors & scratch))
+}
+
+// After questions 3 to 11: the lists stand in their stores.
+fn solve_plain_factored(
+    n: usize,
+    starts: &[u32],
+    columns: &[u16],
+    values: &[f64],
+    r: &[u16],
+    c: &[u16],
+    b: &[f64],
+    lower_starts: &mut [u32],
+    lower_index: &mut [u16],
+    lower_values: &mut [f64],
+    upper_starts: &mut [u32],
+    upper_index: &mut [u16],
+    upper_values: &mut [f64],
+    d: &mut [f64],
+    x: &mut [f64],
+    work: &mut [f64],
+    marks: &mut [u32],
+    counts: Counts,
+) -> Answer
+    requires { ⌜ FactorDue Form.Plain (inputOf n (now starts) (now columns) (now values) (now r) (now c) (now b)) (lists (now «lower_starts») (now «lower_index») (now «upper_starts») (now «upper_starts») (now «upper_index»)) (written (now «lower_values») (now «upper_values») (now d) (now work) (now marks)) (length (now x)) counts ⌝ }
+    ensures { λ a. ⌜ ended a (plainBuffers (now («lower_starts» .exit)) (now («lower_index» .exit)) (now («lower_values» .exit)) (now («upper_starts» .exit)) (now («upper_index» .exit)) (now («upper_values» .exit)) (now (d .exit)) (now (x .exit)) (now (work .exit)) (now (marks .exit)))
+        ≡ solveFactored Form.Plain (inputOf n (now (starts .entry)) (now (columns .entry)) (now (values .entry)) (now (r .entry)) (now (c .entry)) (now (b .entry))) (plainBuffers (now («lower_starts» .entry)) (now («lower_index» .entry)) (now («lower_values» .entry)) (now («upper_starts» .entry)) (now («upper_index» .entry)) (now («upper_values» .entry)) (now (d .entry)) (now (x .entry)) (now (work .entry)) (now (marks .entry))) ⌝ }
+{
+    let a = factor::factor_plain(
+        n,
+        starts,
+        columns,
+        values,
+        r,
+        c,
+        b,
+        lower_starts,
+        lower_index,
+        lower_values,
+        upper_starts,
+        upper_index,
+        upper_values,
+        d,
+        work,
+        marks,
+    );
+    let fault = stages::fault_of(a);
+    if stages::stops(fault) {
+        stages::clear_side(lower_starts, lower_index, lower_values);
+        stages::clear_side(upper_starts, upper_index, upper_values);
+        base::clear_f64(d);
+        stages::clear_scratch(work, marks);
+        return stages::ended_by(fault, counts);
+    }
+    stages::write_x(n, c, work, x);
+    stages::clear_scratch(work, marks);
+    stages::ended_by(fault, counts)
+}
+
+// After questions 3 to 8.
+fn solve_plain_placed(
+    n: usize,
+    starts: &[u32],
+    columns: &[u16],
+    values: &[f64],
+    r: &[u16],
+    c: &[u16],
+    b: &[f64],
+    lower_starts: &mut [u32],
+    lower_index: &mut [u16],
+    lower_values: &mut [f64],
+    upper_starts: &mut [u32],
+    upper_index: &mut [u16],
+    upper_values: &mut [f64],
+    d: &mut [f64],
+    x: &mut [f64],
+    work: &mut [f64],
+    marks: &mut [u32],
+) -> Answer
+    requires { ⌜ SolveDue Form.Plain (inputOf n (now starts) (now columns) (now values) (now r) (now c) (now b)) (sizes (plainBuffers (now «lower_starts») (now «lower_index») (now «lower_values») (now «upper_starts») (now «upper_index») (now «upper_values») (now d) (now x) (now work) (now marks))) ⌝ }
+    ensures { λ a. ⌜ ended a (plainBuffers (now («lower_starts» .exit)) (now («lower_index» .exit)) (now («lower_values» .exit)) (now («upper_starts» .exit)) (now («upper_index» .exit)) (now («upper_values» .exit)) (now (d .exit)) (now (x .exit)) (now (work .exit)) (now (marks .exit)))
+        ≡ solvePlaced Form.Plain (inputOf n (now (starts .entry)) (now (columns .entry)) (now (values .entry)) (now (r .entry)) (now (c .entry)) (now (b .entry))) (plainBuffers (now («lower_starts» .entry)) (now («lower_index» .entry)) (now («lower_values» .entry)) (now («upper_starts» .entry)) (now («upper_index» .entry)) (now («upper_values» .entry)) (now (d .entry)) (now (x .entry)) (now (work .entry)) (now (marks .entry))) ⌝ }
+{
+    let a = symbolic::find_plain(
+        n,
+        starts,
+        columns,
+        r,
+        c,
+        lower_starts,
+        lower_index,
+        lower_values.len(),
+        upper_starts,
+        upper_index,
+        upper_values.len(),
+        marks,
+    );
+    if stages::refuses(a) {
+        stages::clear_side(lower_starts, lower_index, lower_values);
+        stages::clear_side(upper_starts, upper_index, upper_values);
+        base::clear_f64(d);
+        stages::clear_scratch(work, marks);
+        return a;
+    }
+    let counts = a.counts();
+    solve_plain_factored(
+        n,
+        starts,
+        columns,
+        values,
+        r,
+        c,
+        b,
+        lower_starts,
+        lower_index,
+        lower_values,
+        upper_starts,
+        upper_index,
+        upper_values,
+        d,
+        x,
+        work,
+        marks,
+        counts,
+    )
+}
+
+// After questions 1 and 2.
+fn solve_plain_asked(
+    n: usize,
+    starts: &[u32],
+    columns: &[u16],
+    values: &[f64],
+    r: &[u16],
+    c: &[u16],
+    b: &[f64],
+    lower_starts: &mut [u32],
+    lower_index: &mut [u16],
+    lower_values: &mut [f64],
+    upper_starts: &mut [u32],
+    upper_index: &mut [u16],
+    upper_values: &mut [f64],
+    d: &mut [f64],
+    x: &mut [f64],
+    work: &mut [f64],
+    marks: &mut [u32],
+) -> Answer
+    requires { ⌜ SolveShaped Form.Plain (inputOf n (now starts) (now columns) (now values) (now r) (now c) (now b)) (sizes (plainBuffers (now «lower_starts») (now «lower_index») (now «lower_values») (now «upper_starts») (now «upper_index») (now «upper_values») (now d) (now x) (now work) (now marks))) ⌝ }
+    ensures { λ a. ⌜ ended a (plainBuffers (now («lower_starts» .exit)) (now («lower_index» .exit)) (now («lower_values» .exit)) (now («upper_starts» .exit)) (now («upper_index» .exit)) (now («upper_values» .exit)) (now (d .exit)) (now (x .exit)) (now (work .exit)) (now (marks .exit)))
+        ≡ solveAsked Form.Plain (inputOf n (now (starts .entry)) (now (columns .entry)) (now (values .entry)) (now (r .entry)) (now (c .entry)) (now (b .entry))) (plainBuffers (now («lower_starts» .entry)) (now («lower_index» .entry)) (now («lower_values» .entry)) (now («upper_starts» .entry)) (now («upper_index» .entry)) (now («upper_values» .entry)) (now (d .entry)) (now (x .entry)) (now (work .entry)) (now (marks .entry))) ⌝ }
+{
+    let a = questions::ask_solve(n, starts, columns, values, r, c, b, marks);
+    if stages::stops(a) {
+        stages::clear_scratch(work, marks);
+        return stages::refusal(a);
+    }
+    solve_plain_placed(
+        n,
+        starts,
+        columns,
+        values,
+        r,
+        c,
+        b,
+        lower_starts,
+        lower_index,
+        lower_values,
+        upper_starts,
+        upper_index,
+        upper_values,
+        d,
+        x,
+        work,
+        marks,
+    )
+}
+
+// Structure, factors and x in the plain form.
+pub fn solve_plain(
+    n: usize,
+    starts: &[u32],
+    columns: &[u16],
+    values: &[f64],
+    r: &[u16],
+    c: &[u16],
+    b: &[f64],
+    lower_starts: &mut [u32],
+    lower_index: &mut [u16],
+    lower_values: &mut [f64],
+    upper_starts: &mut [u32],
+    upper_index: &mut [u16],
+    upper_values: &mut [f64],
+    d: &mut [f64],
+    x: &mut [f64],
+    work: &mut [f64],
+    marks: &mut [u32],
+) -> Answer
+    ensures { λ a. ⌜ Solves Form.Plain (inputOf n (now (starts .entry)) (now (columns .entry)) (now (values .entry)) (now (r .entry)) (now (c .entry)) (now (b .entry)))
+        (plainBuffers (now («lower_starts» .entry)) (now («lower_index» .entry)) (now («lower_values» .entry)) (now («upper_starts» .entry)) (now («upper_index» .entry)) (now («upper_values» .entry)) (now (d .entry)) (now (x .entry)) (now (work .entry)) (now (marks .entry)))
+        a (plainBuffers (now («lower_starts» .exit)) (now («lower_index» .exit)) (now («lower_values» .exit)) (now («upper_starts» .exit)) (now («upper_index» .exit)) (now («upper_values» .exit)) (now (d .exit)) (now (x .exit)) (now (work .exit)) (now (marks .exit))) ⌝ }
+{
+    if shape::rows_within(n) {
+        if solve_plain_fits(
+            n,
+            starts.len(),
+            columns.len(),
+            values.len(),
+            r.len(),
+            c.len(),
+            b.len(),
+            lower_starts.len(),
+            lower_index.len(),
+            lower_values.len(),
+            upper_starts.len(),
+            upper_index.len(),
+            upper_values.len(),
+            d.len(),
+            x.len(),
+            work.len(),
+            marks.len(),
+        ) {
+            return solve_plain_asked(
+                n,
+                starts,
+                columns,
+                values,
+                r,
+                c,
+                b,
+                lower_starts,
+                lower_index,
+                lower_values,
+                upper_starts,
+                upper_index,
+                upper_values,
+                d,
+                x,
+                work,
+                marks,
+            );
+        }
+        return stages::wrong_lengths();
+    }
+    stages::wrong_rows()
+}
