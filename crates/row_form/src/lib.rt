@@ -1,0 +1,330 @@
+// The solve in the row form. Its stages are in stages/specs/Stages: what is left of a call after each group of questions.
+ghost use mathlib.Core.Path.{_≡_};
+ghost use mathlib.Core.List.{List, [], _++_};
+ghost use Prim.Native.Nat.{_≤_};
+ghost use lib.ListN.{length};
+ghost use lib.Ieee.{Float};
+ghost use Rattle.base.specs.All.{all};
+ghost use Rattle.base.specs.declared.Form.{Form};
+ghost use Rattle.matrix.specs.Limits.{maxRows};
+ghost use Rattle.matrix.specs.Input.{inputOf};
+ghost use Rattle.outcome.specs.Buffers.{rowBuffers, sizes, cleared, ended, bufferTests};
+ghost use Rattle.outcome.specs.Solve.{Solves};
+ghost use Rattle.factor.specs.Factoring.{lists, written};
+ghost use Rattle.stages.specs.Stages.{solveAsked, solvePlaced, solveFactored};
+ghost use Rattle.stages.specs.Shaped.{patternSizes, numberSizes, SolveShaped, SolveDue, FactorDue};
+ghost use Rattle.row_form.specs.Sizes.{rowSizes};
+use base::Answer;
+use base::Counts;
+
+// Question 2.
+fn solve_row_fits(
+    n: usize,
+    starts: usize,
+    columns: usize,
+    values: usize,
+    r: usize,
+    c: usize,
+    b: usize,
+    upper_starts: usize,
+    upper_runs: usize,
+    upper_index: usize,
+    upper_values: usize,
+    d: usize,
+    x: usize,
+    work: usize,
+    marks: usize,
+) -> bool
+    requires { ⌜ n ≤ maxRows ⌝ }
+    ensures { λ t. ⌜ t ≡ all ((patternSizes n starts columns r c ++ numberSizes n columns values b) ++ bufferTests Form.ByRow n (rowSizes «upper_starts» «upper_runs» «upper_index» «upper_values» d x work marks)) ⌝ }
+{
+    let pattern = shape::pattern_fits(n, starts, columns, r, c);
+    let numbers = shape::values_fit(n, columns, values, b);
+    let side = shape::runs_fit(n, upper_starts, upper_index, upper_values, upper_runs);
+    let vectors = shape::vectors_fit(n, d, x);
+    let scratch = shape::scratch_fits(n, work, marks);
+    (pattern & numbers) & (side & (vectors & scratch))
+}
+
+// All that is written but x.
+fn clear_all(
+    upper_starts: &mut [u32],
+    upper_runs: &mut [u32],
+    upper_index: &mut [u16],
+    upper_values: &mut [f64],
+    d: &mut [f64],
+    work: &mut [f64],
+    marks: &mut [u32],
+)
+    ensures { λ _. ⌜ ((x : List Float) → rowBuffers (now («upper_starts» .exit)) (now («upper_runs» .exit)) (now («upper_index» .exit)) (now («upper_values» .exit)) (now (d .exit)) x (now (work .exit)) (now (marks .exit)) ≡ cleared (sizes (rowBuffers (now («upper_starts» .entry)) (now («upper_runs» .entry)) (now («upper_index» .entry)) (now («upper_values» .entry)) (now (d .entry)) x (now (work .entry)) (now (marks .entry)))) x) ⌝ }
+{
+    stages::clear_side(upper_starts, upper_index, upper_values);
+    base::clear_u32(upper_runs);
+    base::clear_f64(d);
+    stages::clear_scratch(work, marks);
+}
+
+// 12 and 13, and x. The factors are left behind.
+fn row_arithmetic(
+    n: usize,
+    starts: &[u32],
+    columns: &[u16],
+    values: &[f64],
+    r: &[u16],
+    c: &[u16],
+    b: &[f64],
+    upper_starts: &[u32],
+    upper_runs: &[u32],
+    upper_index: &[u16],
+    upper_values: &mut [f64],
+    d: &mut [f64],
+    x: &mut [f64],
+    work: &mut [f64],
+    marks: &mut [u32],
+    counts: Counts,
+) -> Answer
+    requires { ⌜ FactorDue Form.ByRow (inputOf n (now starts) (now columns) (now values) (now r) (now c) (now b)) (lists [] [] (now «upper_starts») (now «upper_runs») (now «upper_index»)) (written [] (now «upper_values») (now d) (now work) (now marks)) (length (now x)) counts ⌝ }
+    ensures { λ a. ⌜ ended a (cleared (sizes (rowBuffers (now («upper_starts» .entry)) (now («upper_runs» .entry)) (now («upper_index» .entry)) (now («upper_values» .entry)) (now (d .entry)) (now (x .entry)) (now (work .entry)) (now (marks .entry)))) (now (x .exit)))
+        ≡ solveFactored Form.ByRow (inputOf n (now (starts .entry)) (now (columns .entry)) (now (values .entry)) (now (r .entry)) (now (c .entry)) (now (b .entry))) (rowBuffers (now («upper_starts» .entry)) (now («upper_runs» .entry)) (now («upper_index» .entry)) (now («upper_values» .entry)) (now (d .entry)) (now (x .entry)) (now (work .entry)) (now (marks .entry))) ⌝ }
+{
+    let a = factor::factor_row(
+        n,
+        starts,
+        columns,
+        values,
+        r,
+        c,
+        b,
+        upper_starts,
+        upper_runs,
+        upper_index,
+        upper_values,
+        d,
+        work,
+        marks,
+    );
+    let fault = stages::fault_of(a);
+    if stages::stops(fault) {
+        return stages::ended_by(fault, counts);
+    }
+    stages::write_x(n, c, work, x);
+    stages::ended_by(fault, counts)
+}
+
+// 9 to 13, and x. Structure and factors are left behind.
+fn row_work(
+    n: usize,
+    starts: &[u32],
+    columns: &[u16],
+    values: &[f64],
+    r: &[u16],
+    c: &[u16],
+    b: &[f64],
+    upper_starts: &mut [u32],
+    upper_runs: &mut [u32],
+    upper_index: &mut [u16],
+    upper_values: &mut [f64],
+    d: &mut [f64],
+    x: &mut [f64],
+    work: &mut [f64],
+    marks: &mut [u32],
+) -> Answer
+    requires { ⌜ SolveDue Form.ByRow (inputOf n (now starts) (now columns) (now values) (now r) (now c) (now b)) (sizes (rowBuffers (now «upper_starts») (now «upper_runs») (now «upper_index») (now «upper_values») (now d) (now x) (now work) (now marks))) ⌝ }
+    ensures { λ a. ⌜ ended a (cleared (sizes (rowBuffers (now («upper_starts» .entry)) (now («upper_runs» .entry)) (now («upper_index» .entry)) (now («upper_values» .entry)) (now (d .entry)) (now (x .entry)) (now (work .entry)) (now (marks .entry)))) (now (x .exit)))
+        ≡ solvePlaced Form.ByRow (inputOf n (now (starts .entry)) (now (columns .entry)) (now (values .entry)) (now (r .entry)) (now (c .entry)) (now (b .entry))) (rowBuffers (now («upper_starts» .entry)) (now («upper_runs» .entry)) (now («upper_index» .entry)) (now («upper_values» .entry)) (now (d .entry)) (now (x .entry)) (now (work .entry)) (now (marks .entry))) ⌝ }
+{
+    let a = symbolic::find_row(
+        n,
+        starts,
+        columns,
+        r,
+        c,
+        upper_starts,
+        upper_runs,
+        upper_index,
+        upper_values.len(),
+        marks,
+    );
+    if stages::refuses(a) {
+        return a;
+    }
+    let counts = a.counts();
+    row_arithmetic(
+        n,
+        starts,
+        columns,
+        values,
+        r,
+        c,
+        b,
+        upper_starts,
+        upper_runs,
+        upper_index,
+        upper_values,
+        d,
+        x,
+        work,
+        marks,
+        counts,
+    )
+}
+
+// After questions 3 to 8.
+fn solve_row_placed(
+    n: usize,
+    starts: &[u32],
+    columns: &[u16],
+    values: &[f64],
+    r: &[u16],
+    c: &[u16],
+    b: &[f64],
+    upper_starts: &mut [u32],
+    upper_runs: &mut [u32],
+    upper_index: &mut [u16],
+    upper_values: &mut [f64],
+    d: &mut [f64],
+    x: &mut [f64],
+    work: &mut [f64],
+    marks: &mut [u32],
+) -> Answer
+    requires { ⌜ SolveDue Form.ByRow (inputOf n (now starts) (now columns) (now values) (now r) (now c) (now b)) (sizes (rowBuffers (now «upper_starts») (now «upper_runs») (now «upper_index») (now «upper_values») (now d) (now x) (now work) (now marks))) ⌝ }
+    ensures { λ a. ⌜ ended a (rowBuffers (now («upper_starts» .exit)) (now («upper_runs» .exit)) (now («upper_index» .exit)) (now («upper_values» .exit)) (now (d .exit)) (now (x .exit)) (now (work .exit)) (now (marks .exit)))
+        ≡ solvePlaced Form.ByRow (inputOf n (now (starts .entry)) (now (columns .entry)) (now (values .entry)) (now (r .entry)) (now (c .entry)) (now (b .entry))) (rowBuffers (now («upper_starts» .entry)) (now («upper_runs» .entry)) (now («upper_index» .entry)) (now («upper_values» .entry)) (now (d .entry)) (now (x .entry)) (now (work .entry)) (now (marks .entry))) ⌝ }
+{
+    let a = row_work(
+        n,
+        starts,
+        columns,
+        values,
+        r,
+        c,
+        b,
+        upper_starts,
+        upper_runs,
+        upper_index,
+        upper_values,
+        d,
+        x,
+        work,
+        marks,
+    );
+    clear_all(
+        upper_starts,
+        upper_runs,
+        upper_index,
+        upper_values,
+        d,
+        work,
+        marks,
+    );
+    a
+}
+
+// After questions 1 and 2.
+fn solve_row_asked(
+    n: usize,
+    starts: &[u32],
+    columns: &[u16],
+    values: &[f64],
+    r: &[u16],
+    c: &[u16],
+    b: &[f64],
+    upper_starts: &mut [u32],
+    upper_runs: &mut [u32],
+    upper_index: &mut [u16],
+    upper_values: &mut [f64],
+    d: &mut [f64],
+    x: &mut [f64],
+    work: &mut [f64],
+    marks: &mut [u32],
+) -> Answer
+    requires { ⌜ SolveShaped Form.ByRow (inputOf n (now starts) (now columns) (now values) (now r) (now c) (now b)) (sizes (rowBuffers (now «upper_starts») (now «upper_runs») (now «upper_index») (now «upper_values») (now d) (now x) (now work) (now marks))) ⌝ }
+    ensures { λ a. ⌜ ended a (rowBuffers (now («upper_starts» .exit)) (now («upper_runs» .exit)) (now («upper_index» .exit)) (now («upper_values» .exit)) (now (d .exit)) (now (x .exit)) (now (work .exit)) (now (marks .exit)))
+        ≡ solveAsked Form.ByRow (inputOf n (now (starts .entry)) (now (columns .entry)) (now (values .entry)) (now (r .entry)) (now (c .entry)) (now (b .entry))) (rowBuffers (now («upper_starts» .entry)) (now («upper_runs» .entry)) (now («upper_index» .entry)) (now («upper_values» .entry)) (now (d .entry)) (now (x .entry)) (now (work .entry)) (now (marks .entry))) ⌝ }
+{
+    let a = questions::ask_solve(n, starts, columns, values, r, c, b, marks);
+    if stages::stops(a) {
+        stages::clear_scratch(work, marks);
+        return stages::refusal(a);
+    }
+    solve_row_placed(
+        n,
+        starts,
+        columns,
+        values,
+        r,
+        c,
+        b,
+        upper_starts,
+        upper_runs,
+        upper_index,
+        upper_values,
+        d,
+        x,
+        work,
+        marks,
+    )
+}
+
+// x in the row form: only the upper side is kept, and zeroed at the end.
+pub fn solve_row(
+    n: usize,
+    starts: &[u32],
+    columns: &[u16],
+    values: &[f64],
+    r: &[u16],
+    c: &[u16],
+    b: &[f64],
+    upper_starts: &mut [u32],
+    upper_runs: &mut [u32],
+    upper_index: &mut [u16],
+    upper_values: &mut [f64],
+    d: &mut [f64],
+    x: &mut [f64],
+    work: &mut [f64],
+    marks: &mut [u32],
+) -> Answer
+    ensures { λ a. ⌜ Solves Form.ByRow (inputOf n (now (starts .entry)) (now (columns .entry)) (now (values .entry)) (now (r .entry)) (now (c .entry)) (now (b .entry)))
+        (rowBuffers (now («upper_starts» .entry)) (now («upper_runs» .entry)) (now («upper_index» .entry)) (now («upper_values» .entry)) (now (d .entry)) (now (x .entry)) (now (work .entry)) (now (marks .entry)))
+        a (rowBuffers (now («upper_starts» .exit)) (now («upper_runs» .exit)) (now («upper_index» .exit)) (now («upper_values» .exit)) (now (d .exit)) (now (x .exit)) (now (work .exit)) (now (marks .exit))) ⌝ }
+{
+    if shape::rows_within(n) {
+        if solve_row_fits(
+            n,
+            starts.len(),
+            columns.len(),
+            values.len(),
+            r.len(),
+            c.len(),
+            b.len(),
+            upper_starts.len(),
+            upper_runs.len(),
+            upper_index.len(),
+            upper_values.len(),
+            d.len(),
+            x.len(),
+            work.len(),
+            marks.len(),
+        ) {
+            return solve_row_asked(
+                n,
+                starts,
+                columns,
+                values,
+                r,
+                c,
+                b,
+                upper_starts,
+                upper_runs,
+                upper_index,
+                upper_values,
+                d,
+                x,
+                work,
+                marks,
+            );
+        }
+        return stages::wrong_lengths();
+    }
+    stages::wrong_rows()
+}
