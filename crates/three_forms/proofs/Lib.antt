@@ -1,0 +1,2 @@
+pub mod FormsAgree
+pub mod Witness
