@@ -78,18 +78,6 @@ static void plain_form(void)
     expect_counts("counts of the plain form");
     expect_solution("x of the plain form");
     expect(lower.values[0] == 1.0 && upper.values[0] == 2.0 && d[0] == 0.5 && d[1] == 0.5, "factors");
-    expect(lp_resolve_plain(N, LENT(order), LENT(order), LENT(right),
-                            LENT(lower.starts), LENT(lower.index), LENT(lower.values),
-                            LENT(upper.starts), LENT(upper.index), LENT(upper.values),
-                            LENT(d), LENT(x), LENT(scratch_f64), LENT(scratch_u32), LENT(report)) == LP_DONE,
-           "another right side");
-    expect_solution("x of another right side");
-    expect(lp_refactor_plain(N, LENT(starts), LENT(columns), LENT(values), LENT(order), LENT(order), LENT(right),
-                             LENT(lower.starts), LENT(lower.index), LENT(lower.values),
-                             LENT(upper.starts), LENT(upper.index), LENT(upper.values),
-                             LENT(d), LENT(x), LENT(scratch_f64), LENT(scratch_u32), LENT(report)) == LP_DONE,
-           "refactor");
-    expect_solution("x of refactor");
     expect(lp_list_plain(LP_LOWER, 1, N, LENT(lower.starts), LENT(lower.index), LENT(upper.starts), LENT(upper.index),
                          LENT(report)) == LP_DONE && report[0] == 0 && report[1] == 1, "lower row 1");
     expect(lp_structure_plain(N, LENT(starts), LENT(columns), LENT(order), LENT(order),
@@ -109,18 +97,6 @@ static void shared_form(void)
     expect(lp_list_shared(LP_UPPER, 0, N, LENT(lower.starts), LENT(lower.runs), LENT(lower.index),
                           LENT(upper.starts), LENT(upper.runs), LENT(upper.index), LENT(report)) == LP_DONE
            && report[0] == 0 && report[1] == 1, "upper list 0");
-    expect(lp_refactor_shared(N, LENT(starts), LENT(columns), LENT(values), LENT(order), LENT(order), LENT(right),
-                              LENT(lower.starts), LENT(lower.runs), LENT(lower.index), LENT(lower.values),
-                              LENT(upper.starts), LENT(upper.runs), LENT(upper.index), LENT(upper.values),
-                              LENT(d), LENT(x), LENT(scratch_f64), LENT(scratch_u32), LENT(report)) == LP_DONE,
-           "shared refactor");
-    expect_solution("x of shared refactor");
-    expect(lp_resolve_shared(N, LENT(order), LENT(order), LENT(right),
-                             LENT(lower.starts), LENT(lower.runs), LENT(lower.index), LENT(lower.values),
-                             LENT(upper.starts), LENT(upper.runs), LENT(upper.index), LENT(upper.values),
-                             LENT(d), LENT(x), LENT(scratch_f64), LENT(scratch_u32), LENT(report)) == LP_DONE,
-           "another right side, shared");
-    expect_solution("x of another right side, shared");
     expect(lp_solve_shared(N, LENT(starts), LENT(columns), LENT(values), LENT(order), LENT(order), LENT(right),
                            LENT(lower.starts), LENT(lower.runs), LENT(lower.index), LENT(lower.values),
                            LENT(upper.starts), LENT(upper.runs), LENT(upper.index), LENT(upper.values),

@@ -1,0 +1,353 @@
+// The C interface. Slices pass as pointer and length; a call answers its number and fills the report as far as it goes.
+ghost use mathlib.Core.Path.{_≡_};
+ghost use Prim.Native.Nat.{_≤_};
+ghost use mathlib.Core.List.{List, [], _∷_};
+ghost use lib.Seq.{sets};
+ghost use Rattle.base.specs.declared.Form.{Form};
+ghost use Rattle.matrix.specs.Input.{inputOf};
+ghost use Rattle.outcome.specs.Buffers.{plainBuffers, sharedBuffers, rowBuffers};
+ghost use Rattle.outcome.specs.Structure.{structure};
+ghost use Rattle.outcome.specs.Solve.{solve};
+ghost use Rattle.lookup.specs.Lookup as lookups;
+ghost use Rattle.matrix_file.specs.MatrixFile.{listsOf, opened, readOutcome, writeOutcome};
+ghost use Rattle.report.specs.Report.{answerSlots, Told, ToldEnd, numberOfShape, shapeSlots, spanSlots, sideNumbered, placeIn};
+use matrix::Shaped;
+
+#[no_mangle]
+pub extern "C" fn lp_structure_plain(
+    n: usize,
+    starts: &[u32],
+    columns: &[u16],
+    r: &[u16],
+    c: &[u16],
+    lower_starts: &mut [u32],
+    lower_index: &mut [u16],
+    lower_values: &mut [f64],
+    upper_starts: &mut [u32],
+    upper_index: &mut [u16],
+    upper_values: &mut [f64],
+    scratch_f64: &mut [f64],
+    scratch_u32: &mut [u32],
+    report: &mut [u64],
+) -> u32
+    ensures { λ q. ⌜ Told (structure Form.Plain (inputOf n (now (starts .entry)) (now (columns .entry)) [] (now (r .entry)) (now (c .entry)) [])
+        (plainBuffers (now («lower_starts» .entry)) (now («lower_index» .entry)) (now («lower_values» .entry)) (now («upper_starts» .entry)) (now («upper_index» .entry)) (now («upper_values» .entry)) [] [] (now («scratch_f64» .entry)) (now («scratch_u32» .entry))))
+        (now (report .entry)) (now (report .exit))
+        (plainBuffers (now («lower_starts» .exit)) (now («lower_index» .exit)) (now («lower_values» .exit)) (now («upper_starts» .exit)) (now («upper_index» .exit)) (now («upper_values» .exit)) [] [] (now («scratch_f64» .exit)) (now («scratch_u32» .exit))) q ⌝ }
+{
+    let a = plain_form::structure_plain(
+        n,
+        starts,
+        columns,
+        r,
+        c,
+        lower_starts,
+        lower_index,
+        lower_values,
+        upper_starts,
+        upper_index,
+        upper_values,
+        scratch_f64,
+        scratch_u32,
+    );
+    report::put_answer(report, a)
+}
+
+#[no_mangle]
+pub extern "C" fn lp_solve_plain(
+    n: usize,
+    starts: &[u32],
+    columns: &[u16],
+    values: &[f64],
+    r: &[u16],
+    c: &[u16],
+    b: &[f64],
+    lower_starts: &mut [u32],
+    lower_index: &mut [u16],
+    lower_values: &mut [f64],
+    upper_starts: &mut [u32],
+    upper_index: &mut [u16],
+    upper_values: &mut [f64],
+    d: &mut [f64],
+    x: &mut [f64],
+    scratch_f64: &mut [f64],
+    scratch_u32: &mut [u32],
+    report: &mut [u64],
+) -> u32
+    ensures { λ q. ⌜ Told (solve Form.Plain (inputOf n (now (starts .entry)) (now (columns .entry)) (now (values .entry)) (now (r .entry)) (now (c .entry)) (now (b .entry)))
+        (plainBuffers (now («lower_starts» .entry)) (now («lower_index» .entry)) (now («lower_values» .entry)) (now («upper_starts» .entry)) (now («upper_index» .entry)) (now («upper_values» .entry)) (now (d .entry)) (now (x .entry)) (now («scratch_f64» .entry)) (now («scratch_u32» .entry))))
+        (now (report .entry)) (now (report .exit))
+        (plainBuffers (now («lower_starts» .exit)) (now («lower_index» .exit)) (now («lower_values» .exit)) (now («upper_starts» .exit)) (now («upper_index» .exit)) (now («upper_values» .exit)) (now (d .exit)) (now (x .exit)) (now («scratch_f64» .exit)) (now («scratch_u32» .exit))) q ⌝ }
+{
+    let a = plain_form::solve_plain(
+        n,
+        starts,
+        columns,
+        values,
+        r,
+        c,
+        b,
+        lower_starts,
+        lower_index,
+        lower_values,
+        upper_starts,
+        upper_index,
+        upper_values,
+        d,
+        x,
+        scratch_f64,
+        scratch_u32,
+    );
+    report::put_answer(report, a)
+}
+
+#[no_mangle]
+pub extern "C" fn lp_structure_shared(
+    n: usize,
+    starts: &[u32],
+    columns: &[u16],
+    r: &[u16],
+    c: &[u16],
+    lower_starts: &mut [u32],
+    lower_runs: &mut [u32],
+    lower_index: &mut [u16],
+    lower_values: &mut [f64],
+    upper_starts: &mut [u32],
+    upper_runs: &mut [u32],
+    upper_index: &mut [u16],
+    upper_values: &mut [f64],
+    scratch_f64: &mut [f64],
+    scratch_u32: &mut [u32],
+    report: &mut [u64],
+) -> u32
+    ensures { λ q. ⌜ Told (structure Form.Shared (inputOf n (now (starts .entry)) (now (columns .entry)) [] (now (r .entry)) (now (c .entry)) [])
+        (sharedBuffers (now («lower_starts» .entry)) (now («lower_runs» .entry)) (now («lower_index» .entry)) (now («lower_values» .entry)) (now («upper_starts» .entry)) (now («upper_runs» .entry)) (now («upper_index» .entry)) (now («upper_values» .entry)) [] [] (now («scratch_f64» .entry)) (now («scratch_u32» .entry))))
+        (now (report .entry)) (now (report .exit))
+        (sharedBuffers (now («lower_starts» .exit)) (now («lower_runs» .exit)) (now («lower_index» .exit)) (now («lower_values» .exit)) (now («upper_starts» .exit)) (now («upper_runs» .exit)) (now («upper_index» .exit)) (now («upper_values» .exit)) [] [] (now («scratch_f64» .exit)) (now («scratch_u32» .exit))) q ⌝ }
+{
+    let a = shared_form::structure_shared(
+        n,
+        starts,
+        columns,
+        r,
+        c,
+        lower_starts,
+        lower_runs,
+        lower_index,
+        lower_values,
+        upper_starts,
+        upper_runs,
+        upper_index,
+        upper_values,
+        scratch_f64,
+        scratch_u32,
+    );
+    report::put_answer(report, a)
+}
+
+#[no_mangle]
+pub extern "C" fn lp_solve_shared(
+    n: usize,
+    starts: &[u32],
+    columns: &[u16],
+    values: &[f64],
+    r: &[u16],
+    c: &[u16],
+    b: &[f64],
+    lower_starts: &mut [u32],
+    lower_runs: &mut [u32],
+    lower_index: &mut [u16],
+    lower_values: &mut [f64],
+    upper_starts: &mut [u32],
+    upper_runs: &mut [u32],
+    upper_index: &mut [u16],
+    upper_values: &mut [f64],
+    d: &mut [f64],
+    x: &mut [f64],
+    scratch_f64: &mut [f64],
+    scratch_u32: &mut [u32],
+    report: &mut [u64],
+) -> u32
+    ensures { λ q. ⌜ Told (solve Form.Shared (inputOf n (now (starts .entry)) (now (columns .entry)) (now (values .entry)) (now (r .entry)) (now (c .entry)) (now (b .entry)))
+        (sharedBuffers (now («lower_starts» .entry)) (now («lower_runs» .entry)) (now («lower_index» .entry)) (now («lower_values» .entry)) (now («upper_starts» .entry)) (now («upper_runs» .entry)) (now («upper_index» .entry)) (now («upper_values» .entry)) (now (d .entry)) (now (x .entry)) (now («scratch_f64» .entry)) (now («scratch_u32» .entry))))
+        (now (report .entry)) (now (report .exit))
+        (sharedBuffers (now («lower_starts» .exit)) (now («lower_runs» .exit)) (now («lower_index» .exit)) (now («lower_values» .exit)) (now («upper_starts» .exit)) (now («upper_runs» .exit)) (now («upper_index» .exit)) (now («upper_values» .exit)) (now (d .exit)) (now (x .exit)) (now («scratch_f64» .exit)) (now («scratch_u32» .exit))) q ⌝ }
+{
+    let a = shared_form::solve_shared(
+        n,
+        starts,
+        columns,
+        values,
+        r,
+        c,
+        b,
+        lower_starts,
+        lower_runs,
+        lower_index,
+        lower_values,
+        upper_starts,
+        upper_runs,
+        upper_index,
+        upper_values,
+        d,
+        x,
+        scratch_f64,
+        scratch_u32,
+    );
+    report::put_answer(report, a)
+}
+
+#[no_mangle]
+pub extern "C" fn lp_solve_row(
+    n: usize,
+    starts: &[u32],
+    columns: &[u16],
+    values: &[f64],
+    r: &[u16],
+    c: &[u16],
+    b: &[f64],
+    upper_starts: &mut [u32],
+    upper_runs: &mut [u32],
+    upper_index: &mut [u16],
+    upper_values: &mut [f64],
+    d: &mut [f64],
+    x: &mut [f64],
+    scratch_f64: &mut [f64],
+    scratch_u32: &mut [u32],
+    report: &mut [u64],
+) -> u32
+    ensures { λ q. ⌜ Told (solve Form.ByRow (inputOf n (now (starts .entry)) (now (columns .entry)) (now (values .entry)) (now (r .entry)) (now (c .entry)) (now (b .entry)))
+        (rowBuffers (now («upper_starts» .entry)) (now («upper_runs» .entry)) (now («upper_index» .entry)) (now («upper_values» .entry)) (now (d .entry)) (now (x .entry)) (now («scratch_f64» .entry)) (now («scratch_u32» .entry))))
+        (now (report .entry)) (now (report .exit))
+        (rowBuffers (now («upper_starts» .exit)) (now («upper_runs» .exit)) (now («upper_index» .exit)) (now («upper_values» .exit)) (now (d .exit)) (now (x .exit)) (now («scratch_f64» .exit)) (now («scratch_u32» .exit))) q ⌝ }
+{
+    let a = row_form::solve_row(
+        n,
+        starts,
+        columns,
+        values,
+        r,
+        c,
+        b,
+        upper_starts,
+        upper_runs,
+        upper_index,
+        upper_values,
+        d,
+        x,
+        scratch_f64,
+        scratch_u32,
+    );
+    report::put_answer(report, a)
+}
+
+#[no_mangle]
+pub extern "C" fn lp_list_plain(
+    side: u32,
+    place: usize,
+    n: usize,
+    lower_starts: &[u32],
+    lower_index: &[u16],
+    upper_starts: &[u32],
+    upper_index: &[u16],
+    report: &mut [u64],
+) -> u32
+    ensures { λ q. ⌜ q ≡ 0 ⌝ }
+    ensures { λ _. ⌜ now (report .exit) ≡ sets (now (report .entry)) 0 (spanSlots (lookups.spanIn (sideNumbered side) (placeIn place) n 1 (lookups.listsOf (now («lower_starts» .entry)) (now («lower_starts» .entry)) (now («lower_index» .entry))) (lookups.listsOf (now («upper_starts» .entry)) (now («upper_starts» .entry)) (now («upper_index» .entry))))) ⌝ }
+{
+    let s = lookup::span_plain(
+        report::side_of(side),
+        report::place_of(place),
+        n,
+        lower_starts,
+        lower_index,
+        upper_starts,
+        upper_index,
+    );
+    report::put_span(report, s)
+}
+
+#[no_mangle]
+pub extern "C" fn lp_list_shared(
+    side: u32,
+    place: usize,
+    n: usize,
+    lower_starts: &[u32],
+    lower_runs: &[u32],
+    lower_index: &[u16],
+    upper_starts: &[u32],
+    upper_runs: &[u32],
+    upper_index: &[u16],
+    report: &mut [u64],
+) -> u32
+    ensures { λ q. ⌜ q ≡ 0 ⌝ }
+    ensures { λ _. ⌜ now (report .exit) ≡ sets (now (report .entry)) 0 (spanSlots (lookups.spanIn (sideNumbered side) (placeIn place) n 0 (lookups.listsOf (now («lower_starts» .entry)) (now («lower_runs» .entry)) (now («lower_index» .entry))) (lookups.listsOf (now («upper_starts» .entry)) (now («upper_runs» .entry)) (now («upper_index» .entry))))) ⌝ }
+{
+    let s = lookup::span_shared(
+        report::side_of(side),
+        report::place_of(place),
+        n,
+        lower_starts,
+        lower_runs,
+        lower_index,
+        upper_starts,
+        upper_runs,
+        upper_index,
+    );
+    report::put_span(report, s)
+}
+
+#[no_mangle]
+pub extern "C" fn lp_file_shape(file: &[u8], report: &mut [u64]) -> u32
+    ensures { λ q. ⌜ q ≡ numberOfShape (opened (now (file .entry))) ⌝ }
+    ensures { λ _. ⌜ now (report .exit) ≡ sets (now (report .entry)) 0 (shapeSlots (opened (now (file .entry)))) ⌝ }
+{
+    let found = matrix_file::matrix_file_shape(file);
+    match found {
+        Shaped::Shape(m) => {
+            report::put_all(report, &[0, m.rows as u64, m.entries as u64]);
+            0
+        }
+        Shaped::Unshaped(q) => {
+            report::put_all(report, &[q.place() as u64, 0, 0]);
+            q.number()
+        }
+    }
+}
+
+#[no_mangle]
+pub extern "C" fn lp_read_matrix(
+    file: &[u8],
+    starts: &mut [u32],
+    columns: &mut [u16],
+    values: &mut [f64],
+    r: &mut [u16],
+    c: &mut [u16],
+    b: &mut [f64],
+    report: &mut [u64],
+) -> u32
+    ensures { λ q. ⌜ ToldEnd (readOutcome (now (file .entry)) (listsOf (now (starts .entry)) (now (columns .entry)) (now (values .entry)) (now (r .entry)) (now (c .entry)) (now (b .entry))))
+        (now (report .entry)) (now (report .exit)) (listsOf (now (starts .exit)) (now (columns .exit)) (now (values .exit)) (now (r .exit)) (now (c .exit)) (now (b .exit))) q ⌝ }
+{
+    let a = matrix_file::read_matrix(file, starts, columns, values, r, c, b);
+    report::put_end(report, a)
+}
+
+#[no_mangle]
+pub extern "C" fn lp_write_matrix(
+    n: usize,
+    starts: &[u32],
+    columns: &[u16],
+    values: &[f64],
+    r: &[u16],
+    c: &[u16],
+    b: &[f64],
+    file: &mut [u8],
+    report: &mut [u64],
+) -> u32
+    ensures { λ q. ⌜ ToldEnd (writeOutcome (inputOf n (now (starts .entry)) (now (columns .entry)) (now (values .entry)) (now (r .entry)) (now (c .entry)) (now (b .entry))) (now (file .entry)))
+        (now (report .entry)) (now (report .exit)) (now (file .exit)) q ⌝ }
+{
+    let a = matrix_file::write_matrix(n, starts, columns, values, r, c, b, file);
+    report::put_end(report, a)
+}

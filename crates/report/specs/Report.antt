@@ -1,0 +1,55 @@
+-- What a call through the C interface tells: its number, the slots of its report as far as they go, and its buffers. Definitions only.
+use mathlib.Core.Path.{_≡_}
+use mathlib.Core.Bool.{Bool, cond}
+use mathlib.Core.List.{List, [], _∷_}
+use Prim.Native.Nat.{ℕ, _-_}
+use lib.Dec.{eqb, ltb}
+use lib.Seq.{sets}
+use Rattle.base.specs.Answers.{numberOf, placeOf, numberOfAnswer, placeOfAnswer, countsOf, numberOfEnd, placeOfEnd, spot}
+use Rattle.base.specs.declared.Answer.{Answer}
+use Rattle.base.specs.declared.Ended.{Ended}
+use Rattle.base.specs.declared.Place.{Place}
+use Rattle.base.specs.declared.Side.{Side}
+use Rattle.base.specs.declared.Side.the-variants.{Lower, Upper}
+use Rattle.matrix.specs.declared.Shaped.{Shaped}
+use Rattle.matrix.specs.declared.Shaped.the-variants.{Shape, Unshaped}
+use Rattle.outcome.specs.Buffers.{Buffers, Outcome}
+use Rattle.lookup.specs.declared.Span.{Span}
+use Rattle.matrix_file.specs.MatrixFile.{Left}
+
+-- place and counts of an answer
+unfoldable pub answerSlots : Answer → List ℕ
+answerSlots a = placeOfAnswer a ∷ countsOf a .lower ∷ countsOf a .upper ∷ countsOf a .products ∷ []
+
+-- a structure call or a solve
+pub record Told (o : Outcome Answer) (report₀ report : List ℕ) (s : Buffers) (number : ℕ) : Type 0 where
+  pub number-is : number ≡ numberOfAnswer (o .answer)
+  pub buffers-are : s ≡ o .buffers
+  pub report-is : report ≡ sets report₀ 0 (answerSlots (o .answer))
+
+-- reading and writing a file: what is written, and the place
+pub record ToldEnd {A : Type 0} (o : Left A) (report₀ report : List ℕ) (held : A) (number : ℕ) : Type 0 where
+  pub number-is : number ≡ numberOfEnd (o .answer)
+  pub held-is : held ≡ o .held
+  pub report-is : report ≡ sets report₀ 0 (placeOfEnd (o .answer) ∷ [])
+
+-- the shape of a file
+abbrev pub numberOfShape : Shaped → ℕ
+numberOfShape (Shape m) = 0
+numberOfShape (Unshaped q) = numberOf q
+
+abbrev pub shapeSlots : Shaped → List ℕ
+shapeSlots (Shape m) = 0 ∷ m .rows ∷ m .entries ∷ []
+shapeSlots (Unshaped q) = placeOf q ∷ 0 ∷ 0 ∷ []
+
+-- a list: its offset in the store and its length
+unfoldable pub spanSlots : Span → List ℕ
+spanSlots s = s .from ∷ (s .to - s .from) ∷ []
+
+-- 0 is the lower side, every other number the upper one
+abbrev pub sideNumbered : ℕ → Side
+sideNumbered c = cond (eqb c 0) Lower Upper
+
+-- a place of a call, in 32 bits: none from 4,096 on is below n
+abbrev pub placeIn : ℕ → Place
+placeIn k = spot (cond (ltb k 4096) k 4096)
