@@ -1,5 +1,5 @@
 #!/usr/bin/env bash
-# Runs the tests outside the proofs: another solver against the library (where crates/capi is there), the C header,
+# Runs the tests outside the proofs: solve.sh as the README calls it, another solver against the library (where crates/capi is there), the C header,
 # the benchmark's own solver, and the Matrix Market tool. Ends with one line 'N passed, M failed'.
 set -u
 cd "$(dirname "$0")/.." || exit 1
@@ -12,16 +12,20 @@ note() {
     failed=$((failed + 1))
 }
 
-# The closing line of a run of the checks, added up.
+# Runs the checks, shows what they print, and adds up their closing line.
 checks() {
-    local line
-    line=$(cd tests && cargo run --release --offline --quiet "$@" 2>&1 | tee /dev/stderr | grep -E '^[0-9]+ passed, [0-9]+ failed' | tail -n 1)
+    local log line m
+    log=$(mktemp)
+    (cd tests && cargo run --release --offline --quiet "$@") >"$log" 2>&1
+    cat "$log" >&2
+    line=$(grep -aE '^[0-9]+ passed, [0-9]+ failed' "$log" | tail -n 1)
+    rm -f "$log"
     if [ -z "$line" ]; then
         note "checks" "no closing line"
         return
     fi
     passed=$((passed + ${line%% passed*}))
-    local m=${line#*, }
+    m=${line#*, }
     failed=$((failed + ${m%% failed*}))
 }
 
@@ -30,6 +34,12 @@ if [ -d crates/capi ]; then
     checks --features library
 else
     checks
+fi
+
+if [ "$(sh solve.sh 2>/dev/null)" = "$(cat crates/solve/stdout)" ]; then
+    passed=$((passed + 1))
+else
+    note "solve.sh" "does not print the paper's three lines"
 fi
 
 if (cd bench && cargo test --release --offline --quiet >&2); then

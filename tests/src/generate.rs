@@ -643,8 +643,8 @@ fn present_for_resolve(random: &mut Random, case: &mut Case) {
 }
 
 /// A case of any call.
-pub fn case(random: &mut Random) -> Case {
-    let call = random.pick(&CALLS);
+pub fn case(random: &mut Random, calls: &[Call]) -> Case {
+    let call = random.pick(calls);
     case_of(random, call)
 }
 

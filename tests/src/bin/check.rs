@@ -71,7 +71,7 @@ fn check_library(library: &dyn Solver, options: &Options, tally: &mut Tally) {
             reached.iter().for_each(|((call, number), met)| println!("{call} answer {number}: {met} cases"));
         }
         if options.case.is_none() && options.cases >= 20_000 {
-            cases::reached_all(&reached, tally);
+            cases::reached_all(library, &reached, tally);
         }
     }
     if options.wants("lookups") {

@@ -51,7 +51,7 @@ pub fn compare_case(solver: &dyn Solver, case: &Case) -> (Answer, Compared) {
 pub fn run(solver: &dyn Solver, range: Range, tally: &mut Tally) -> Reached {
     let mut reached = Reached::new();
     for number in range.numbers() {
-        let case = generate::case(&mut range.random(number));
+        let case = generate::case(&mut range.random(number), solver.calls());
         let (answer, result) = compare_case(solver, &case);
         *reached.entry((format!("{:?}", case.call), answer.number)).or_default() += 1;
         if result.is_err() && range.only.is_some() {
@@ -75,8 +75,8 @@ pub fn lookups(solver: &dyn Solver, range: Range, tally: &mut Tally) {
 }
 
 /// The answers that the cases of every call must have met, so that no question goes untried.
-pub fn reached_all(reached: &Reached, tally: &mut Tally) {
-    for call in CALLS {
+pub fn reached_all(solver: &dyn Solver, reached: &Reached, tally: &mut Tally) {
+    for &call in solver.calls() {
         for number in numbers_of(call) {
             let met = reached.get(&(format!("{call:?}"), number)).copied().unwrap_or(0);
             let result = if met > 0 { Ok(()) } else { compare::differ("cases that met it", met, "at least one") };

@@ -56,7 +56,7 @@ pub fn paper_matrix() -> Input {
 fn rows_limits(solver: &dyn Solver) -> Compared {
     for n in [0usize, 4_097] {
         let input = Input { n, ..diagonal(&vec![1.0; n.max(1)], &vec![1.0; n.max(1)]) };
-        for call in CALLS {
+        for &call in solver.calls() {
             let mut buffers = Buffers::for_call(call, n, Slots::all(1));
             let answer = solver.run(call, &input, &mut buffers, 4)?;
             compare::same(&format!("n {n} {call:?}"), &answer, &Refusal { number: 1, place: 0 }.into())?;
@@ -114,6 +114,32 @@ fn arrow(solver: &dyn Solver) -> Compared {
     let short = Slots { upper_index: 2, ..Slots::sides(3, 3) };
     let (answer, _) = structure(solver, Form::Plain, &input, short)?;
     compare::same("one upper plain slot fewer", &answer, &Refusal { number: 11, place: 1 }.into())
+}
+
+/// The same graph with each of the four stores one slot short: T(0) = {1,2}, T(1) = {2}, lower rows {}, {0}, {0,1}.
+fn arrow_lacks(solver: &dyn Solver) -> Compared {
+    let rows = [vec![(0, 9.0), (1, 1.0), (2, 1.0)], vec![(0, 1.0), (1, 9.0)], vec![(0, 1.0), (2, 9.0)]];
+    let input = load::from_rows(&rows, &[1.0, 1.0, 1.0]);
+    let plain = Slots::sides(3, 3);
+    let shared = Slots { lower_index: 2, lower_values: 3, upper_index: 2, upper_values: 3 };
+    let lacks: [(&[Form], Slots, u32, u64); 8] = [
+        (&[Form::Plain], Slots { lower_index: 2, ..plain }, 10, 2),
+        (&[Form::Plain], Slots { lower_values: 2, ..plain }, 10, 2),
+        (&[Form::Plain], Slots { upper_index: 2, ..plain }, 11, 1),
+        (&[Form::Plain], Slots { upper_values: 2, ..plain }, 11, 1),
+        (&[Form::Shared], Slots { lower_index: 1, ..shared }, 10, 0),
+        (&[Form::Shared], Slots { lower_values: 2, ..shared }, 10, 1),
+        (&[Form::Shared, Form::Row], Slots { upper_index: 1, ..shared }, 11, 0),
+        (&[Form::Shared, Form::Row], Slots { upper_values: 2, ..shared }, 11, 1),
+    ];
+    for (forms, slots, number, place) in lacks {
+        for &form in forms {
+            let (answer, _) = solve(solver, form, &input, slots)?;
+            compare::same(&format!("{form:?} {slots:?}"), &answer, &Refusal { number, place }.into())?;
+        }
+    }
+    let (answer, _) = solve(solver, Form::Row, &input, Slots { lower_index: 0, lower_values: 0, ..shared })?;
+    compare::same("the row form keeps no lower side", &answer, &counts(3, 3, 5).into())
 }
 
 /// The lists {2,3,4}, {3,4}, {3}, {4} of an upper triangle: three shared slots, runs 0, 1, 1, 2.
@@ -267,7 +293,7 @@ fn largest_tridiagonal(solver: &dyn Solver) -> Compared {
 }
 
 pub fn run(solver: &dyn Solver, tally: &mut Tally) {
-    let graphs: [(&str, Compared); 12] = [
+    let graphs: [(&str, Compared); 13] = [
         ("the paper's file", solves(solver, &paper_matrix(), counts(1, 1, 1), &[1.0, 2.0])),
         ("n = 0, 4,097 and 4,096", rows_limits(solver)),
         ("pivots -0, 2^-1023 and 2^-1024", smallest_pivots(solver)),
@@ -275,6 +301,7 @@ pub fn run(solver: &dyn Solver, tally: &mut Tally) {
         ("pivot 1 is fill", pivot_by_fill(solver)),
         ("pivot 1 cancels", pivot_cancelled(solver)),
         ("row 0, column 0 and diagonal full", arrow(solver)),
+        ("the same, one slot short", arrow_lacks(solver)),
         ("shared tails", shared_tails(solver)),
         ("Report 114's example", report_114_example(solver)),
         ("Report 114's grid", report_114_grid(solver)),

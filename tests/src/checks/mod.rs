@@ -38,6 +38,8 @@ impl Tally {
 /// The calls of one solver. An error is a fault of the call itself, as a slot written outside its buffer.
 pub trait Solver {
     fn name(&self) -> &'static str;
+    /// The calls that it has.
+    fn calls(&self) -> &'static [Call];
     fn run(&self, call: Call, input: &Input, buffers: &mut Buffers, report: usize) -> Result<Answer, Difference>;
     fn lookup(&self, lists: &Lists, side: Side, place: usize) -> Result<(usize, usize), Difference>;
     fn shape(&self, file: &[u8]) -> Result<Result<(usize, usize), Refusal>, Difference>;
@@ -51,6 +53,10 @@ pub struct Reference;
 impl Solver for Reference {
     fn name(&self) -> &'static str {
         "reference"
+    }
+
+    fn calls(&self) -> &'static [Call] {
+        &CALLS
     }
 
     fn run(&self, call: Call, input: &Input, buffers: &mut Buffers, report: usize) -> Result<Answer, Difference> {
@@ -98,6 +104,10 @@ pub struct Library;
 impl Solver for Library {
     fn name(&self) -> &'static str {
         "library"
+    }
+
+    fn calls(&self) -> &'static [Call] {
+        &crate::ffi::EXPORTED
     }
 
     fn run(&self, call: Call, input: &Input, buffers: &mut Buffers, report: usize) -> Result<Answer, Difference> {
