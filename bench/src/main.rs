@@ -138,6 +138,17 @@ fn columns(times: &Result<Times, String>) -> String {
     }
 }
 
+/// What a solve takes besides its structure.
+fn rest(symbolic: &Result<Times, String>, total: &Result<Times, String>) -> Result<Times, String> {
+    match (symbolic, total) {
+        (Ok(symbolic), Ok(total)) => Ok(Times {
+            ordinary: total.ordinary.saturating_sub(symbolic.ordinary),
+            library: total.library.zip(symbolic.library).map(|(whole, part)| whole.saturating_sub(part)),
+        }),
+        _ => Err("-".to_string()),
+    }
+}
+
 /// Index and value slots that the lists of the form need, None where they are over the limit.
 fn exact_slots(form: Form, input: &Input) -> Option<Slots> {
     let mut buffers = Buffers::for_call(Call::Structure(form), input.n, Slots::all(MAX_SLOTS));
@@ -153,9 +164,9 @@ fn exact_slots(form: Form, input: &Input) -> Option<Slots> {
 
 fn table(title: &str, systems: &[System], budget: Duration, slots: impl Fn(Form, &Input) -> Option<Slots>) {
     println!("{title}");
-    println!("{:<18}{:<8}{:^32}{:^32}", "", "", "symbolic (structure)", "total (solve)");
+    println!("{:<18}{:<8}{:^32}{:^32}{:^32}", "", "", "symbolic (structure)", "numeric (the rest)", "total (solve)");
     let heads = format!("{:>12}{:>12}{:>8}", "ordinary ms", "library ms", "ratio");
-    println!("{:<18}{:<8}{heads}{heads}", "system", "form");
+    println!("{:<18}{:<8}{heads}{heads}{heads}", "system", "form");
     for system in systems {
         for form in [Form::Plain, Form::Shared] {
             let Some(slots) = slots(form, &system.input) else {
@@ -163,10 +174,74 @@ fn table(title: &str, systems: &[System], budget: Duration, slots: impl Fn(Form,
             };
             let symbolic = measure(Call::Structure(form), &system.input, slots, budget);
             let total = measure(Call::Solve(form), &system.input, slots, budget);
-            println!("{:<18}{:<8}{}{}", system.name, format!("{form:?}"), columns(&symbolic), columns(&total));
+            let numeric = rest(&symbolic, &total);
+            let parts = [columns(&symbolic), columns(&numeric), columns(&total)].concat();
+            println!("{:<18}{:<8}{parts}", system.name, format!("{form:?}"));
         }
     }
     println!();
+}
+
+/// The three solves of the library and the ordinary plain one, each the fastest of runs that take turns.
+#[cfg(any(feature = "library", feature = "standin"))]
+fn solves(input: &Input, slots: Slots, budget: Duration) -> Result<([Duration; 3], Duration), String> {
+    let forms = [Form::Plain, Form::Shared, Form::Row];
+    let loan = |form: Form| {
+        let call = Call::Solve(form);
+        Loan::new(call, input, &Buffers::for_call(call, input.n, slots), 4)
+    };
+    let mut loans = forms.map(loan);
+    let mut ordinary = Buffers::for_call(Call::Solve(Form::Plain), input.n, slots);
+    let (mut fastest, mut beside) = ([Duration::MAX; 3], Duration::MAX);
+    let begin = Instant::now();
+    let mut turns = 0;
+    while turns < 5 || (begin.elapsed() < budget && turns < 200) {
+        for (loan, time) in loans.iter_mut().zip(&mut fastest) {
+            let start = Instant::now();
+            let number = loan.run();
+            *time = start.elapsed().min(*time);
+            if number != 0 {
+                return Err(format!("refused with {number}"));
+            }
+        }
+        let start = Instant::now();
+        ordinary_run(Call::Solve(Form::Plain), input, &mut ordinary);
+        beside = start.elapsed().min(beside);
+        turns += 1;
+    }
+    Ok((fastest, beside))
+}
+
+/// Shared and row as ratios to the library's own plain solve and to the ordinary plain one; growth from size to size.
+#[cfg(any(feature = "library", feature = "standin"))]
+fn forms_table(systems: &[System], budget: Duration) {
+    println!("The three solves, stores of 1,048,576 slots");
+    let heads = ["plain ms", "shared ms", "row ms", "shared/plain", "row/plain", "shared/ord.", "row/ord.", "growth"];
+    let line: String = heads.iter().map(|head| format!("{head:>13}")).collect();
+    println!("{:<18}{line}", "system");
+    let mut before: Option<f64> = None;
+    let mut found: Vec<(String, f64)> = Vec::new();
+    for system in systems {
+        match solves(&system.input, Slots::all(MAX_SLOTS), budget) {
+            Err(why) => println!("{:<18}{why}", system.name),
+            Ok((times, ordinary)) => {
+                let [plain, shared, row] = times.map(|time| time.as_secs_f64() * 1e3);
+                let ordinary = ordinary.as_secs_f64() * 1e3;
+                let load = system.name.starts_with("test load");
+                let growth = before.filter(|_| load).map_or("-".to_string(), |old| format!("{:.2}", plain / old));
+                before = load.then_some(plain);
+                let ratios = [shared / plain, row / plain, shared / ordinary, row / ordinary];
+                let numbers: String = [plain, shared, row].iter().map(|ms| format!("{ms:>13.3}")).collect();
+                let ratios: String = ratios.iter().map(|ratio| format!("{ratio:>13.2}")).collect();
+                println!("{:<18}{numbers}{ratios}{growth:>13}", system.name);
+                found.push((system.name.clone(), plain));
+            }
+        }
+    }
+    let time = |name: &str| found.iter().find(|(other, _)| other == name).map(|(_, ms)| *ms);
+    if let (Some(tridiagonal), Some(load)) = (time("tridiagonal 4096"), time("test load 1024")) {
+        println!("\ntridiagonal 4096 takes {:.3} of test load 1024", tridiagonal / load);
+    }
 }
 
 fn main() {
@@ -181,4 +256,6 @@ fn main() {
     let largest = Slots::all(MAX_SLOTS);
     table("Stores of 1,048,576 slots", &systems, budget, |_, _| Some(largest));
     table("Stores just long enough", &systems, budget, exact_slots);
+    #[cfg(any(feature = "library", feature = "standin"))]
+    forms_table(&systems, budget);
 }
