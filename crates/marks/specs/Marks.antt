@@ -6,12 +6,17 @@ use mathlib.Core.Bool.{Bool, true, false, _&&_}
 use mathlib.Core.Path.{_≡_}
 use Prim.Native.Nat.{ℕ, zero, suc, _+_, _-_, _*_, _<_, _≤_, _/_}
 use lib.ListN.{length, getD, take, drop, set}
+use lib.Seq.{sets}
 use lib.Dec.{eqb, leb}
 use Rattle.base.specs.Lists.{asc}
 
 -- each entry of the list l is below n
 abbrev pub Below : ℕ → List ℕ → Type 0
 Below n l = (p : ℕ) → p < length l → getD l p 0 < n
+
+-- each entry of the list l is above i
+abbrev pub Above : ℕ → List ℕ → Type 0
+Above i l = (p : ℕ) → p < length l → i < getD l p 0
 
 -- scratch has its eight regions
 pub record Room (n : ℕ) (s : List ℕ) : Type 0 where
@@ -91,6 +96,11 @@ visited t f i (suc m) s = visited t f (suc i) m (pick (marked t s i) (f i s) s)
 unfoldable pub unite : ℕ → ℕ → (ℕ → List ℕ) → ℕ → List ℕ → List ℕ
 unite n t T i s = stamped n t s (T i)
 
+-- the lists of the members below k are united with the set; these members, r of them, stand in the list region
+pub record Merged (n t k : ℕ) (T : ℕ → List ℕ) (s₀ s : List ℕ) (r : ℕ) : Type 0 where
+  pub size : r ≡ length (members t (visited t (unite n t T) 0 k s₀) 0 k)
+  pub slots : s ≡ sets (visited t (unite n t T) 0 k s₀) (5 * n) (members t (visited t (unite n t T) 0 k s₀) 0 k)
+
 -- ---- lists in a store, and their cuts
 
 -- list i of a store can be read: its starts do not fall and its run is inside the store
@@ -115,10 +125,11 @@ pub record PartIn (n : ℕ) (s : List ℕ) (cuts : ℕ) (index runs : List ℕ) 
   pub has-run : i < length runs
   pub inside : getD runs i 0 + getD s (cuts + i) 0 ≤ length index
 
--- the parts of the first k lists can be read, and hold places below n
+-- the parts of the first k lists can be read, and hold places below n and above their own
 pub record Parts (n k : ℕ) (s : List ℕ) (cuts : ℕ) (index runs : List ℕ) : Type 0 where
   pub read : (i : ℕ) → i < k → PartIn n s cuts index runs i
   pub below : (i : ℕ) → i < k → Below n (partAt s cuts index runs i)
+  pub above : (i : ℕ) → i < k → Above i (partAt s cuts index runs i)
 
 -- no more, or what is left
 abbrev pub unless : Bool → ℕ → ℕ

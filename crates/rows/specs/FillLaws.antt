@@ -6,14 +6,14 @@ use Prim.Native.Nat.{ℕ, suc, _+_, _-_, _<_, _≤_}
 use native.Mathlib.Omega.{arith}
 use lib.ListN.{length, getD, take, drop, length-drop}
 use lib.Seq.{take-all, take-take, length-take-le, getD-take}
-use lib.Dec.{leb}
-use borrow.Author.Tests.{lt-ltb, lt-leb, leb-false}
+use lib.Dec.{leb, ltb}
+use borrow.Author.Tests.{lt-ltb, ltb-true, lt-leb, leb-false}
 use Rattle.base.specs.Lists.{asc, has, listAt, rowOf}
-use Rattle.base.specs.Tests.{by-test}
+use Rattle.base.specs.Tests.{by-test, and-cases}
 use Rattle.base.specs.AscLaws.{has-asc, asc-at, length-asc}
 use Rattle.fill.specs.Fill.{Pattern, filled, upper, upperRow}
 use Rattle.fill.specs.Prune.{Pair, Cut, entire, short, pruned, pruned-filled}
-use Rattle.marks.specs.Marks.{Below, Room, stamped, marked, Holds, Same, ListIn, partAt, Parts, through, upto, visited, unite}
+use Rattle.marks.specs.Marks.{Below, Above, Room, stamped, marked, Holds, Same, ListIn, partAt, Parts, through, upto, visited, unite}
 use Rattle.marks.specs.MarkLaws.{room-kept, stamped-length, holds-same, holds-stamped, holds-list, same-after, through-below}
 use Rattle.marks.specs.VisitLaws.{visited-keeps}
 use Rattle.marks.specs.CutLaws.{upto-le}
@@ -30,6 +30,12 @@ module _ (P : Pattern) (n i : ℕ) where
   pub upper-below : Below n (upperRow P n i)
   unfolding upperRow
   upper-below p h = asc-at (upper P i) n p (omega (arith, length-asc (upper P i) n)) .below
+
+  pub upper-above : Above i (upperRow P n i)
+  unfolding upperRow upper
+  upper-above p h =
+      let a = asc-at (upper P i) n p (omega (arith, length-asc (upper P i) n)) in
+      ltb-true i (getD (asc (upper P i) n) p 0) (and-cases (ltb i (getD (asc (upper P i) n) p 0)) (filled P i (getD (asc (upper P i) n) p 0)) (a .passes) .0)
 
   pair-upper : (p : ℕ) → Pair P i p → upper P i p ≡ true
   unfolding upper
@@ -142,12 +148,18 @@ module _ (P : Pattern) (n k : ℕ) (index runs starts : List ℕ) (store : Store
         let b : p < getD s (cuts + i) 0 = omega (arith, length-take-le (getD s (cuts + i) 0) (upperRow P n i) (cut-le P n i k _ (cut i l))) in
         rw (getD-take (getD s (cuts + i) 0) (upperRow P n i) p 0 b) (upper-below P n i p (omega (arith, cut-le P n i k _ (cut i l)))))
 
+    part-above : (i : ℕ) → i < k → Above i (partAt s cuts index runs i)
+    part-above i l = rw (part-upper-is i l) (λ p h.
+        let b : p < getD s (cuts + i) 0 = omega (arith, length-take-le (getD s (cuts + i) 0) (upperRow P n i) (cut-le P n i k _ (cut i l))) in
+        rw (getD-take (getD s (cuts + i) 0) (upperRow P n i) p 0 b) (upper-above P n i p (omega (arith, cut-le P n i k _ (cut i l)))))
+
     -- what closing place k asks for
     pub held-parts : k ≤ n → Parts n k s cuts index runs
     held-parts h = record {
       read = λ i l. let r = store .read i l in
           record { place = omega arith; has-run = r .has-run; inside = omega (arith, r .inside, cut-le P n i k _ (cut i l), upper-length i l) };
       below = part-below;
+      above = part-above;
     }
 
     pub closed-held : (t : ℕ) → k ≤ n → Room n s → Holds n t s (P k) → Holds n t (visited t (unite n t (partAt s cuts index runs)) 0 k s) (filled P k)
