@@ -1,5 +1,5 @@
 -- Laws of the cuts.
-use mathlib.Core.Path.{_≡_, refl, ap, _∙_}
+use mathlib.Core.Path.{_≡_, refl}
 use mathlib.Core.List.{List, [], _∷_}
 use mathlib.Core.Bool.{Bool, true, false}
 use Prim.Native.Nat.{ℕ, suc, _+_, _-_, _<_, _≤_}
@@ -11,8 +11,7 @@ use lib.Seq.{drop-cons, drop-length, getD-set-other}
 use lib.Dec.{eqb}
 use borrow.Author.Tests.{eq-eqb, ne-eqb}
 use Rattle.base.specs.Lists.{listAt}
-use Rattle.marks.specs.Marks.{Below, pick, Free, Same, Base, partAt, PartIn, upto, unless, cutOne, visited, newCuts, stamped, unite}
-use Rattle.marks.specs.MarkLaws.{Marks}
+use Rattle.marks.specs.Marks.{pick, Free, Same, Base, partAt, upto, unless, cutOne, visited, newCuts}
 
 -- ---- parts of a store
 
@@ -35,18 +34,6 @@ module _ (n : ℕ) (s₀ s : List ℕ) (cuts : ℕ) (base : Base n cuts) (same :
   pub part-kept : partAt s cuts index runs i ≡ partAt s₀ cuts index runs i
   unfolding partAt
   part-kept = rw (same (cuts + i) (cut-free n cuts i base))
-
-  pub part-in-kept : PartIn n s₀ cuts index runs i → PartIn n s cuts index runs i
-  part-in-kept p =
-      let e = same (cuts + i) (cut-free n cuts i base) in
-      record { place = p .place; has-run = p .has-run; inside = omega (arith, p .inside) }
-
-  pub united : (t : ℕ) (u : List ℕ) → u ≡ stamped n t s (partAt s cuts index runs i) → u ≡ unite n t (partAt s₀ cuts index runs) i s
-  unfolding unite
-  united t u e = e ∙ ap (stamped n t s) part-kept
-
-pub below-kept : (n : ℕ) (a b : List ℕ) → a ≡ b → Below n b → Below n a
-below-kept n a b e h = rw e h
 
 -- ---- as far as place k
 
@@ -100,9 +87,6 @@ pick-length false s u e = refl
 pub cut-length : (cuts k : ℕ) (T : ℕ → List ℕ) (i : ℕ) (s : List ℕ) → length (cutOne cuts k T i s) ≡ length s
 unfolding cutOne
 cut-length cuts k T i s = pick-length (eqb (getD s (cuts + i) 0) (length (T i))) s (set s (cuts + i) (upto k (T i))) (length-set s (cuts + i) (upto k (T i)))
-
-pub cut-marks : (n cuts k : ℕ) (T : ℕ → List ℕ) (i : ℕ) (s u : List ℕ) → Base n cuts → u ≡ cutOne cuts k T i s → Marks n s u
-cut-marks n cuts k T i s u b e q l = let h = b .low in rw e (cut-other cuts k T i s q (omega arith))
 
 pub renewed : (t cuts k : ℕ) (T : ℕ → List ℕ) (c : ℕ) (s u v : List ℕ) → u ≡ visited t (cutOne cuts k T) 0 k s → v ≡ set u (cuts + k) c → v ≡ newCuts t cuts k T c s
 unfolding newCuts

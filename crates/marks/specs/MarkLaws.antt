@@ -7,13 +7,13 @@ use native.Mathlib.Omega.{arith}
 use native.Mathlib.Numerals.{add-one}
 use native.Mathlib.Nat.{add-zero}
 use native.Mathlib.Decide.{ℕ-discrete, decLt}
-use lib.ListN.{length, getD, drop, set, length-set, length-map, length-append}
+use lib.ListN.{length, getD, drop, set, length-set, length-map}
 use lib.Seq.{drop-cons, drop-length, getD-set-other, getD-set-same, sets}
 use lib.Dec.{eqb, leb}
-use borrow.Author.Tests.{eq-eqb, ne-eqb, le-leb, lt-leb}
+use borrow.Author.Tests.{eq-eqb, ne-eqb, lt-leb}
 use Rattle.base.specs.Lists.{asc, has}
-use Rattle.base.specs.AscLaws.{asc-yes, asc-no, asc-none}
-use Rattle.marks.specs.Marks.{Below, Room, markAt, stamped, Blocks, Fresh, Holds, Free, Same, Next, chosen, members, through}
+use Rattle.base.specs.AscLaws.{asc-no, asc-none}
+use Rattle.marks.specs.Marks.{Below, Room, markAt, stamped, Blocks, Fresh, Holds, Free, Same, chosen, members, through}
 
 -- ---- one mark
 
@@ -26,7 +26,7 @@ room-kept n s u e r = record { small = omega arith; long = omega arith }
 room-mark : (n t : ℕ) (s : List ℕ) (j : ℕ) → Room n s → Room n (markAt n t s j)
 room-mark n t s j r = room-kept n s (markAt n t s j) (markAt-length n t s j) r
 
-mark-other : (n t : ℕ) (s : List ℕ) (j i : ℕ) → i < n → (i ≡ j → ⊥) → getD (markAt n t s j) i 0 ≡ getD s i 0
+pub mark-other : (n t : ℕ) (s : List ℕ) (j i : ℕ) → i < n → (i ≡ j → ⊥) → getD (markAt n t s j) i 0 ≡ getD s i 0
 mark-other n t s j i h d = getD-set-other (set s j t) (n + n + j / 64) i t 0 (omega arith) ∙ getD-set-other s j i t 0 d
 
 mark-here : (n t : ℕ) (s : List ℕ) (j : ℕ) → j < n → Room n s → getD (markAt n t s j) j 0 ≡ t
@@ -169,7 +169,7 @@ asc-skip p i (suc d) h =
     let e : i + suc d ≡ i + d + 1 = omega arith in
     rw e (asc-no p (i + d) (h (i + d) (omega arith) (omega arith)) ∙ asc-skip p i d (λ j a b. h j a (omega arith)))
 
-not-chosen : (t : ℕ) (s : List ℕ) (from j : ℕ) → (getD s j 0 ≡ t → ⊥) → chosen t s from j ≡ false
+pub not-chosen : (t : ℕ) (s : List ℕ) (from j : ℕ) → (getD s j 0 ≡ t → ⊥) → chosen t s from j ≡ false
 unfolding chosen
 not-chosen t s from j d = rw (ne-eqb (getD s j 0) t d) (go (leb from j))
   where
@@ -177,25 +177,20 @@ not-chosen t s from j d = rw (ne-eqb (getD s j 0) t d) (go (leb from j))
     go true = refl
     go false = refl
 
--- from i to the next member
-pub members-next : (t : ℕ) (s : List ℕ) (from i e r : ℕ) → Next t s i e r → members t s from r ≡ members t s from i
-unfolding members
-members-next t s from i e r h =
-    let q : i + (r - i) ≡ r = omega (arith, h .above) in
-    rw (← q) (asc-skip (chosen t s from) i (r - i) (λ j a b. not-chosen t s from j (h .none j a (omega arith))))
-
 -- before the first place there is none
 pub members-none : (t : ℕ) (s : List ℕ) (from : ℕ) → members t s from from ≡ []
 unfolding members chosen
 members-none t s from = asc-none _ from (λ j l. rw (lt-leb from j l))
 
--- member i is the last before the next one
-pub members-turn : (t : ℕ) (s : List ℕ) (from i e r : ℕ) → from ≤ i → getD s i 0 ≡ t → Next t s (i + 1) e r → members t s from r ≡ members t s from i ++ i ∷ []
-unfolding members chosen
-members-turn t s from i e r l m h =
-    let b : chosen t s from i ≡ true = rw (le-leb from i l, eq-eqb (getD s i 0) t m) in
-    let q = members-next t s from (i + 1) e r h in
-    q ∙ asc-yes (chosen t s from) i b
+members-skip : (t : ℕ) (s : List ℕ) (from d : ℕ) → ((j : ℕ) → from ≤ j → j < from + d → getD s j 0 ≡ t → ⊥) → members t s from (from + d) ≡ members t s from from
+unfolding members
+members-skip t s from d none = asc-skip (chosen t s from) from d (λ j a b. not-chosen t s from j (none j a b))
+
+-- nor where no place has the stamp
+pub members-empty : (t : ℕ) (s : List ℕ) (from e : ℕ) → from ≤ e → ((j : ℕ) → from ≤ j → j < e → getD s j 0 ≡ t → ⊥) → members t s from e ≡ []
+members-empty t s from e l none =
+    let q : from + (e - from) ≡ e = omega arith in
+    rw (← q) (members-skip t s from (e - from) (λ j a b. none j a (omega arith)) ∙ members-none t s from)
 
 -- ---- a list is written behind the block stamps
 
@@ -223,61 +218,9 @@ marks-sets n s u at l h e q k = rw e (sets-below s at l q (omega arith))
 pub blocks-same : (n t : ℕ) (s u : List ℕ) → Marks n s u → Blocks n t s → Blocks n t u
 blocks-same n t s u k b j l e = k (n + n + j / 64) (omega arith) ∙ b j l (sym (k j (omega arith)) ∙ e)
 
-pub next-same : (n t : ℕ) (s u : List ℕ) (from e r : ℕ) → e ≤ n → Marks n s u → Next t u from e r → Next t s from e r
-next-same n t s u from e r l k h = record {
-  above = h .above;
-  within = h .within;
-  none = λ j a b m. let w = h .within in h .none j a b (k j (omega arith) ∙ m);
-  hit = λ a. sym (k r (omega arith)) ∙ h .hit a;
-}
-
 pub holds-kept : (n t : ℕ) (s u : List ℕ) (p : ℕ → Bool) → Marks n s u → Holds n t s p → Holds n t u p
 holds-kept n t s u p k h = record {
   blocks = blocks-same n t s u k (h .blocks);
   exact = λ j l. rw (k j (omega arith)) (h .exact j l);
   last = λ j l. rw (k j (omega arith)) (h .last j l);
 }
-
--- A loop that writes the members from `from` on behind slot at: those before place j are written.
-pub record Gathered (t : ℕ) (s₀ : List ℕ) (from e at : ℕ) (s : List ℕ) (size j : ℕ) : Type 0 where
-  pub above : from + size ≤ j
-  pub within : j ≤ e
-  pub long : length s ≡ length s₀
-  pub hit : j < e → getD s₀ j 0 ≡ t
-  pub counted : size ≡ length (members t s₀ from j)
-  pub written : s ≡ sets s₀ at (members t s₀ from j)
-
-pub gather-start : (t : ℕ) (s : List ℕ) (from e at r : ℕ) → Next t s from e r → Gathered t s from e at s 0 r
-gather-start t s from e at r h =
-    let none = members-next t s from from e r h ∙ members-none t s from in
-    record { above = omega (arith, h .above); within = h .within; long = refl; hit = h .hit; counted = rw none; written = rw none }
-
-length-snoc : (l : List ℕ) (x : ℕ) → length (l ++ x ∷ []) ≡ length l + 1
-length-snoc l x = length-append l (x ∷ [])
-
-module _ (n t : ℕ) (s₀ : List ℕ) (from e at : ℕ) (small : e ≤ n) (low : n + n + n ≤ at) (s : List ℕ) (size j : ℕ) (h : j < e) (g : Gathered t s₀ from e at s size j) where
-  gather-set : set s (at + size) j ≡ sets s₀ at (members t s₀ from j ++ j ∷ [])
-  gather-set = rw (sets-snoc s₀ at (members t s₀ from j) j, ← g .counted, ← g .written)
-
-  gather-marks : Marks n s₀ (set s (at + size) j)
-  gather-marks = marks-sets n s₀ (set s (at + size) j) at (members t s₀ from j ++ j ∷ []) low gather-set
-
-  pub gather-blocks : Blocks n t s₀ → Blocks n t (set s (at + size) j)
-  gather-blocks b = blocks-same n t s₀ (set s (at + size) j) gather-marks b
-
-  pub gather-more : (r : ℕ) → Next t (set s (at + size) j) (j + 1) e r → Gathered t s₀ from e at (set s (at + size) j) (size + 1) r
-  gather-more r x =
-      let y = next-same n t s₀ (set s (at + size) j) (j + 1) e r small gather-marks x in
-      let m = members-turn t s₀ from j e r (omega (arith, g .above)) (g .hit h) y in
-      record {
-        above = omega (arith, g .above, y .above);
-        within = y .within;
-        long = length-set s (at + size) j ∙ g .long;
-        hit = y .hit;
-        counted = rw m (omega (arith, length-snoc (members t s₀ from j) j, g .counted));
-        written = rw m gather-set;
-      }
-
-pub gather-end : (t : ℕ) (s₀ : List ℕ) (from e at : ℕ) (s : List ℕ) (size j : ℕ) → e ≤ j → Gathered t s₀ from e at s size j
-    → (size ≡ length (members t s₀ from e)) × (s ≡ sets s₀ at (members t s₀ from e))
-gather-end t s₀ from e at s size j h g = let q : j ≡ e = omega (arith, g .within) in rw (← q) (g .counted, g .written)

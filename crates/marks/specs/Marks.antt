@@ -61,13 +61,6 @@ pub record Free (n q : ℕ) : Type 0 where
 abbrev pub Same : ℕ → List ℕ → List ℕ → Type 0
 Same n s₀ s = (q : ℕ) → Free n q → getD s q 0 ≡ getD s₀ q 0
 
--- r is the least member at or above `from` and below `end`, or `end`
-pub record Next (t : ℕ) (s : List ℕ) (from end r : ℕ) : Type 0 where
-  pub above : from ≤ r
-  pub within : r ≤ end
-  pub none : (j : ℕ) → from ≤ j → j < r → getD s j 0 ≡ t → ⊥
-  pub hit : r < end → getD s r 0 ≡ t
-
 -- place j is a member, and at or above `from`
 unfoldable pub chosen : ℕ → List ℕ → ℕ → ℕ → Bool
 chosen t s from j = leb from j && marked t s j

@@ -1,10 +1,11 @@
 // The working set of one row or column of the symbolic elimination: marks with block stamps, and the cuts of the lists it merges.
 ghost use mathlib.Core.Path.{_≡_};
-ghost use Prim.Native.Nat.{ℕ, _+_, _-_, _≤_, _<_};
-ghost use lib.ListN.{length, getD, set};
+ghost use Prim.Native.Nat.{ℕ, _+_, _-_, _*_, _/_, _≤_, _<_};
+ghost use lib.ListN.{length, getD, take, drop, set};
 ghost use lib.Seq.{sets};
 ghost use Rattle.base.specs.Lists.{listAt};
-ghost use Rattle.marks.specs.Marks.{Below, Room, markAt, stamped, Blocks, Next, members, through, visited, unite, ListIn, Base, partAt, PartIn, Parts, upto, cutOne, newCuts};
+ghost use Rattle.marks.specs.Marks.{Below, Room, markAt, stamped, Blocks, members, through, visited, Merged, ListIn, Base, partAt, PartIn, Parts, upto, cutOne, newCuts};
+ghost use Rattle.marks.specs.MergeLaws.{GoesOn};
 use base::OwnNumber;
 use base::Place;
 
@@ -43,24 +44,33 @@ pub fn merge_list(s: &mut [u32], n: usize, stamp: u32, list: &[u16])
     }
 }
 
-// The least member at or above `from` and below `end`, or `end`.
-pub fn next_mark(s: &[u32], n: usize, stamp: u32, from: usize, end: usize) -> usize
-    requires { ⌜ (from ≤ end) × (end ≤ n) × Room n (now s) ⌝ }
-    requires { ⌜ Blocks n stamp (now s) ⌝ }
-    ensures { λ r. ⌜ Next stamp (now (s .entry)) from end r ⌝ }
+// Where the block of j ends, or `end` if that is before.
+fn block_end(j: usize, end: usize) -> usize
+    requires { ⌜ (j < end) × (end ≤ 65536) ⌝ }
+    ensures { λ r. ⌜ (j < r) × (r ≤ end) × (r ≤ (j / 64 + 1) * 64) ⌝ }
 {
-    let mut j = from;
-    while j < end {
-        if s[n + n + j / 64] == stamp {
-            if s[j] == stamp {
-                return j;
-            }
-            j += 1;
-        } else {
-            j = (j / 64 + 1) * 64;
-        }
+    let stop = (j / 64 + 1) * 64;
+    if stop < end {
+        return stop;
     }
     end
+}
+
+// Writes the members of one block, from `from` up to `end`, behind the `had` written before, and answers how many are written then.
+fn gather_block(s: &mut [u32], stamp: u32, from: usize, end: usize, at: usize, had: usize) -> usize
+    requires { ⌜ (from ≤ end) × (end ≤ at) × (end ≤ 65536) × (at + had + (end - from) ≤ length (now s)) ⌝ }
+    ensures { λ r. ⌜ (r ≡ had + length (members stamp (now (s .entry)) from end)) × (now (s .exit) ≡ sets (now (s .entry)) (at + had) (members stamp (now (s .entry)) from end)) ⌝ }
+{
+    let mut count = had;
+    let mut q = from;
+    while q < end {
+        if s[q] == stamp {
+            s[at + count] = q as u32;
+            count += 1;
+        }
+        q += 1;
+    }
+    count
 }
 
 // Writes the members from `from` up to `end`, ascending, from slot `at` on and answers how many they are.
@@ -71,11 +81,13 @@ pub fn gather(s: &mut [u32], n: usize, stamp: u32, from: usize, end: usize, at: 
     ensures { λ r. ⌜ (r ≡ length (members stamp (now (s .entry)) from end)) × (now (s .exit) ≡ sets (now (s .entry)) at (members stamp (now (s .entry)) from end)) ⌝ }
 {
     let mut count = 0;
-    let mut j = next_mark(s, n, stamp, from, end);
+    let mut j = from;
     while j < end {
-        s[at + count] = j as u32;
-        count += 1;
-        j = next_mark(s, n, stamp, j + 1, end);
+        let stop = block_end(j, end);
+        if s[n + n + j / 64] == stamp {
+            count = gather_block(s, stamp, j, stop, at, count);
+        }
+        j = stop;
     }
     count
 }
@@ -158,7 +170,37 @@ fn merge_run(
     merge_list(s, n, stamp, list);
 }
 
+// The members from `from` up to `end`: each is written behind the `had` before, and the set is united with its list as far as its cut.
+fn merge_block(
+    s: &mut [u32],
+    n: usize,
+    stamp: u32,
+    from: usize,
+    end: usize,
+    had: usize,
+    cuts: usize,
+    index: &[u16],
+    runs: &[u32],
+) -> usize
+    requires { ⌜ Parts n end (now s) cuts (now index) (now runs) ⌝ }
+    requires { ⌜ (had ≤ from) × (from ≤ end) × (end ≤ n) × Base n cuts × Room n (now s) ⌝ }
+    ensures { λ r. ⌜ GoesOn n stamp cuts (now (index .entry)) (now (runs .entry)) (now (s .entry)) from had (now (s .exit)) end r ⌝ }
+{
+    let mut count = had;
+    let mut i = from;
+    while i < end {
+        if s[i] == stamp {
+            s[5 * n + count] = i as u32;
+            count += 1;
+            merge_run(s, n, stamp, i, cuts, index, runs);
+        }
+        i += 1;
+    }
+    count
+}
+
 // Unites the set with the list of each member below k, as far as its cut, in ascending order.
+// Writes these members from slot 5n on and answers how many they are.
 pub fn merge_lower(
     s: &mut [u32],
     n: usize,
@@ -167,17 +209,22 @@ pub fn merge_lower(
     cuts: usize,
     index: &[u16],
     runs: &[u32],
-)
+) -> usize
     requires { ⌜ Parts n k (now s) cuts (now index) (now runs) ⌝ }
     requires { ⌜ (k ≤ n) × Base n cuts × Room n (now s) ⌝ }
     requires { ⌜ Blocks n stamp (now s) ⌝ }
-    ensures { λ r. ⌜ now (s .exit) ≡ visited stamp (unite n stamp (partAt (now (s .entry)) cuts (now (index .entry)) (now (runs .entry)))) 0 k (now (s .entry)) ⌝ }
+    ensures { λ r. ⌜ Merged n stamp k (partAt (now (s .entry)) cuts (now (index .entry)) (now (runs .entry))) (now (s .entry)) (now (s .exit)) r ⌝ }
 {
-    let mut i = next_mark(s, n, stamp, 0, k);
+    let mut count = 0;
+    let mut i = 0;
     while i < k {
-        merge_run(s, n, stamp, i, cuts, index, runs);
-        i = next_mark(s, n, stamp, i + 1, k);
+        let stop = block_end(i, k);
+        if s[n + n + i / 64] == stamp {
+            count = merge_block(s, n, stamp, i, stop, count, cuts, index, runs);
+        }
+        i = stop;
     }
+    count
 }
 
 // How many entries of a list go as far as place k; all, if it has no k.
@@ -216,26 +263,28 @@ fn cut_list(
     }
 }
 
-// Cuts the lists of the members below k that have k.
+// Cuts the lists of the members below k that have k; these members, `below` of them, stand in the list region.
 fn close_cuts(
     s: &mut [u32],
     n: usize,
     stamp: u32,
     k: usize,
+    below: usize,
     cuts: usize,
     index: &[u16],
     runs: &[u32],
     starts: &[u32],
 )
     requires { ⌜ ((i : ℕ) → i < k → ListIn (now index) (now runs) (now starts) i) ⌝ }
-    requires { ⌜ (k ≤ n) × Base n cuts × Room n (now s) ⌝ }
-    requires { ⌜ Blocks n stamp (now s) ⌝ }
+    requires { ⌜ (k < n) × Base n cuts × Room n (now s) ⌝ }
+    requires { ⌜ take below (drop (5 * n) (now s)) ≡ members stamp (now s) 0 k ⌝ }
     ensures { λ r. ⌜ now (s .exit) ≡ visited stamp (cutOne cuts k (listAt (now (index .entry)) (now (runs .entry)) (now (starts .entry)))) 0 k (now (s .entry)) ⌝ }
 {
-    let mut i = next_mark(s, n, stamp, 0, k);
-    while i < k {
+    let mut p = 0;
+    while p < below {
+        let i = wide32(s[5 * n + p]);
         cut_list(s, n, k, i, cuts, index, runs, starts);
-        i = next_mark(s, n, stamp, i + 1, k);
+        p += 1;
     }
 }
 
@@ -247,12 +296,13 @@ fn open_cut(s: &mut [u32], n: usize, k: usize, cuts: usize, starts: &[u32])
     s[cuts + k] = starts[k + 1] - starts[k];
 }
 
-// The cuts after place k, whose marks stand in s and whose list is in the store.
+// The cuts after place k, whose marks stand in s and whose list is in the store; the members below k, `below` of them, stand in the list region.
 pub fn next_cuts(
     s: &mut [u32],
     n: usize,
     stamp: u32,
     k: usize,
+    below: usize,
     cuts: usize,
     index: &[u16],
     runs: &[u32],
@@ -260,9 +310,9 @@ pub fn next_cuts(
 )
     requires { ⌜ ((i : ℕ) → i < k + 1 → ListIn (now index) (now runs) (now starts) i) ⌝ }
     requires { ⌜ (k < n) × Base n cuts × Room n (now s) ⌝ }
-    requires { ⌜ Blocks n stamp (now s) ⌝ }
+    requires { ⌜ take below (drop (5 * n) (now s)) ≡ members stamp (now s) 0 k ⌝ }
     ensures { λ r. ⌜ now (s .exit) ≡ newCuts stamp cuts k (listAt (now (index .entry)) (now (runs .entry)) (now (starts .entry))) (getD (now (starts .entry)) (k + 1) 0 - getD (now (starts .entry)) k 0) (now (s .entry)) ⌝ }
 {
-    close_cuts(s, n, stamp, k, cuts, index, runs, starts);
+    close_cuts(s, n, stamp, k, below, cuts, index, runs, starts);
     open_cut(s, n, k, cuts, starts);
 }

@@ -8,8 +8,7 @@ use Rattle.marks.proofs.next_cuts.Tie as tie
 close-cuts-requires : tie.Need-close-cuts-requires
 close-cuts-requires c κs =
     let s = c .before .before .before .before .before in
-    let q = s .pre .1 .0 in
-    ((λ i l. s .pre .0 i (omega arith)), ((omega arith, q .1, q .2), s .pre .1 .1))
+    ((λ i l. s .pre .0 i (omega arith)), s .pre .1)
 
 open-cut-requires : tie.Need-open-cut-requires
 open-cut-requires c κs =
