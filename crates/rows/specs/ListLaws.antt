@@ -1,5 +1,5 @@
 -- The lists of place k in scratch, and the count of products by the list starts.
-use mathlib.Core.Path.{_≡_, sym, ap, _∙_}
+use mathlib.Core.Path.{_≡_, refl, sym, ap, _∙_}
 use mathlib.Core.List.{List, [], _∷_, _++_, map, append-assoc}
 use mathlib.Core.Bool.{Bool, false, _&&_}
 use Prim.Native.Nat.{ℕ, zero, suc, _+_, _-_, _*_, _<_, _≤_}
@@ -8,17 +8,17 @@ use native.Mathlib.Numerals.{add-one}
 use native.Mathlib.Decide.{decLt}
 use native.Mathlib.Nat.{zero-add, mul-le-mul}
 use lib.ListN.{length, getD, take, drop, set, length-append}
-use lib.Seq.{sets, sets-eq, drop-cons, drop-length, take-at, drop-at, length-take-le, drop-drop}
+use lib.Seq.{sets, length-sets, sets-eq, drop-cons, drop-length, take-at, drop-at, length-take-le, drop-drop}
 use lib.Dec.{ltb}
 use borrow.Author.Tests.{le-ltb, le-leb}
 use Rattle.base.specs.Lists.{count, total, sum, bit}
 use Rattle.base.specs.AscLaws.{asc-ext, asc-at, length-asc, count-le, total-asc, sum-ext, sum-mono, count-none, count-suc, bit-le}
 use Rattle.fill.specs.Fill.{Pattern, filled, upper, upperRow, lowerRow, products}
 use Rattle.fill.specs.ListLaws.{steps, products-steps, products-le}
-use Rattle.marks.specs.Marks.{Holds, chosen, members}
+use Rattle.marks.specs.Marks.{Room, Holds, chosen, members, visited, unite, partAt, Parts, Merged}
 use Rattle.marks.specs.MarkLaws.{sets-below, sets-above, holds-kept, marks-sets}
-use Rattle.rows.specs.Rows.{Stored, Listed, But, rowSteps, lengthIn, Countable}
-use Rattle.rows.specs.FillLaws.{upper-length}
+use Rattle.rows.specs.Rows.{Stored, LowerListed, Closing, UpperListed, Listed, But, rowSteps, lengthIn, Countable}
+use Rattle.rows.specs.FillLaws.{upper-length, closed-is}
 
 -- ---- the members are the paper's lists
 
@@ -42,19 +42,35 @@ sets-append s at (x ∷ a) b =
     let e : at + suc (length a) ≡ suc at + length a = omega arith in
     rw e (sets-append (set s at x) (suc at) a b)
 
--- the two gatherings
-pub listed-is : (n t k at : ℕ) (s u v : List ℕ) (below above : ℕ) → k < n → n + n + n ≤ at
-    → below ≡ length (members t s 0 k) → u ≡ sets s at (members t s 0 k)
-    → above ≡ length (members t u (k + 1) n) → v ≡ sets u (at + below) (members t u (k + 1) n)
-    → (P : Pattern) → Holds n t s (filled P k) → Listed P n k at s v below above
-listed-is n t k at s u v below above h low eb eu ea ev P m =
-    let a = lower-members P n t k s h m in
-    let b = upper-members P n t k u h (holds-kept n t s u (filled P k) (marks-sets n s u at (members t s 0 k) low eu) m) in
+-- place k is closed, and the members below it are written down
+pub closing-is : (n t k cuts : ℕ) (index runs s u : List ℕ) (below : ℕ) → k < n → Room n s → Parts n k s cuts index runs → length u ≡ length s
+    → Merged n t k (partAt s cuts index runs) s u below → Closing n t k cuts index runs s u below
+closing-is n t k cuts index runs s u below h r p e m =
+    let mid = visited t (unite n t (partAt s cuts index runs)) 0 k s in
     record {
-      lower = eb ∙ ap length a;
-      upper = ea ∙ ap length b;
-      slots = ev ∙ rw (b, eu, a, eb, a) (sets-append s at (lowerRow P k) (upperRow P n k));
+      mid = mid;
+      size = sym (length-sets mid (5 * n) (members t mid 0 k)) ∙ ap length (sym (m .slots)) ∙ e;
+      closed = closed-is n t k cuts index runs s mid (omega arith) r p refl;
+      lower = λ P w. let a = lower-members P n t k mid h w in record { lower = m .size ∙ ap length a; slots = m .slots ∙ ap (sets mid (5 * n)) a };
     }
+
+pub upper-listed : (n t k below : ℕ) (s u : List ℕ) (above : ℕ) → k < n → above ≡ length (members t s (k + 1) n) → u ≡ sets s (5 * n + below) (members t s (k + 1) n)
+    → (P : Pattern) → Holds n t s (filled P k) → UpperListed P n k below s u above
+upper-listed n t k below s u above h ea eu P m =
+    let b = upper-members P n t k s h m in
+    record { upper = ea ∙ ap length b; slots = eu ∙ ap (sets s (5 * n + below)) b }
+
+module _ (P : Pattern) (n t k : ℕ) (s u : List ℕ) (below : ℕ) (l : LowerListed P n k s u below) where
+  -- the marks are as they were
+  pub lower-marks : Holds n t s (filled P k) → Holds n t u (filled P k)
+  lower-marks m = holds-kept n t s u (filled P k) (marks-sets n s u (5 * n) (lowerRow P k) (omega arith) (l .slots)) m
+
+  pub listed-both : (v : List ℕ) (above : ℕ) → UpperListed P n k below u v above → Listed P n k (5 * n) s v below above
+  listed-both v above w = record {
+    lower = l .lower;
+    upper = w .upper;
+    slots = w .slots ∙ rw (l .slots, l .lower) (sets-append s (5 * n) (lowerRow P k) (upperRow P n k));
+  }
 
 -- ---- how long they are
 
@@ -77,6 +93,30 @@ upper-le P n k h =
 
 -- ---- what is read from there
 
+-- a list that is written, with others behind it, is read
+module _ (s₀ s : List ℕ) (at : ℕ) (l : List ℕ) (e : s ≡ sets s₀ at l) (fits : at + length l ≤ length s₀) where
+  written-from : drop at s ≡ l ++ drop (at + length l) s₀
+  written-from =
+      ap (drop at) (e ∙ sets-eq l s₀ at fits ∙ append-assoc (take at s₀) l (drop (at + length l) s₀))
+      ∙ drop-at (take at s₀) (l ++ drop (at + length l) s₀) at (length-take-le at s₀ (omega arith))
+
+  -- all else is as it was
+  written-but : But at (at + length l) s₀ s
+  written-but q w = rw e (elim (decLt q at) [
+    | yes a ↦ sets-below s₀ at l q a
+    | no a ↦ sets-above s₀ at l q (w (omega arith))
+  ])
+
+module _ (P : Pattern) (n k : ℕ) (s₀ s : List ℕ) (below : ℕ) (l : LowerListed P n k s₀ s below) (fits : 5 * n + n ≤ length s₀) (h : k < n) where
+  lower-fits : 5 * n + length (lowerRow P k) ≤ length s₀
+  lower-fits = omega (arith, lower-le P k)
+
+  pub lower-read : take below (drop (5 * n) s) ≡ lowerRow P k
+  lower-read = ap (take below) (written-from s₀ s (5 * n) (lowerRow P k) (l .slots) lower-fits) ∙ take-at (lowerRow P k) _ below (sym (l .lower))
+
+  pub lower-but : But (5 * n) (5 * n + below) s₀ s
+  lower-but = rw (l .lower) (written-but s₀ s (5 * n) (lowerRow P k) (l .slots) lower-fits)
+
 module _ (P : Pattern) (n k at : ℕ) (s₀ s : List ℕ) (below above : ℕ) (l : Listed P n k at s₀ s below above) (fits : at + n ≤ length s₀) (h : k < n) where
   abbrev L : List ℕ
   L = lowerRow P k
@@ -84,34 +124,24 @@ module _ (P : Pattern) (n k at : ℕ) (s₀ s : List ℕ) (below above : ℕ) (l
   abbrev U : List ℕ
   U = upperRow P n k
 
-  abbrev rest : List ℕ
-  rest = drop (at + length (L ++ U)) s₀
-
   both-fit : at + length (L ++ U) ≤ length s₀
   both-fit = omega (arith, length-append L U, lower-le P k, upper-le P n k h)
 
-  from-at : drop at s ≡ L ++ (U ++ rest)
-  from-at =
-      ap (drop at) (l .slots ∙ sets-eq (L ++ U) s₀ at both-fit ∙ append-assoc (take at s₀) (L ++ U) rest)
-      ∙ drop-at (take at s₀) ((L ++ U) ++ rest) at (length-take-le at s₀ (omega arith))
-      ∙ append-assoc L U rest
+  from-at : drop at s ≡ L ++ (U ++ drop (at + length (L ++ U)) s₀)
+  from-at = written-from s₀ s at (L ++ U) (l .slots) both-fit ∙ append-assoc L U (drop (at + length (L ++ U)) s₀)
 
   -- lower row k
   pub listed-lower : take below (drop at s) ≡ lowerRow P k
-  listed-lower = ap (take below) from-at ∙ take-at L (U ++ rest) below (sym (l .lower))
+  listed-lower = ap (take below) from-at ∙ take-at L _ below (sym (l .lower))
 
   -- T(k)
   pub listed-upper : take above (drop (at + below) s) ≡ upperRow P n k
   listed-upper =
-      ap (take above) (sym (drop-drop below at s) ∙ ap (drop below) from-at ∙ drop-at L (U ++ rest) below (sym (l .lower)))
-      ∙ take-at U rest above (sym (l .upper))
+      ap (take above) (sym (drop-drop below at s) ∙ ap (drop below) from-at ∙ drop-at L _ below (sym (l .lower)))
+      ∙ take-at U _ above (sym (l .upper))
 
-  -- all else is as it was
   pub listed-but : But at (at + below + above) s₀ s
-  listed-but q w = rw (l .slots) (elim (decLt q at) [
-    | yes a ↦ sets-below s₀ at (L ++ U) q a
-    | no a ↦ sets-above s₀ at (L ++ U) q (omega (arith, w (omega arith), length-append L U, l .lower, l .upper))
-  ])
+  listed-but q w = written-but s₀ s at (L ++ U) (l .slots) both-fit q (λ a. omega (arith, w a, length-append L U, l .lower, l .upper))
 
 -- ---- products
 

@@ -2,7 +2,7 @@
 -- M' with rows and columns exchanged for the lower one. Definitions only.
 use mathlib.Core.Path.{_≡_}
 use mathlib.Core.List.{List, _++_, map}
-use Prim.Native.Nat.{ℕ, _+_, _-_, _<_, _≤_}
+use Prim.Native.Nat.{ℕ, _+_, _-_, _*_, _<_, _≤_}
 use lib.ListN.{length, getD}
 use lib.Seq.{sets}
 use Rattle.base.specs.Lists.{listAt, rowOf, has, total}
@@ -43,6 +43,23 @@ pub record Loaded (n t i : ℕ) (columns starts s₀ s : List ℕ) : Type 0 wher
 pub record Closed (n t k cuts : ℕ) (index runs s₀ s : List ℕ) : Type 0 where
   pub same : Same n s₀ s
   pub fill : (P : Pattern) (starts : List ℕ) → Stored P n k index runs starts → Cuts P n k cuts s₀ → Holds n t s₀ (P k) → Holds n t s (filled P k)
+
+-- lower row k, so long, is written to the list region of scratch
+pub record LowerListed (P : Pattern) (n k : ℕ) (s₀ s : List ℕ) (below : ℕ) : Type 0 where
+  pub lower : below ≡ length (lowerRow P k)
+  pub slots : s ≡ sets s₀ (5 * n) (lowerRow P k)
+
+-- both: mid is scratch before the list is written
+pub record Closing (n t k cuts : ℕ) (index runs s₀ s : List ℕ) (below : ℕ) : Type 0 where
+  pub mid : List ℕ
+  pub size : length mid ≡ length s₀
+  pub closed : Closed n t k cuts index runs s₀ mid
+  pub lower : (P : Pattern) → Holds n t mid (filled P k) → LowerListed P n k mid s below
+
+-- T(k), so long, is written behind lower row k
+pub record UpperListed (P : Pattern) (n k below : ℕ) (s₀ s : List ℕ) (above : ℕ) : Type 0 where
+  pub upper : above ≡ length (upperRow P n k)
+  pub slots : s ≡ sets s₀ (5 * n + below) (upperRow P n k)
 
 -- lower row k and T(k) are written one after the other from slot at on
 pub record Listed (P : Pattern) (n k at : ℕ) (s₀ s : List ℕ) (below above : ℕ) : Type 0 where

@@ -2,13 +2,11 @@
 use mathlib.Core.List.{List}
 use Prim.Native.Nat.{ℕ, _+_, _<_, _≤_}
 use native.Mathlib.Omega.{arith}
-use lib.ListN.{length}
 use Rattle.fill.specs.Fill.{Pattern, filled}
 use Rattle.marks.specs.Marks.{Holds, Same, Base}
 use Rattle.marks.specs.MarkLaws.{holds-kept}
-use Rattle.rows.specs.Rows.{Stored, Cuts, Held, Closed, Listed, Renewed}
+use Rattle.rows.specs.Rows.{Stored, Cuts, Held, Closed, But, Renewed}
 use Rattle.rows.specs.CutLaws.{cuts-same, cuts-but}
-use Rattle.rows.specs.ListLaws.{listed-but}
 
 module _ (P : Pattern) (n k t cuts at : ℕ) (h : k < n) (base : Base n cuts) (apart : cuts + n ≤ at) (index runs starts s₀ s₁ s₂ : List ℕ)
     (held : Held P n k t cuts s₀ index runs starts) (loaded : Same n s₀ s₁) (entries : Holds n t s₁ (P k)) where
@@ -21,17 +19,14 @@ module _ (P : Pattern) (n k t cuts at : ℕ) (h : k < n) (base : Base n cuts) (a
     pub closed-marks : Holds n t s₂ (filled P k)
     closed-marks = closed .fill P starts (held .store) loaded-cuts entries
 
-    module _ (s₃ : List ℕ) (below above : ℕ) (fits : at + n ≤ length s₂) (listed : Listed P n k at s₂ s₃ below above) where
+    -- a list is written behind the cuts
+    module _ (s₃ : List ℕ) (hi : ℕ) (written : But at hi s₂ s₃) where
       -- the marks and the cuts that renewing finds
       pub listed-marks : Holds n t s₃ (filled P k)
-      listed-marks =
-          let b = base .low in
-          holds-kept n t s₂ s₃ (filled P k) (λ q l. listed-but P n k at s₂ s₃ below above listed fits h q (λ w. absurd (omega arith))) closed-marks
+      listed-marks = let b = base .low in holds-kept n t s₂ s₃ (filled P k) (λ q l. written q (λ w. absurd (omega arith))) closed-marks
 
       pub listed-cuts : Cuts P n k cuts s₃
-      listed-cuts =
-          cuts-but P n k cuts at (at + below + above) s₂ s₃ (λ i l w. absurd (omega arith)) (listed-but P n k at s₂ s₃ below above listed fits h)
-          (cuts-same P n k cuts s₁ s₂ base (closed .same) loaded-cuts)
+      listed-cuts = cuts-but P n k cuts at hi s₂ s₃ (λ i l w. absurd (omega arith)) written (cuts-same P n k cuts s₁ s₂ base (closed .same) loaded-cuts)
 
       -- T(k) is put in the store, and the cuts are renewed
       pub place-turn : (s₄ index′ runs′ starts′ : List ℕ) → Stored P n (k + 1) index′ runs′ starts′ → Renewed n t k cuts index′ runs′ starts′ s₃ s₄

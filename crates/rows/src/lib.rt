@@ -1,20 +1,14 @@
 // One place of one side of the symbolic elimination, over the marks.
 ghost use mathlib.Core.Path.{_≡_};
 ghost use mathlib.Core.List.{map};
-ghost use Prim.Native.Nat.{ℕ, _+_, _≤_, _<_};
-ghost use lib.ListN.{length, getD};
+ghost use Prim.Native.Nat.{ℕ, _+_, _*_, _≤_, _<_};
+ghost use lib.ListN.{length, getD, take, drop};
 ghost use Rattle.base.specs.Lists.{rowOf, total};
 ghost use Rattle.fill.specs.Fill.{Pattern, filled};
-ghost use Rattle.marks.specs.Marks.{Below, Room, Blocks, Holds, marked, ListIn, Base, Parts};
-ghost use Rattle.rows.specs.Rows.{Loaded, Closed, Listed, Renewed, lengthIn, Countable};
+ghost use Rattle.marks.specs.Marks.{Below, Room, Blocks, Holds, marked, members, ListIn, Base, Parts};
+ghost use Rattle.rows.specs.Rows.{Loaded, Closing, UpperListed, Renewed, lengthIn, Countable};
 use base::OwnNumber;
 use base::Place;
-
-// How many filled places a row has below and above its diagonal.
-pub struct RowLengths {
-    pub below: usize,
-    pub above: usize,
-}
 
 // "place k takes own row r(k)"
 pub fn own_row(order: &[u16], k: Place) -> OwnNumber
@@ -47,7 +41,8 @@ pub fn load_row_place(
     marks::load_row(s, n, stamp, list);
 }
 
-// Unites the entries of place k, already marked, with the lists of the members below k: the marks are then row k of the fill.
+// Unites the entries of place k, already marked, with the lists of the members below k: the marks are then row k of the fill,
+// and lower row k stands in the list region. Answers how long that is.
 pub fn close_place(
     s: &mut [u32],
     n: usize,
@@ -56,14 +51,14 @@ pub fn close_place(
     cuts: usize,
     index: &[u16],
     runs: &[u32],
-)
+) -> usize
     requires { ⌜ Parts n (k .0) (now s) cuts (now index) (now runs) ⌝ }
     requires { ⌜ (k .0 < n) × Base n cuts × Room n (now s) ⌝ }
     requires { ⌜ Blocks n stamp (now s) ⌝ }
-    ensures { λ r. ⌜ Closed n stamp (k .0) cuts (now (index .entry)) (now (runs .entry)) (now (s .entry)) (now (s .exit)) ⌝ }
+    ensures { λ below. ⌜ Closing n stamp (k .0) cuts (now (index .entry)) (now (runs .entry)) (now (s .entry)) (now (s .exit)) below ⌝ }
 {
     let end = k.0 as usize;
-    marks::merge_lower(s, n, stamp, end, cuts, index, runs);
+    marks::merge_lower(s, n, stamp, end, cuts, index, runs)
 }
 
 // Whether (k, k) is filled, by the marks of place k.
@@ -76,24 +71,23 @@ pub fn has_diagonal(s: &[u32], stamp: u32, k: Place) -> bool
     s[i] == stamp
 }
 
-// Writes lower row k and then T(k) from slot `at` on.
-pub fn list_place(s: &mut [u32], n: usize, stamp: u32, k: Place, at: usize) -> RowLengths
-    requires { ⌜ (k .0 < n) × (n + n + n ≤ at) × (at + n ≤ length (now s)) × Room n (now s) ⌝ }
+// Writes T(k) behind lower row k, which has `below` entries.
+pub fn list_upper(s: &mut [u32], n: usize, stamp: u32, k: Place, below: usize) -> usize
+    requires { ⌜ (k .0 < n) × (below ≤ k .0) × Room n (now s) ⌝ }
     requires { ⌜ Blocks n stamp (now s) ⌝ }
-    ensures { λ r. ⌜ ((P : Pattern) → Holds n stamp (now (s .entry)) (filled P (k .0)) → Listed P n (k .0) at (now (s .entry)) (now (s .exit)) (r .below) (r .above)) ⌝ }
+    ensures { λ above. ⌜ ((P : Pattern) → Holds n stamp (now (s .entry)) (filled P (k .0)) → UpperListed P n (k .0) below (now (s .entry)) (now (s .exit)) above) ⌝ }
 {
     let i = k.0 as usize;
-    let below = marks::gather(s, n, stamp, 0, i, at);
-    let above = marks::gather(s, n, stamp, i + 1, n, at + below);
-    RowLengths { below, above }
+    marks::gather(s, n, stamp, i + 1, n, 5 * n + below)
 }
 
-// The cuts for place k + 1, once T(k) is in the store.
+// The cuts for place k + 1, once T(k) is in the store. Lower row k, with `below` entries, stands in the list region.
 pub fn renew_cuts(
     s: &mut [u32],
     n: usize,
     stamp: u32,
     k: Place,
+    below: usize,
     cuts: usize,
     index: &[u16],
     runs: &[u32],
@@ -101,11 +95,11 @@ pub fn renew_cuts(
 )
     requires { ⌜ ((i : ℕ) → i < k .0 + 1 → ListIn (now index) (now runs) (now starts) i) ⌝ }
     requires { ⌜ (k .0 < n) × Base n cuts × Room n (now s) ⌝ }
-    requires { ⌜ Blocks n stamp (now s) ⌝ }
+    requires { ⌜ take below (drop (5 * n) (now s)) ≡ members stamp (now s) 0 (k .0) ⌝ }
     ensures { λ r. ⌜ Renewed n stamp (k .0) cuts (now (index .entry)) (now (runs .entry)) (now (starts .entry)) (now (s .entry)) (now (s .exit)) ⌝ }
 {
     let i = k.0 as usize;
-    marks::next_cuts(s, n, stamp, i, cuts, index, runs, starts);
+    marks::next_cuts(s, n, stamp, i, below, cuts, index, runs, starts);
 }
 
 // How long list i is.

@@ -1,4 +1,4 @@
-use Rattle.rows.specs.FillLaws.{closed-is}
+use Rattle.rows.specs.ListLaws.{closing-is}
 use native.Mathlib.Omega.{arith}
 use borrow.Author.Needs.{needs}
 use Rattle.rows.proofs.close_place.Statement.{statement}
@@ -12,9 +12,10 @@ merge-lower-requires c κs =
 
 returns : tie.Need-returns
 returns c =
+    let m = c .before .before .merge-lower in
     let s = c .before .before .before .before .before .before .before .before in
     let q = s .pre .1 .0 in
-    closed-is _ _ _ _ _ _ _ _ (omega arith) (q .2) (s .pre .0) (c .before .before .merge-lower .ensures)
+    closing-is _ _ _ _ _ _ _ _ _ (q .0) (q .2) (s .pre .0) (m .kept .0) (m .ensures)
 
 pub close-place-spec : {M : Type 1} → statement M
 close-place-spec = tie.close (tie.spec (λ c. search needs) merge-lower-requires (λ c. search needs) returns)
