@@ -1,5 +1,5 @@
 -- Keeping T(k): the stores hold it, and the cuts are those of place k + 1. One law for both ways of placing and both sides.
-use mathlib.Core.Path.{_≡_, ap, _∙_, subst}
+use mathlib.Core.Path.{_≡_, sym, ap, _∙_, subst}
 use mathlib.Core.Bool.{true, false}
 use mathlib.Core.List.{List, map}
 use Prim.Native.Nat.{ℕ, suc, _+_, _-_, _*_, _<_, _≤_}
@@ -14,10 +14,10 @@ use Rattle.base.specs.AscLaws.{asc-at, length-asc}
 use Rattle.base.specs.declared.Side.the-variants.{Upper}
 use Rattle.fill.specs.Fill.{Pattern, filled, upperRow, lowerRow, flip}
 use Rattle.placement.specs.PlacingLaws.{room}
-use Rattle.marks.specs.Marks.{ListIn}
+use Rattle.marks.specs.Marks.{ListIn, members}
 use Rattle.rows.specs.Rows.{Stored, Renewed, rowSteps, lengthIn, Countable}
 use Rattle.rows.specs.FillLaws.{upper-below}
-use Rattle.rows.specs.ListLaws.{lower-le, upper-le, row-products-is, held-countable, products-fit}
+use Rattle.rows.specs.ListLaws.{lower-members, lower-le, upper-le, row-products-is, held-countable, products-fit}
 use Rattle.placing.specs.Ways.{wayOf, Suited}
 use Rattle.placing.specs.Slices.{Ready}
 use Rattle.placing.specs.Held.{Holding, RowIs, Turn, Stepped}
@@ -70,6 +70,10 @@ module _ {way : Way} {P : Pattern} {n k t cuts : ℕ} {store : List ℕ} {values
 
   pub keep-list : take (5 * n + o .below + o .above - (5 * n + o .below)) (drop (5 * n + o .below) s) ≡ upperRow P n k
   keep-list = part-is (5 * n + o .below) (o .above) s ∙ h .lists .upper
+
+  -- lower row k is what cutting walks along
+  pub keep-members : take (o .below) (drop (5 * n) s) ≡ members t s 0 k
+  keep-members = h .lists .lower ∙ sym (lower-members P n t k s (h .below) (h .lists .marks))
 
   pub keep-turn : (row list : List ℕ) → RowIs way (lowerRow P k) row → list ≡ upperRow P n k
       → Turn way (upperRow P n) (lowerRow P) n values k (blank 0 store) index runs starts row list e

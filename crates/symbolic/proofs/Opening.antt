@@ -13,10 +13,10 @@ use Rattle.fill.specs.Fill.{Pattern, filled}
 use Rattle.matrix.specs.Input.{Input}
 use Rattle.marks.specs.Marks.{Room, Base, Fresh, Holds, Free, Same, Parts}
 use Rattle.marks.specs.MarkLaws.{holds-kept}
-use Rattle.rows.specs.Rows.{Cuts, Closed, Listed, But}
+use Rattle.rows.specs.Rows.{Cuts, Closed, LowerListed, Closing, UpperListed, Listed, But}
 use Rattle.rows.specs.CutLaws.{cuts-kept}
 use Rattle.rows.specs.FillLaws.{held-parts}
-use Rattle.rows.specs.ListLaws.{listed-lower, listed-upper, listed-but, lower-le, upper-le}
+use Rattle.rows.specs.ListLaws.{lower-marks, listed-both, listed-lower, listed-upper, listed-but, lower-le, upper-le}
 use Rattle.columns.specs.Marks.{Below, markAt}
 use Rattle.columns.specs.Columns.{Space, orderOf, Untouched, Given, Ready}
 use Rattle.columns.specs.Sides.{sideRow, SideReady, SideLoaded, rowsIn}
@@ -187,17 +187,32 @@ module _ (side : Side) (i : Input) (k t window : ℕ) (index runs lists s₀ : L
       foreign = load-foreign side loaded kept;
     }
 
-    module _ (s₂ : List ℕ) (size₂ : length s₂ ≡ length s₁) (closed : Closed n t k cuts index runs s₁ s₂) where
+    module _ (u₂ : List ℕ) (below : ℕ) (closing : Closing n t k cuts index runs s₁ u₂ below) where
+      abbrev s₂ : List ℕ
+      s₂ = closing .mid
+
+      abbrev closed : Closed n t k cuts index runs s₁ s₂
+      closed = closing .closed
+
+      mid-marks : Holds n t s₂ (filled P k)
+      mid-marks = closed .fill P lists (o .held .store) loaded-cuts loaded-marks
+
+      lowered : LowerListed P n k s₂ u₂ below
+      lowered = closing .lower P mid-marks
+
       -- the marks are row k of the fill
-      pub closed-marks : Holds n t s₂ (filled P k)
-      closed-marks = closed .fill P lists (o .held .store) loaded-cuts loaded-marks
+      pub closed-marks : Holds n t u₂ (filled P k)
+      closed-marks = lower-marks P n t k s₂ u₂ below lowered mid-marks
 
-      pub closed-room : Room n s₂
-      closed-room = record { small = loaded-room .small; long = omega (arith, loaded-room .long) }
+      pub closed-short : below ≤ k
+      closed-short = omega (arith, lowered .lower, lower-le P k)
 
-      module _ (s₃ : List ℕ) (size₃ : length s₃ ≡ length s₂) (below above : ℕ) (listed : Listed P n k (5 * n) s₂ s₃ below above) where
+      module _ (s₃ : List ℕ) (size₃ : length s₃ ≡ length s₁) (above : ℕ) (upper : UpperListed P n k below u₂ s₃ above) where
+        listed : Listed P n k (5 * n) s₂ s₃ below above
+        listed = listed-both P n t k s₂ u₂ below lowered s₃ above upper
+
         fits : 5 * n + n ≤ length s₂
-        fits = omega (arith, closed-room .long)
+        fits = omega (arith, loaded-room .long, closing .size)
 
         short : below + above < n
         short = omega (arith, listed .lower, listed .upper, lower-le P k, upper-le P n k (o .below))
@@ -206,7 +221,7 @@ module _ (side : Side) (i : Input) (k t window : ℕ) (index runs lists s₀ : L
         others = listed-but P n k (5 * n) s₂ s₃ below above listed fits (o .below)
 
         apart : Apart side n s₀ s₃
-        apart = apart-then loaded-apart (apart-then (apart-same side n s₁ s₂ size₂ (closed .same)) (apart-list side n (5 * n + below + above) s₂ s₃ size₃ (omega (arith, short)) others))
+        apart = apart-then loaded-apart (apart-then (apart-same side n s₁ s₂ (closing .size) (closed .same)) (apart-list side n (5 * n + below + above) s₂ s₃ (size₃ ∙ sym (closing .size)) (omega (arith, short)) others))
 
         next-ready : (side : Side) → SideLoaded side n t k window hi (rowsIn i s₀) s₀ s₁ → rowsIn i s₃ ≡ rowsIn i s₀ → SideReady side n (k + 1) hi (rowsIn i s₃) s₃
         next-ready Upper l e = tt
@@ -219,7 +234,7 @@ module _ (side : Side) (i : Input) (k t window : ℕ) (index runs lists s₀ : L
         row-found d = record {
           diagonal = d;
           lists = record {
-            marks = holds-kept n t s₂ s₃ (filled P k) (λ q l. others q (λ w. absurd (omega arith))) closed-marks;
+            marks = holds-kept n t s₂ s₃ (filled P k) (λ q l. others q (λ w. absurd (omega arith))) mid-marks;
             below-is = listed .lower;
             above-is = listed .upper;
             lower = listed-lower P n k (5 * n) s₂ s₃ below above listed fits (o .below);
@@ -250,5 +265,5 @@ parts-at n k s a b index runs e p = rw e p
 pub base-at : (n a b : ℕ) → a ≡ b → Base n b → Base n a
 base-at n a b e p = rw e p
 
-pub closed-at : (n t k a b : ℕ) (index runs s u : List ℕ) → a ≡ b → Closed n t k a index runs s u → Closed n t k b index runs s u
-closed-at n t k a b index runs s u e p = rw e at p
+pub closing-at : (n t k a b : ℕ) (index runs s u : List ℕ) (below : ℕ) → a ≡ b → Closing n t k a index runs s u below → Closing n t k b index runs s u below
+closing-at n t k a b index runs s u below e p = rw e at p

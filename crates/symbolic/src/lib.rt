@@ -96,12 +96,12 @@ fn open_place(
     let p = k.0 as usize;
     let end = columns::load(side, marks, n, stamp, p, window, columns, starts, r);
     let cuts = cuts_of(side, n);
-    rows::close_place(marks, n, stamp, k, cuts, index, runs);
+    let below = rows::close_place(marks, n, stamp, k, cuts, index, runs);
     if rows::has_diagonal(marks, stamp, k) {
-        let found = rows::list_place(marks, n, stamp, k, 5 * n);
+        let above = rows::list_upper(marks, n, stamp, k, below);
         return Opened::Row(OpenRow {
-            below: found.below,
-            above: found.above,
+            below,
+            above,
             window: end,
         });
     }
@@ -141,7 +141,7 @@ fn keep_shared(
     );
     match put {
         Put::Done(next) => {
-            rows::renew_cuts(marks, n, stamp, k, cuts, index, runs, starts);
+            rows::renew_cuts(marks, n, stamp, k, row.below, cuts, index, runs, starts);
             Put::Done(next)
         }
         Put::Full => Put::Full,
@@ -168,7 +168,17 @@ fn keep_plain(
     let put = placing::place_plain(index, starts, values, &marks[mid..end], k, e);
     match put {
         Put::Done(next) => {
-            rows::renew_cuts(marks, n, stamp, k, n + n + n, index, starts, starts);
+            rows::renew_cuts(
+                marks,
+                n,
+                stamp,
+                k,
+                row.below,
+                n + n + n,
+                index,
+                starts,
+                starts,
+            );
             Put::Done(next)
         }
         Put::Full => Put::Full,

@@ -1,4 +1,4 @@
-use Rattle.symbolic.proofs.Keeping.{keep-fits, keep-row, keep-list, keep-turn, keep-ready, kept-next, next-lists, stepped-done, stepped-full}
+use Rattle.symbolic.proofs.Keeping.{keep-fits, keep-row, keep-list, keep-members, keep-turn, keep-ready, kept-next, next-lists, stepped-done, stepped-full}
 use Rattle.symbolic.specs.Places.{Keep}
 use Rattle.fill.specs.Fill.{Pattern, upperRow, lowerRow}
 use Rattle.base.specs.Lists.{blank}
@@ -53,7 +53,7 @@ renew-cuts-requires c κs =
     let s = Begin p in
     let h = s .pre .keep in
     let d = stepped-done _ _ _ _ _ _ _ _ _ _ _ (a .put .given .1) (step p (s .pre .pattern) (s .pre .store) h) in
-    (next-lists h _ _ _ _ (d .1), ((h .below, h .base, h .space), h .lists .marks .blocks))
+    (next-lists h _ _ _ _ (d .1), ((h .below, h .base, h .space), keep-members h))
 
 returns : tie.Need-returns
 returns c =

@@ -1,7 +1,10 @@
-use Rattle.symbolic.proofs.Opening.{open-given, loaded-room, loaded-marks, loaded-parts, closed-marks, closed-room, row-found, base-of, base-at, parts-at, closed-at}
-use Rattle.symbolic.specs.Places.{patternOf, cutsOf}
+use Rattle.symbolic.proofs.Opening.{open-given, loaded-room, loaded-marks, loaded-parts, closed-marks, closed-short, row-found, base-of, base-at, parts-at, closing-at}
+use Rattle.symbolic.specs.Places.{patternOf, cutsOf, Open}
+use Rattle.fill.specs.Fill.{filled}
 use Rattle.matrix.specs.Input.{Input, inputOf}
-use Rattle.rows.specs.Rows.{Closed}
+use Rattle.rows.specs.Rows.{Closing}
+use Rattle.marks.specs.Marks.{Room, Holds}
+use Rattle.marks.specs.MarkLaws.{room-kept}
 use mathlib.Core.Path.{sym, _∙_}
 use mathlib.Core.List.{List, []}
 use Prim.Native.Nat.{ℕ}
@@ -38,56 +41,56 @@ close-place-requires c κs =
     )
 
 -- the place is closed over the lists before it
-closed : (p : tie.After-close-place) → let s = Begin (Load p) .args in
-    Closed (s .n) (s .stamp) (s .k .0) (cutsOf (s .side) (s .n)) (s .index .now) (s .runs .now) (Load p .load .last .1 .0) (p .close-place .last .0)
-closed p = closed-at _ _ _ _ _ _ _ _ _ (p .before .before .cuts-of .ensures) (p .close-place .ensures)
+closing : (p : tie.After-close-place) → let s = Begin (Load p) .args in
+    Closing (s .n) (s .stamp) (s .k .0) (cutsOf (s .side) (s .n)) (s .index .now) (s .runs .now) (Load p .load .last .1 .0) (p .close-place .last .0) (p .close-place .result)
+closing p = closing-at _ _ _ _ _ _ _ _ _ _ (p .before .before .cuts-of .ensures) (p .close-place .ensures)
+
+-- scratch has its regions
+room : (p : tie.After-close-place) → Room (Begin (Load p) .args .n) (p .close-place .last .0)
+room p =
+    let l = Load p in
+    let s = Begin l in
+    room-kept _ _ _ (p .close-place .kept .0) (loaded-room _ (given s (s .pre .order)) _ _ _ _ _ _ _ (s .pre .due) _ _ (l .load .ensures))
+
+-- the marks are row k of the fill, for the column order and the list starts that the caller has
+filled-row : (p : tie.After-close-place) (order lists : List ℕ) → let s = Begin (Load p) .args in
+    Open (s .side) (given (Begin (Load p)) order) (s .k .0) (s .stamp) (s .window) (s .index .now) (s .runs .now) lists (s .marks .now)
+    → Holds (s .n) (s .stamp) (p .close-place .last .0) (filled (patternOf (s .side) (given (Begin (Load p)) order)) (s .k .0))
+filled-row p order lists o = closed-marks _ (given (Begin (Load p)) order) _ _ _ _ _ _ _ o _ _ (Load p .load .ensures) _ _ (closing p)
 
 has-diagonal-requires : tie.Need-has-diagonal-requires
 has-diagonal-requires c κs =
     let p = c .before .before .before in
-    let l = Load p in
-    let s = Begin l in
-    let o = s .pre .due in
-    let r = closed-room _ (given s (s .pre .order)) _ _ _ _ _ _ _ o _ _ (l .load .ensures) _ (p .close-place .kept .0) (closed p) in
-    omega (arith, r .long, o .below)
+    omega (arith, room p .long, Begin (Load p) .pre .due .below)
 
-list-place-requires : tie.Need-list-place-requires
-list-place-requires c κs =
+list-upper-requires : tie.Need-list-upper-requires
+list-upper-requires c κs =
     let p = c .before .before .before .before .before .before in
-    let l = Load p in
-    let s = Begin l in
+    let s = Begin (Load p) in
     let o = s .pre .due in
-    let i = given s (s .pre .order) in
-    let r = closed-room _ i _ _ _ _ _ _ _ o _ _ (l .load .ensures) _ (p .close-place .kept .0) (closed p) in
-    let h = closed-marks _ i _ _ _ _ _ _ _ o _ _ (l .load .ensures) _ (p .close-place .kept .0) (closed p) in
-    ((o .below, omega arith, omega (arith, r .long), r), h .blocks)
+    ((o .below, closed-short _ (given s (s .pre .order)) _ _ _ _ _ _ _ o _ _ (Load p .load .ensures) _ _ (closing p), room p), filled-row p (s .pre .order) (s .pre .lists) o .blocks)
 
 returns : tie.Need-returns
 returns c =
     let t = c .before .before in
     let d = t .before .before .before in
     let p = d .before .before .before .before in
-    let l = Load p in
-    let s = Begin l in
+    let s = Begin (Load p) in
     λ order lists o.
     let i = given s order in
-    let h = closed-marks _ i _ _ _ _ _ _ _ o _ _ (l .load .ensures) _ (p .close-place .kept .0) (closed p) in
-    row-found _ i _ _ _ _ _ _ _ o _ _ (l .load .ensures) _ (p .close-place .kept .0) (closed p) _ (t .list-place .kept .0) _ _ (t .list-place .ensures (patternOf (s .args .side) i) h)
+    let h = filled-row p order lists o in
+    row-found _ i _ _ _ _ _ _ _ o _ _ (Load p .load .ensures) _ _ (closing p) _ (t .list-upper .kept .0 ∙ p .close-place .kept .0) _ (t .list-upper .ensures (patternOf (s .args .side) i) h)
     (sym (d .has-diagonal .ensures .1 (s .args .n) (patternOf (s .args .side) i) (o .below) h) ∙ t .before .before .if1 .taken)
 
 returns-2 : tie.Need-returns-2
 returns-2 c =
     let d = c .before in
     let p = d .before .before .before .before in
-    let l = Load p in
-    let s = Begin l in
-    λ order lists o.
-    let i = given s order in
-    let h = closed-marks _ i _ _ _ _ _ _ _ o _ _ (l .load .ensures) _ (p .close-place .kept .0) (closed p) in
-    sym (d .has-diagonal .ensures .1 (s .args .n) (patternOf (s .args .side) i) (o .below) h) ∙ c .if1 .left
+    let s = Begin (Load p) in
+    λ order lists o. sym (d .has-diagonal .ensures .1 (s .args .n) (patternOf (s .args .side) (given s order)) (o .below) (filled-row p order lists o)) ∙ c .if1 .left
 
 pub open-place-spec : {M : Type 1} → statement M
 open-place-spec =
     tie.close
-    (tie.spec (λ c. search needs) load-requires (λ c κs. search needs) close-place-requires has-diagonal-requires (λ c. search needs) list-place-requires
+    (tie.spec (λ c. search needs) load-requires (λ c κs. search needs) close-place-requires has-diagonal-requires list-upper-requires
     (λ c. search needs) returns (λ c. search needs) returns-2)
