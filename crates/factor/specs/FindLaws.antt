@@ -3,7 +3,7 @@ use mathlib.Core.Path.{_≡_, refl, sym, ap, _∙_, subst}
 use mathlib.Core.List.{List, [], _∷_, map}
 use Prim.Native.Nat.{ℕ, suc, _+_, _-_, _*_, _<_, _≤_}
 use native.Mathlib.Omega.{arith}
-use lib.ListN.{length, getD, drop, length-drop}
+use lib.ListN.{length, getD, take, drop, length-drop}
 use lib.Seq.{getD-take, getD-drop, ext-getD, length-take-le}
 use Rattle.base.specs.Lists.{has, rowOf}
 use Rattle.base.specs.declared.Form.{Form}
@@ -14,12 +14,12 @@ use Rattle.matrix.specs.OrderLaws.{order-below, place-hits}
 use Rattle.questions.specs.Settled.{Under, columnsAt}
 use Rattle.questions.specs.SettledLaws.{row-under, stored-is}
 use Rattle.outcome.specs.Placed.{PlacedSide, starts-long, size-at, run-at, run-inside, list-at}
-use Rattle.marks.specs.Marks.{Below, Holds, Base, Parts, Blocks, through}
+use Rattle.marks.specs.Marks.{Below, Holds, Base, Parts, Blocks, members, through}
 use Rattle.marks.specs.MarkLaws.{holds-same}
-use Rattle.rows.specs.Rows.{Stored, Held, Loaded, Closed, Listed, Renewed}
+use Rattle.rows.specs.Rows.{Stored, Held, Loaded, LowerListed, Closing, But, Renewed}
 use Rattle.rows.specs.FillLaws.{held-parts}
-use Rattle.rows.specs.ListLaws.{listed-lower, listed-but, lower-le}
-use Rattle.rows.specs.Turn.{loaded-cuts, closed-marks, listed-marks, place-turn}
+use Rattle.rows.specs.ListLaws.{lower-members, lower-marks, lower-read, lower-but, lower-le}
+use Rattle.rows.specs.Turn.{loaded-cuts, closed-marks, place-turn}
 use Rattle.factor.specs.Factoring.{Lists, Written, Going, patternOf, Findable, Found, lowerIn}
 
 -- ---- one finding, from what its calls leave
@@ -39,55 +39,58 @@ module _ {P : Pattern} {n k : ℕ} {starts columns r index runs ustarts s₀ : L
     pub close-blocks : Blocks n (k + 1) s₁
     close-blocks = marked-row .blocks
 
-    module _ {s₂ : List ℕ} (closed : Closed n (k + 1) k (3 * n) index runs s₁ s₂) (l₂ : length s₂ ≡ length s₁) where
+    module _ {s₃ : List ℕ} {below : ℕ} (closing : Closing n (k + 1) k (3 * n) index runs s₁ s₃ below) (l₃ : length s₃ ≡ length s₁) where
+      abbrev s₂ : List ℕ
+      s₂ = closing .mid
+
       filled-row : Holds n (k + 1) s₂ (filled P k)
-      filled-row = closed-marks P n k (k + 1) (3 * n) (5 * n) (F .place) (base-at n) (omega arith) index runs ustarts s₀ s₁ s₂ (F .held) (loaded .same) marked-row closed
+      filled-row = closed-marks P n k (k + 1) (3 * n) (5 * n) (F .place) (base-at n) (omega arith) index runs ustarts s₀ s₁ s₂ (F .held) (loaded .same) marked-row (closing .closed)
 
-      pub list-blocks : Blocks n (k + 1) s₂
-      list-blocks = filled-row .blocks
+      listed : LowerListed P n k s₂ s₃ below
+      listed = closing .lower P filled-row
 
-      module _ {s₃ : List ℕ} {below above : ℕ} (list : (Q : Pattern) → Holds n (k + 1) s₂ (filled Q k) → Listed Q n k (5 * n) s₂ s₃ below above) (l₃ : length s₃ ≡ length s₂) where
-        fits : 5 * n + n ≤ length s₂
-        fits = omega (arith, F .room .long)
+      fits : 5 * n + n ≤ length s₂
+      fits = omega (arith, F .room .long, closing .size)
 
-        listed : Listed P n k (5 * n) s₂ s₃ below above
-        listed = list P filled-row
+      written : But (5 * n) (5 * n + below) s₂ s₃
+      written = lower-but P n k s₂ s₃ below listed fits (F .place)
 
-        kept-marks : Holds n (k + 1) s₃ (filled P k)
-        kept-marks = listed-marks P n k (k + 1) (3 * n) (5 * n) (F .place) (base-at n) (omega arith) index runs ustarts s₀ s₁ s₂ (F .held) (loaded .same) marked-row closed s₃ below above fits listed
+      kept-marks : Holds n (k + 1) s₃ (filled P k)
+      kept-marks = lower-marks P n (k + 1) k s₂ s₃ below listed filled-row
 
-        pub cut-blocks : Blocks n (k + 1) s₃
-        cut-blocks = kept-marks .blocks
+      -- what cutting walks along
+      pub cut-members : take below (drop (5 * n) s₃) ≡ members (k + 1) s₃ 0 k
+      cut-members = lower-read P n k s₂ s₃ below listed fits (F .place) ∙ sym (lower-members P n (k + 1) k s₃ (F .place) kept-marks)
 
-        module _ {s₄ : List ℕ} (renewed : Renewed n (k + 1) k (3 * n) index runs ustarts s₃ s₄) (l₄ : length s₄ ≡ length s₃) where
-          -- a slot that no step writes
-          same : (q : ℕ) → n ≤ q → (n + n ≤ q → 4 * n ≤ q) → q < 5 * n → getD s₄ q 0 ≡ getD s₀ q 0
-          same q a b c =
-              renewed .kept q (λ e. omega (arith, b (omega arith), F .place))
-              ∙ listed-but P n k (5 * n) s₂ s₃ below above listed fits (F .place) q (λ e. absurd (omega arith))
-              ∙ closed .same q (record { past = a; away = λ e. omega (arith, b e) }) ∙ loaded .same q (record { past = a; away = λ e. omega (arith, b e) })
+      module _ {s₄ : List ℕ} (renewed : Renewed n (k + 1) k (3 * n) index runs ustarts s₃ s₄) (l₄ : length s₄ ≡ length s₃) where
+        -- a slot that no step writes
+        same : (q : ℕ) → n ≤ q → (n + n ≤ q → 4 * n ≤ q) → q < 5 * n → getD s₄ q 0 ≡ getD s₀ q 0
+        same q a b c =
+            renewed .kept q (λ e. omega (arith, b (omega arith), F .place))
+            ∙ written q (λ e. absurd (omega arith))
+            ∙ closing .closed .same q (record { past = a; away = λ e. omega (arith, b e) }) ∙ loaded .same q (record { past = a; away = λ e. omega (arith, b e) })
 
-          short : below ≤ n
-          short = omega (arith, listed .lower, lower-le P k, F .place)
+        short : below ≤ n
+        short = omega (arith, listed .lower, lower-le P k, F .place)
 
-          lower-same : lowerIn n below s₄ ≡ lowerIn n below s₃
-          lower-same =
-              let a : length (lowerIn n below s₄) ≡ below = length-take-le below (drop (5 * n) s₄) (simp length-drop (omega (arith, short, F .room .long))) in
-              let b : length (lowerIn n below s₃) ≡ below = length-take-le below (drop (5 * n) s₃) (simp length-drop (omega (arith, short, F .room .long))) in
-              ext-getD 0 (lowerIn n below s₄) (lowerIn n below s₃) (a ∙ sym b)
-              (λ p h. let g : p < below = rw a at h in
-              getD-take below (drop (5 * n) s₄) p 0 g ∙ getD-drop (5 * n) s₄ p 0 ∙ renewed .kept (5 * n + p) (λ e. omega (arith, F .place))
-              ∙ sym (getD-drop (5 * n) s₃ p 0) ∙ sym (getD-take below (drop (5 * n) s₃) p 0 g))
+        lower-same : lowerIn n below s₄ ≡ lowerIn n below s₃
+        lower-same =
+            let a : length (lowerIn n below s₄) ≡ below = length-take-le below (drop (5 * n) s₄) (simp length-drop (omega (arith, short, F .room .long))) in
+            let b : length (lowerIn n below s₃) ≡ below = length-take-le below (drop (5 * n) s₃) (simp length-drop (omega (arith, short, F .room .long))) in
+            ext-getD 0 (lowerIn n below s₄) (lowerIn n below s₃) (a ∙ sym b)
+            (λ p h. let g : p < below = rw a at h in
+            getD-take below (drop (5 * n) s₄) p 0 g ∙ getD-drop (5 * n) s₄ p 0 ∙ renewed .kept (5 * n + p) (λ e. omega (arith, F .place))
+            ∙ sym (getD-drop (5 * n) s₃ p 0) ∙ sym (getD-take below (drop (5 * n) s₃) p 0 g))
 
-          pub found : Found P n k below index runs ustarts s₀ s₄
-          found = record {
-            next = place-turn P n k (k + 1) (3 * n) (5 * n) (F .place) (base-at n) (omega arith) index runs ustarts s₀ s₁ s₂ (F .held) (loaded .same) marked-row closed s₃ below above fits listed
-                s₄ index runs ustarts (F .store) renewed (k + 1 + 1) (omega arith);
-            size = listed .lower;
-            lower = lower-same ∙ listed-lower P n k (5 * n) s₂ s₃ below above listed fits (F .place);
-            inverse = λ j h. same (n + j) (omega arith) (λ e. absurd (omega arith)) (omega arith);
-            cursors = λ j h. same (4 * n + j) (omega arith) (λ e. omega arith) (omega arith);
-          }
+        pub found : Found P n k below index runs ustarts s₀ s₄
+        found = record {
+          next = place-turn P n k (k + 1) (3 * n) (5 * n) (F .place) (base-at n) (omega arith) index runs ustarts s₀ s₁ s₂ (F .held) (loaded .same) marked-row (closing .closed) s₃ (5 * n + below) written
+              s₄ index runs ustarts (F .store) renewed (k + 1 + 1) (omega arith);
+          size = listed .lower;
+          lower = lower-same ∙ lower-read P n k s₂ s₃ below listed fits (F .place);
+          inverse = λ j h. same (n + j) (omega arith) (λ e. absurd (omega arith)) (omega arith);
+          cursors = λ j h. same (4 * n + j) (omega arith) (λ e. omega arith) (omega arith);
+        }
 
 -- ---- between two rows
 

@@ -230,10 +230,9 @@ fn find_lower(
     let stamp = k.0 + 1;
     let cuts = 3 * n;
     rows::load_row_place(marks, n, stamp, k, columns, starts, r);
-    rows::close_place(marks, n, stamp, k, cuts, uindex, uruns);
-    let found = rows::list_place(marks, n, stamp, k, 5 * n);
-    rows::renew_cuts(marks, n, stamp, k, cuts, uindex, uruns, ustarts);
-    found.below
+    let below = rows::close_place(marks, n, stamp, k, cuts, uindex, uruns);
+    rows::renew_cuts(marks, n, stamp, k, below, cuts, uindex, uruns, ustarts);
+    below
 }
 
 fn reads_lower(form: Form) -> bool

@@ -1,14 +1,12 @@
 use denote.Ref.{now}
-use Rattle.factor.specs.FindLaws.{base-at, close-parts, close-blocks, list-blocks, cut-blocks, found}
+use Rattle.factor.specs.FindLaws.{base-at, close-parts, close-blocks, cut-members, found}
 use Rattle.marks.specs.MarkLaws.{room-kept}
-use native.Mathlib.Omega.{arith}
 use borrow.Author.Needs.{needs}
 use Rattle.factor.proofs.find_lower.Statement.{statement}
 use Rattle.factor.proofs.find_lower.Tie as tie
 use Rattle.factor.proofs.find_lower.Reads as reads
 use Rattle.factor.proofs.find_lower.Lts as lts
 use Rattle.rows.proofs.close_place.Reads as close-place-reads
-use Rattle.rows.proofs.list_place.Reads as list-place-reads
 use Rattle.rows.proofs.load_row_place.Reads as load-row-place-reads
 use Rattle.rows.proofs.renew_cuts.Reads as renew-cuts-reads
 
@@ -29,54 +27,26 @@ close-place-requires c κs =
     let l = c .before .before .before .load-row-place in
     (close-parts F (l .ensures) (l .kept .0), ((F .place, base-at _, room-kept _ _ _ (l .kept .0) (F .room)), close-blocks F (l .ensures) (l .kept .0)))
 
-mul-list-place : tie.Need-mul-list-place
-mul-list-place c = search needs
-
-list-place-requires : tie.Need-list-place-requires
-list-place-requires c κs =
+renew-cuts-requires : tie.Need-renew-cuts-requires
+renew-cuts-requires c κs =
     let s = c .before .before .before .before .before .before .before .before .before .before .before .before .before .before .before .before .before .before in
     let F = s .pre in
     let l = c .before .before .before .before .before .before .before .load-row-place in
-    let q = c .before .before .before .close-place in
-    let r = room-kept (s .args .n) (l .last .0) (q .last .0) (q .kept .0) (room-kept (s .args .n) (now (s .args .marks)) (l .last .0) (l .kept .0) (F .room)) in
-    ((F .place, omega arith, omega (arith, r .long), r), list-blocks F (l .ensures) (l .kept .0) (q .ensures) (q .kept .0))
-
-renew-cuts-requires : tie.Need-renew-cuts-requires
-renew-cuts-requires c κs =
-    let s = c .before .before .before .before .before .before .before .before .before .before .before .before .before .before .before .before .before .before .before .before .before .before in
-    let F = s .pre in
-    let l = c .before .before .before .before .before .before .before .before .before .before .before .load-row-place in
-    let q = c .before .before .before .before .before .before .before .close-place in
-    let p = c .before .before .before .list-place in
-    let r = room-kept (s .args .n) (l .last .0) (q .last .0) (q .kept .0) (room-kept (s .args .n) (now (s .args .marks)) (l .last .0) (l .kept .0) (F .room)) in (
+    let q = c .before .before .before .close-place in (
       F .store .read,
       (
-        (F .place, base-at _, room-kept (s .args .n) (q .last .0) (p .last .0) (p .kept .0) r),
-        cut-blocks F (l .ensures) (l .kept .0) (q .ensures) (q .kept .0) (p .ensures) (p .kept .0),
+        (F .place, base-at _, room-kept (s .args .n) (l .last .0) (q .last .0) (q .kept .0) (room-kept (s .args .n) (now (s .args .marks)) (l .last .0) (l .kept .0) (F .room))),
+        cut-members F (l .ensures) (l .kept .0) (q .ensures) (q .kept .0),
       ),
     )
 
-same-length : tie.Need-same-length
-same-length c = search needs
-
 returns : tie.Need-returns
 returns c =
-    let l = c .before .before .before .before .before .before .before .before .before .before .before .before .before .before .load-row-place in
-    let q = c .before .before .before .before .before .before .before .before .before .before .close-place in
-    let p = c .before .before .before .before .before .before .list-place in
+    let l = c .before .before .before .before .before .before .before .before .before .before .load-row-place in
+    let q = c .before .before .before .before .before .before .close-place in
     let e = c .before .before .renew-cuts in
-    found (c .before .before .before .before .before .before .before .before .before .before .before .before .before .before .before .before .before .before .before .before .before .before .before .before .before .pre) (l .ensures) (l .kept .0) (q .ensures) (q .kept .0) (p .ensures) (p .kept .0) (e .ensures) (e .kept .0)
+    found (c .before .before .before .before .before .before .before .before .before .before .before .before .before .before .before .before .before .before .before .before .before .pre) (l .ensures) (l .kept .0) (q .ensures) (q .kept .0) (e .ensures) (e .kept .0)
 
 pub find-lower-spec : {M : Type 1} → statement M
 find-lower-spec =
-    tie.close
-    (tie.spec
-    add-stamp
-    mul-cuts
-    load-row-place-requires
-    close-place-requires
-    mul-list-place
-    list-place-requires
-    renew-cuts-requires
-    same-length
-    returns)
+    tie.close (tie.spec add-stamp mul-cuts load-row-place-requires close-place-requires renew-cuts-requires (λ c. search needs) returns)
