@@ -24,6 +24,10 @@ isRefused (Refused q) = true
 abbrev pub noCounts : Counts
 noCounts = record { lower = 0; upper = 0; products = 0 }
 
+-- no test has both answers
+pub never : {A : Type 0} (b : Bool) → b ≡ false → b ≡ true → A
+never b e h = let y : false ≡ true = sym e ∙ h in let z : _≡_ {A = ℕ} 0 1 = cc in absurd (omega arith)
+
 pub pass-of : (a : Asked) → isStop a ≡ false → a ≡ Pass
 pass-of Pass h = refl
 pass-of (Stop q) h = let z : _≡_ {A = ℕ} 0 1 = cc in absurd (omega arith)

@@ -4,3 +4,5 @@ pub mod ShapedLaws
 pub mod StageLaws
 pub mod Sharing
 pub mod Branches
+pub mod Asking
+pub mod Ends

@@ -3,12 +3,17 @@ ghost use mathlib.Core.Path.{_≡_};
 ghost use Prim.Native.Nat.{_+_};
 ghost use lib.ListN.{length, drop};
 ghost use Rattle.base.specs.Lists.{blank, nought};
-ghost use Rattle.matrix.specs.Input.{ownOrder};
+ghost use mathlib.Core.Bool.{true};
+ghost use mathlib.Core.List.{[]};
+ghost use Rattle.matrix.specs.Input.{inputOf, ownOrder};
+ghost use Rattle.matrix.specs.Questions.{askStructure, askSolve};
+ghost use Rattle.questions.specs.Lent.{Lent, SolveLent};
 ghost use Rattle.symbolic.specs.Pass.{foundAnswer};
 ghost use Rattle.base.specs.declared.Answer.the-variants.{Refused};
 ghost use Rattle.base.specs.declared.Refusal.the-variants.{Rows, Lengths};
 ghost use Rattle.stages.specs.Shaped.{SolutionDue, faultAsked};
 ghost use Rattle.stages.specs.Branches.{isStop, isRefused, noCounts};
+ghost use Rattle.stages.specs.Asking.{Blanked};
 use base::Answer;
 use base::Asked;
 use base::Counts;
@@ -29,6 +34,66 @@ pub fn clear_scratch(work: &mut [f64], marks: &mut [u32])
 {
     base::clear_f64(work);
     base::clear_u32(marks);
+}
+
+// The numbers of both sides and scratch.
+pub fn clear_numbers(
+    lower_values: &mut [f64],
+    upper_values: &mut [f64],
+    d: &mut [f64],
+    work: &mut [f64],
+    marks: &mut [u32],
+)
+    ensures { λ _. ⌜ (now («lower_values» .exit) ≡ blank nought (now («lower_values» .entry))) × (now («upper_values» .exit) ≡ blank nought (now («upper_values» .entry))) × (now (d .exit) ≡ blank nought (now (d .entry))) × (now (work .exit) ≡ blank nought (now (work .entry))) × (now (marks .exit) ≡ blank 0 (now (marks .entry))) ⌝ }
+{
+    base::clear_f64(lower_values);
+    base::clear_f64(upper_values);
+    base::clear_f64(d);
+    clear_scratch(work, marks);
+}
+
+// A structure call's 3 to 8. Where they stop it, scratch is cleared.
+pub fn ask_structure(
+    n: usize,
+    starts: &[u32],
+    columns: &[u16],
+    r: &[u16],
+    c: &[u16],
+    work: &mut [f64],
+    marks: &mut [u32],
+) -> Asked
+    requires { ⌜ Lent n (now starts) (now columns) (now r) (now c) (length (now marks)) ⌝ }
+    ensures { λ a. ⌜ (a ≡ askStructure (inputOf n (now (starts .entry)) (now (columns .entry)) [] (now (r .entry)) (now (c .entry)) [])) × (isStop a ≡ true → Blanked (now (work .entry)) (now (marks .entry)) (now (work .exit)) (now (marks .exit))) ⌝ }
+{
+    let a = questions::ask_structure(n, starts, columns, r, c, marks);
+    if stops(a) {
+        clear_scratch(work, marks);
+        return a;
+    }
+    a
+}
+
+// A solve's.
+pub fn ask_solve(
+    n: usize,
+    starts: &[u32],
+    columns: &[u16],
+    values: &[f64],
+    r: &[u16],
+    c: &[u16],
+    b: &[f64],
+    work: &mut [f64],
+    marks: &mut [u32],
+) -> Asked
+    requires { ⌜ SolveLent (inputOf n (now starts) (now columns) (now values) (now r) (now c) (now b)) (length (now marks)) ⌝ }
+    ensures { λ a. ⌜ (a ≡ askSolve (inputOf n (now (starts .entry)) (now (columns .entry)) (now (values .entry)) (now (r .entry)) (now (c .entry)) (now (b .entry)))) × (isStop a ≡ true → Blanked (now (work .entry)) (now (marks .entry)) (now (work .exit)) (now (marks .exit))) ⌝ }
+{
+    let a = questions::ask_solve(n, starts, columns, values, r, c, b, marks);
+    if stops(a) {
+        clear_scratch(work, marks);
+        return a;
+    }
+    a
 }
 
 // 12 and 13.
