@@ -1,42 +1,111 @@
 use mathlib.Core.Path.{sym, _∙_}
 use Rattle.base.specs.declared.Form.the-variants.{Plain}
-use Rattle.stages.specs.Stages.{solve-rows, solve-lengths, solve-asked}
-use Rattle.stages.specs.ShapedLaws.{rows-few, solve-shaped}
-use Rattle.plain_form.proofs.Plain.{end-is}
+use Rattle.questions.specs.SettledLaws.{settled}
+use Rattle.stages.specs.ShapedLaws.{solve-again, plain-lent, pattern-structured}
+use Rattle.stages.specs.Branches.{pass-of}
+use Rattle.stages.specs.Asking.{solve-stops}
+use Rattle.stages.specs.Ends.{done-with}
+use Rattle.plain_form.proofs.Plain.{plain-due, plain-refused, plain-go}
 use native.Mathlib.Omega.{arith}
 use borrow.Author.Needs.{needs}
 use Rattle.plain_form.proofs.solve_plain.Statement.{statement}
 use Rattle.plain_form.proofs.solve_plain.Tie as tie
 
-solve-plain-fits-requires : tie.Need-solve-plain-fits-requires
-solve-plain-fits-requires c κs = rows-few _ _ (c .before .rows-within .ensures) (c .if1 .taken)
+-- the questions, the pass that follows them, and the branches on its answer
+abbrev Asked : tie.After-stops → tie.After-ask-solve-plain
+Asked s = s .before .before .before .before .before
 
-solve-plain-asked-requires : tie.Need-solve-plain-asked-requires
-solve-plain-asked-requires c κs =
-    solve-shaped Plain _ _ (sym (c .before .before .before .before .before .before .before .before .before .before .before .before .before .rows-within .ensures) ∙ c .before .before .before .before .before .before .before .before .before .before .before .before .if1 .taken) (sym (c .before .before .before .before .before .before .before .before .before .before .before .solve-plain-fits .ensures) ∙ c .before .before .before .before .before .before .before .before .before .before .if2 .taken)
+abbrev Goes : tie.After-place-plain → tie.Else1
+Goes s = s .before .before .before .before .before .before
+
+abbrev Placed : tie.After-refuses → tie.After-place-plain
+Placed s = s .before .before .before .before .before .before .before .before .before .before .before
+
+abbrev Refusing : tie.After-slice-known22 → tie.Then2
+Refusing s = s .before .before .before .before .before .before .before .before .before .before .before .before .before .before .before .before
+
+abbrev Cleared : tie.After-slice-known22 → tie.After-clear-numbers
+Cleared s = s .before .before .before .before .before .before .before .before .before .before
+
+abbrev Solving : tie.After-slice-known32 → tie.After-solve-plain-factored
+Solving s = s .before .before .before .before .before .before .before .before .before .before .before .before .before .before .before .before .before .before .before .before
+
+abbrev Counted : tie.After-solve-plain-factored-arg10 → tie.After-counts
+Counted s = s .before .before .before .before .before .before .before .before .before .before
 
 returns : tie.Need-returns
 returns c =
-    solve-asked Plain _ _ _ (sym (c .before .before .before .before .before .before .before .before .before .before .before .before .before .before .before .before .before .before .before .before .before .before .before .before .before .before .before .before .before .before .before .before .before .before .rows-within .ensures) ∙ c .before .before .before .before .before .before .before .before .before .before .before .before .before .before .before .before .before .before .before .before .before .before .before .before .before .before .before .before .before .before .before .before .before .if1 .taken) (sym (c .before .before .before .before .before .before .before .before .before .before .before .before .before .before .before .before .before .before .before .before .before .before .before .before .before .before .before .before .before .before .before .before .solve-plain-fits .ensures) ∙ c .before .before .before .before .before .before .before .before .before .before .before .before .before .before .before .before .before .before .before .before .before .before .before .before .before .before .before .before .before .before .before .if2 .taken) (c .before .before .before .before .before .before .before .before .before .before .before .before .before .before .before .before .before .before .before .before .solve-plain-asked .ensures)
+    let b = c .before in
+    solve-stops Plain _ _ _ _ _ _ _ _ _ _ _ (Asked (b .before) .ask-solve-plain .ensures) (sym (b .before .stops .ensures) ∙ b .if1 .taken) (c .refusal .ensures)
+
+place-plain-requires : tie.Need-place-plain-requires
+place-plain-requires c κs =
+    let b = c .before .before .before .before .before in
+    let p = Asked (b .before) .ask-solve-plain in
+    let q = p .ensures .due (pass-of _ (sym (b .before .stops .ensures) ∙ b .if1 .left)) in
+    plain-lent _ _ _ _ _ _ _ _ _ _ _ (solve-again Plain _ _ _ _ _ _ _ _ (p .kept .1 .1 .1 .1 .1 .1 .1 .1 .1 .1 .1 .1 .1 .1 .1 .1 .0) (q .shaped) .structure) (pattern-structured _ (settled _ (q .passed) .structured))
 
 returns-2 : tie.Need-returns-2
-returns-2 c = solve-lengths Plain _ _ _ (sym (c .before .before .before .before .rows-within .ensures) ∙ c .before .before .before .if1 .taken) (sym (c .before .before .solve-plain-fits .ensures) ∙ c .before .if2 .left) (end-is _ _ _ (c .wrong-lengths .ensures))
+returns-2 c =
+    let r = Refusing c in
+    let p = Placed (r .before) .place-plain in
+    let b = Goes (Placed (r .before)) in
+    let a = Asked (b .before) .ask-solve-plain in
+    plain-refused _ _ _ _ _ _ _ _ _ _ _ _ _ _ _ _ _ _ _ _ _ _ _ _ _ (a .ensures) (pass-of _ (sym (b .before .stops .ensures) ∙ b .if1 .left)) (p .ensures .0) (p .ensures .1)
+    (sym (r .before .refuses .ensures) ∙ r .if2 .taken) (a .kept .1 .1 .1 .1 .1 .1 .1 .1 .1 .1 .1 .1 .1 .1 .1 .0) (p .kept .1 .1 .1 .1 .1 .1 .1 .1 .1 .1 .1 .0 ∙ a .kept .1 .1 .1 .1 .1 .1 .1 .1 .1 .1 .1 .1 .1 .1 .1 .1 .0) (Cleared c .clear-numbers .ensures)
+
+solve-plain-factored-requires : tie.Need-solve-plain-factored-requires
+solve-plain-factored-requires c κs =
+    let k = Counted c in
+    let r = k .before in
+    let p = Placed (r .before) .place-plain in
+    let b = Goes (Placed (r .before)) in
+    let a = Asked (b .before) .ask-solve-plain in
+    plain-due _ _ _ _ _ _ _ _ _ _ _ _ _ _ _ _ _ _ (a .ensures .due (pass-of _ (sym (b .before .stops .ensures) ∙ b .if1 .left))) (p .ensures .0) (done-with _ _ _ (r .before .refuses .ensures) (r .if2 .left) (k .counts .ensures)) (a .kept .1 .1 .1 .1 .1 .1 .1 .1 .1 .1 .1 .1 .1 .1 .1 .0) (p .kept .1 .1 .1 .1 .1 .1 .1 .1 .1 .1 .1 .0 ∙ a .kept .1 .1 .1 .1 .1 .1 .1 .1 .1 .1 .1 .1 .1 .1 .1 .1 .0)
 
 returns-3 : tie.Need-returns-3
-returns-3 c = solve-rows Plain _ _ _ (sym (c .before .before .rows-within .ensures) ∙ c .before .if1 .left) (end-is _ _ _ (c .wrong-rows .ensures))
+returns-3 c =
+    let k = Counted (Solving c .before) in
+    let r = k .before in
+    let p = Placed (r .before) .place-plain in
+    let b = Goes (Placed (r .before)) in
+    let a = Asked (b .before) .ask-solve-plain in
+    plain-go _ _ _ _ _ _ _ _ _ _ _ _ _ _ _ _ _ _ _ _ _ _ (a .ensures) (pass-of _ (sym (b .before .stops .ensures) ∙ b .if1 .left)) (p .ensures .0)
+    (done-with _ _ _ (r .before .refuses .ensures) (r .if2 .left) (k .counts .ensures))
+    (p .kept .1 .1 .1 .1 .1 .0) (p .kept .1 .1 .1 .1 .1 .1 .0) (p .kept .1 .1 .1 .1 .1 .1 .1 .1 .0) (p .kept .1 .1 .1 .1 .1 .1 .1 .1 .1 .0) (a .kept .1 .1 .1 .1 .1 .1 .1 .1 .1 .1 .1 .1 .1 .1 .1 .0) (p .kept .1 .1 .1 .1 .1 .1 .1 .1 .1 .1 .1 .0 ∙ a .kept .1 .1 .1 .1 .1 .1 .1 .1 .1 .1 .1 .1 .1 .1 .1 .1 .0) (Solving c .solve-plain-factored .ensures)
+
+-- the pass and the questions behind a refusal of the pass, and behind the arithmetic
+abbrev Before : tie.After-slice-known22 → tie.After-place-plain
+Before c = Placed (Refusing c .before)
+
+abbrev Earlier : tie.After-slice-known32 → tie.After-place-plain
+Earlier c = Placed (Counted (Solving c .before) .before .before)
 
 pub solve-plain-spec : {M : Type 1} → statement M
 solve-plain-spec =
     tie.close
-    (tie.spec (λ c κs. search needs) solve-plain-fits-requires solve-plain-asked-requires
-    (λ c. c .before .before .before .before .before .before .before .before .before .before .before .before .before .before .before .before .before .before .before .before .solve-plain-asked .kept .1 .1 .1 .1 .1 .1 .1 .0)
-    (λ c. c .before .before .before .before .before .before .before .before .before .before .before .before .before .before .before .before .before .before .before .before .solve-plain-asked .kept .1 .1 .1 .1 .1 .1 .1 .1 .0)
-    (λ c. c .before .before .before .before .before .before .before .before .before .before .before .before .before .before .before .before .before .before .before .before .solve-plain-asked .kept .1 .1 .1 .1 .1 .1 .1 .1 .1 .0)
-    (λ c. c .before .before .before .before .before .before .before .before .before .before .before .before .before .before .before .before .before .before .before .before .solve-plain-asked .kept .1 .1 .1 .1 .1 .1 .1 .1 .1 .1 .0)
-    (λ c. c .before .before .before .before .before .before .before .before .before .before .before .before .before .before .before .before .before .before .before .before .solve-plain-asked .kept .1 .1 .1 .1 .1 .1 .1 .1 .1 .1 .1 .0)
-    (λ c. c .before .before .before .before .before .before .before .before .before .before .before .before .before .before .before .before .before .before .before .before .solve-plain-asked .kept .1 .1 .1 .1 .1 .1 .1 .1 .1 .1 .1 .1 .0)
-    (λ c. c .before .before .before .before .before .before .before .before .before .before .before .before .before .before .before .before .before .before .before .before .solve-plain-asked .kept .1 .1 .1 .1 .1 .1 .1 .1 .1 .1 .1 .1 .1 .0)
-    (λ c. c .before .before .before .before .before .before .before .before .before .before .before .before .before .before .before .before .before .before .before .before .solve-plain-asked .kept .1 .1 .1 .1 .1 .1 .1 .1 .1 .1 .1 .1 .1 .1 .0)
-    (λ c. c .before .before .before .before .before .before .before .before .before .before .before .before .before .before .before .before .before .before .before .before .solve-plain-asked .kept .1 .1 .1 .1 .1 .1 .1 .1 .1 .1 .1 .1 .1 .1 .1 .0)
-    (λ c. c .before .before .before .before .before .before .before .before .before .before .before .before .before .before .before .before .before .before .before .before .solve-plain-asked .kept .1 .1 .1 .1 .1 .1 .1 .1 .1 .1 .1 .1 .1 .1 .1 .1 .0)
-    returns (λ c κs. search needs) returns-2 (λ c κs. search needs) returns-3)
+    (tie.spec (λ c κs. search needs) (λ c κs. search needs) (λ c κs. search needs)
+    (λ c. Asked (c .before .before) .ask-solve-plain .kept .1 .1 .1 .1 .1 .1 .1 .1 .1 .1 .1 .1 .1 .1 .1 .0)
+    (λ c. Asked (c .before .before) .ask-solve-plain .kept .1 .1 .1 .1 .1 .1 .1 .1 .1 .1 .1 .1 .1 .1 .1 .1 .0)
+    returns place-plain-requires (λ c κs. search needs) (λ c κs. search needs)
+    (λ c. Before c .place-plain .kept .1 .1 .1 .1 .1 .0)
+    (λ c. Before c .place-plain .kept .1 .1 .1 .1 .1 .1 .0)
+    (λ c. Cleared c .clear-numbers .kept .0)
+    (λ c. Before c .place-plain .kept .1 .1 .1 .1 .1 .1 .1 .1 .0)
+    (λ c. Before c .place-plain .kept .1 .1 .1 .1 .1 .1 .1 .1 .1 .0)
+    (λ c. Cleared c .clear-numbers .kept .1 .0)
+    (λ c. Cleared c .clear-numbers .kept .1 .1 .0)
+    (λ c. Cleared c .clear-numbers .kept .1 .1 .1 .0 ∙ Asked (Goes (Before c) .before) .ask-solve-plain .kept .1 .1 .1 .1 .1 .1 .1 .1 .1 .1 .1 .1 .1 .1 .1 .0)
+    (λ c. Cleared c .clear-numbers .kept .1 .1 .1 .1 .0 ∙ Before c .place-plain .kept .1 .1 .1 .1 .1 .1 .1 .1 .1 .1 .1 .0 ∙ Asked (Goes (Before c) .before) .ask-solve-plain .kept .1 .1 .1 .1 .1 .1 .1 .1 .1 .1 .1 .1 .1 .1 .1 .1 .0)
+    returns-2 (λ c κs. search needs) solve-plain-factored-requires
+    (λ c. Solving c .solve-plain-factored .kept .1 .1 .1 .1 .1 .1 .1 .0 ∙ Earlier c .place-plain .kept .1 .1 .1 .1 .1 .0)
+    (λ c. Solving c .solve-plain-factored .kept .1 .1 .1 .1 .1 .1 .1 .1 .0 ∙ Earlier c .place-plain .kept .1 .1 .1 .1 .1 .1 .0)
+    (λ c. Solving c .solve-plain-factored .kept .1 .1 .1 .1 .1 .1 .1 .1 .1 .0)
+    (λ c. Solving c .solve-plain-factored .kept .1 .1 .1 .1 .1 .1 .1 .1 .1 .1 .0 ∙ Earlier c .place-plain .kept .1 .1 .1 .1 .1 .1 .1 .1 .0)
+    (λ c. Solving c .solve-plain-factored .kept .1 .1 .1 .1 .1 .1 .1 .1 .1 .1 .1 .0 ∙ Earlier c .place-plain .kept .1 .1 .1 .1 .1 .1 .1 .1 .1 .0)
+    (λ c. Solving c .solve-plain-factored .kept .1 .1 .1 .1 .1 .1 .1 .1 .1 .1 .1 .1 .0)
+    (λ c. Solving c .solve-plain-factored .kept .1 .1 .1 .1 .1 .1 .1 .1 .1 .1 .1 .1 .1 .0)
+    (λ c. Solving c .solve-plain-factored .kept .1 .1 .1 .1 .1 .1 .1 .1 .1 .1 .1 .1 .1 .1 .0)
+    (λ c. Solving c .solve-plain-factored .kept .1 .1 .1 .1 .1 .1 .1 .1 .1 .1 .1 .1 .1 .1 .1 .0 ∙ Asked (Goes (Earlier c) .before) .ask-solve-plain .kept .1 .1 .1 .1 .1 .1 .1 .1 .1 .1 .1 .1 .1 .1 .1 .0)
+    (λ c. Solving c .solve-plain-factored .kept .1 .1 .1 .1 .1 .1 .1 .1 .1 .1 .1 .1 .1 .1 .1 .1 .0 ∙ Earlier c .place-plain .kept .1 .1 .1 .1 .1 .1 .1 .1 .1 .1 .1 .0 ∙ Asked (Goes (Earlier c) .before) .ask-solve-plain .kept .1 .1 .1 .1 .1 .1 .1 .1 .1 .1 .1 .1 .1 .1 .1 .1 .0)
+    returns-3)

@@ -1,40 +1,68 @@
 use mathlib.Core.Path.{sym, _∙_}
 use Rattle.base.specs.declared.Form.the-variants.{Plain}
-use Rattle.stages.specs.Stages.{structure-rows, structure-lengths, structure-asked}
-use Rattle.stages.specs.ShapedLaws.{rows-few, structure-shaped}
-use Rattle.plain_form.proofs.Plain.{end-is}
+use Rattle.questions.specs.SettledLaws.{structured}
+use Rattle.stages.specs.ShapedLaws.{shaped-again, plain-lent}
+use Rattle.stages.specs.Branches.{pass-of}
+use Rattle.stages.specs.Asking.{structure-stops}
+use Rattle.plain_form.proofs.Plain.{plain-structured}
 use native.Mathlib.Omega.{arith}
 use borrow.Author.Needs.{needs}
 use Rattle.plain_form.proofs.structure_plain.Statement.{statement}
 use Rattle.plain_form.proofs.structure_plain.Tie as tie
 
-structure-plain-fits-requires : tie.Need-structure-plain-fits-requires
-structure-plain-fits-requires c κs = rows-few _ _ (c .before .rows-within .ensures) (c .if1 .taken)
+-- the questions, and the pass that follows them
+abbrev Asked : tie.After-stops → tie.After-ask-structure-plain
+Asked s = s .before .before .before .before .before
 
-structure-plain-asked-requires : tie.Need-structure-plain-asked-requires
-structure-plain-asked-requires c κs =
-    structure-shaped Plain _ _ (sym (c .before .before .before .before .before .before .before .before .before .before .before .rows-within .ensures) ∙ c .before .before .before .before .before .before .before .before .before .before .if1 .taken) (sym (c .before .before .before .before .before .before .before .before .before .structure-plain-fits .ensures) ∙ c .before .before .before .before .before .before .before .before .if2 .taken)
+abbrev Goes : tie.After-place-plain → tie.Else1
+Goes s = s .before .before .before .before .before .before
+
+abbrev Placed : tie.After-slice-known19 → tie.After-place-plain
+Placed s = s .before .before .before .before .before .before .before .before .before .before .before .before .before .before .before .before .before .before .before .before .before .before .before .before .before
+
+abbrev Scratch : tie.After-slice-known19 → tie.After-clear-scratch
+Scratch s = s .before .before .before .before
+
+abbrev Lower : tie.After-slice-known19 → tie.After-clear-f64
+Lower s = s .before .before .before .before .before .before .before .before .before .before .before .before .before
+
+abbrev Upper : tie.After-slice-known19 → tie.After-clear-f642
+Upper s = s .before .before .before .before .before .before .before .before .before
 
 returns : tie.Need-returns
 returns c =
-    structure-asked Plain _ _ _ (sym (c .before .before .before .before .before .before .before .before .before .before .before .before .before .before .before .before .before .before .before .before .before .before .before .before .before .before .before .before .rows-within .ensures) ∙ c .before .before .before .before .before .before .before .before .before .before .before .before .before .before .before .before .before .before .before .before .before .before .before .before .before .before .before .if1 .taken) (sym (c .before .before .before .before .before .before .before .before .before .before .before .before .before .before .before .before .before .before .before .before .before .before .before .before .before .before .structure-plain-fits .ensures) ∙ c .before .before .before .before .before .before .before .before .before .before .before .before .before .before .before .before .before .before .before .before .before .before .before .before .before .if2 .taken) (c .before .before .before .before .before .before .before .before .before .before .before .before .before .before .before .before .structure-plain-asked .ensures)
+    let b = c .before in
+    structure-stops Plain _ _ _ _ _ _ _ _ _ _ _ (Asked (b .before) .ask-structure-plain .ensures) (sym (b .before .stops .ensures) ∙ b .if1 .taken) (c .refusal .ensures)
+
+place-plain-requires : tie.Need-place-plain-requires
+place-plain-requires c κs =
+    let b = c .before .before .before .before .before in
+    let p = Asked (b .before) .ask-structure-plain in
+    let q = p .ensures .due (pass-of _ (sym (b .before .stops .ensures) ∙ b .if1 .left)) in
+    plain-lent _ _ _ _ _ _ _ _ _ _ _ (shaped-again Plain _ _ _ _ _ _ _ _ (p .kept .1 .1 .1 .1 .1 .1 .1 .1 .1 .1 .1 .1 .0) (q .shaped)) (structured _ (q .passed))
 
 returns-2 : tie.Need-returns-2
-returns-2 c = structure-lengths Plain _ _ _ (sym (c .before .before .before .before .rows-within .ensures) ∙ c .before .before .before .if1 .taken) (sym (c .before .before .structure-plain-fits .ensures) ∙ c .before .if2 .left) (end-is _ _ _ (c .wrong-lengths .ensures))
-
-returns-3 : tie.Need-returns-3
-returns-3 c = structure-rows Plain _ _ _ (sym (c .before .before .rows-within .ensures) ∙ c .before .if1 .left) (end-is _ _ _ (c .wrong-rows .ensures))
+returns-2 c =
+    let p = Placed c .place-plain in
+    let b = Goes (Placed c) in
+    let a = Asked (b .before) .ask-structure-plain in
+    plain-structured _ _ _ _ _ _ _ _ _ _ _ _ _ _ _ _ _ _ _ _ _ _ (a .ensures) (pass-of _ (sym (b .before .stops .ensures) ∙ b .if1 .left)) (p .ensures .0) (p .ensures .1)
+    (p .kept .1 .1 .1 .1 .1 .1 .0) (p .kept .1 .1 .1 .1 .1 .1 .1 .1 .1 .0) (a .kept .1 .1 .1 .1 .1 .1 .1 .1 .1 .1 .1 .0) (p .kept .1 .1 .1 .1 .1 .1 .1 .1 .1 .1 .1 .0 ∙ a .kept .1 .1 .1 .1 .1 .1 .1 .1 .1 .1 .1 .1 .0)
+    (Lower c .clear-f64 .ensures) (Upper c .clear-f642 .ensures) (Scratch c .clear-scratch .ensures)
 
 pub structure-plain-spec : {M : Type 1} → statement M
 structure-plain-spec =
     tie.close
-    (tie.spec (λ c κs. search needs) structure-plain-fits-requires structure-plain-asked-requires
-    (λ c. c .before .before .before .before .before .before .before .before .before .before .before .before .before .before .before .before .structure-plain-asked .kept .1 .1 .1 .1 .1 .0)
-    (λ c. c .before .before .before .before .before .before .before .before .before .before .before .before .before .before .before .before .structure-plain-asked .kept .1 .1 .1 .1 .1 .1 .0)
-    (λ c. c .before .before .before .before .before .before .before .before .before .before .before .before .before .before .before .before .structure-plain-asked .kept .1 .1 .1 .1 .1 .1 .1 .0)
-    (λ c. c .before .before .before .before .before .before .before .before .before .before .before .before .before .before .before .before .structure-plain-asked .kept .1 .1 .1 .1 .1 .1 .1 .1 .0)
-    (λ c. c .before .before .before .before .before .before .before .before .before .before .before .before .before .before .before .before .structure-plain-asked .kept .1 .1 .1 .1 .1 .1 .1 .1 .1 .0)
-    (λ c. c .before .before .before .before .before .before .before .before .before .before .before .before .before .before .before .before .structure-plain-asked .kept .1 .1 .1 .1 .1 .1 .1 .1 .1 .1 .0)
-    (λ c. c .before .before .before .before .before .before .before .before .before .before .before .before .before .before .before .before .structure-plain-asked .kept .1 .1 .1 .1 .1 .1 .1 .1 .1 .1 .1 .0)
-    (λ c. c .before .before .before .before .before .before .before .before .before .before .before .before .before .before .before .before .structure-plain-asked .kept .1 .1 .1 .1 .1 .1 .1 .1 .1 .1 .1 .1 .0)
-    returns (λ c κs. search needs) returns-2 (λ c κs. search needs) returns-3)
+    (tie.spec (λ c κs. search needs) (λ c κs. search needs) (λ c κs. search needs)
+    (λ c. Asked (c .before .before) .ask-structure-plain .kept .1 .1 .1 .1 .1 .1 .1 .1 .1 .1 .1 .0)
+    (λ c. Asked (c .before .before) .ask-structure-plain .kept .1 .1 .1 .1 .1 .1 .1 .1 .1 .1 .1 .1 .0)
+    returns place-plain-requires (λ c κs. search needs) (λ c κs. search needs) (λ c κs. search needs)
+    (λ c. Placed c .place-plain .kept .1 .1 .1 .1 .1 .0)
+    (λ c. Placed c .place-plain .kept .1 .1 .1 .1 .1 .1 .0)
+    (λ c. Lower c .clear-f64 .kept .0)
+    (λ c. Placed c .place-plain .kept .1 .1 .1 .1 .1 .1 .1 .1 .0)
+    (λ c. Placed c .place-plain .kept .1 .1 .1 .1 .1 .1 .1 .1 .1 .0)
+    (λ c. Upper c .clear-f642 .kept .0)
+    (λ c. Scratch c .clear-scratch .kept .0 ∙ Asked (Goes (Placed c) .before) .ask-structure-plain .kept .1 .1 .1 .1 .1 .1 .1 .1 .1 .1 .1 .0)
+    (λ c. Scratch c .clear-scratch .kept .1 .0 ∙ Placed c .place-plain .kept .1 .1 .1 .1 .1 .1 .1 .1 .1 .1 .1 .0 ∙ Asked (Goes (Placed c) .before) .ask-structure-plain .kept .1 .1 .1 .1 .1 .1 .1 .1 .1 .1 .1 .1 .0)
+    returns-2)
