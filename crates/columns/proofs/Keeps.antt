@@ -11,8 +11,8 @@ use Rattle.base.specs.Lists.{rowOf, listAt}
 use Rattle.base.specs.declared.OwnNumber.{OwnNumber}
 use Rattle.base.specs.declared.Place.{Place}
 use Rattle.matrix.specs.Input.{placeAt}
-use Rattle.columns.specs.Marks.{Below, markAt, stamped}
-use Rattle.columns.specs.Columns.{Space, orderOf, Outside, Kept, Unmarked, Steady, Order, RowIn, Given, placed, rowsOf}
+use Rattle.marks.specs.Marks.{Room, Below, markAt, stamped}
+use Rattle.columns.specs.Columns.{orderOf, Outside, Kept, Unmarked, Steady, Order, RowIn, Given, placed, rowsOf}
 
 -- ---- slots that are not written
 
@@ -65,8 +65,8 @@ steady-unmarked n k h = record {
 
 -- ---- what the lengths and the order settle
 
-pub space-kept : {n : ℕ} {s u : List ℕ} → length u ≡ length s → Space n s → Space n u
-space-kept e h = record { small = h .small; fits = omega (arith, h .fits) }
+pub space-kept : {n : ℕ} {s u : List ℕ} → length u ≡ length s → Room n s → Room n u
+space-kept e h = record { small = h .small; long = omega (arith, h .long) }
 
 pub given-kept : {n : ℕ} {columns starts r s u : List ℕ} → length u ≡ length s → orderOf n u ≡ orderOf n s → Given n columns starts r s → Given n columns starts r u
 given-kept e o g = record {
@@ -155,12 +155,12 @@ pub unmarked-stamped : (n t : ℕ) (s l : List ℕ) → Below n l → Unmarked n
 unmarked-stamped n t s l b = stamped-keeps (Unmarked n s) n t (λ u j h k. then k (unmarked-mark n t u j h)) s l b (same s)
 
 -- the same stamps in both
-pub both-stamped : (n t : ℕ) {a b c d : ℕ} (s u l : List ℕ) → Space n s → Below n l → Outside a b c d s u → Outside a b c d (stamped n t s l) (stamped n t u l)
+pub both-stamped : (n t : ℕ) {a b c d : ℕ} (s u l : List ℕ) → Room n s → Below n l → Outside a b c d s u → Outside a b c d (stamped n t s l) (stamped n t u l)
 unfolding stamped
 both-stamped n t s u [] sp h k = k
 both-stamped n t s u (j ∷ l) sp h k =
     let g : j < n = h 0 (omega arith) in
-    let f = sp .fits in
+    let f = sp .long in
     both-stamped n t (markAt n t s j) (markAt n t u j) l (space-kept (simp length-set) sp) (λ p a. h (suc p) (omega arith))
     (both (set s j t) (set u j t) (n + n + j / 64) t (simp length-set (omega arith)) (both s u j t (omega arith) k))
 

@@ -8,8 +8,8 @@ use native.Mathlib.Decide.{ℕ-discrete}
 use lib.ListN.{length, getD, take, set, length-set}
 use lib.Seq.{getD-set-other, getD-set-same}
 use borrow.Author.Tests.{eq-eqb, ne-eqb}
-use Rattle.columns.specs.Marks.{markAt, stamped}
-use Rattle.columns.specs.Columns.{Space, Kept, Steady, hits, Chain, none, node, HasChain, Lists, Listed, Roomy, pushAt, Offered}
+use Rattle.marks.specs.Marks.{Room, markAt, stamped}
+use Rattle.columns.specs.Columns.{Kept, Steady, hits, Chain, none, node, HasChain, Lists, Listed, Roomy, pushAt, Offered}
 use Rattle.columns.proofs.Keeps.{same, then, stored, unmarked-mark, stamped-cons, stamped-none}
 use Rattle.columns.proofs.ColumnLaws.{hits-there, hits-more, hits-part, grown-start, grown-more, grown-end, held-one, held-ext, held-at-most}
 
@@ -44,24 +44,24 @@ push-other n p i j x s a b c =
 head-chain : {n : ℕ} {s l : List ℕ} {p h : ℕ} → h ≡ p + 1 → Chain n s (suc p) l → Chain n s h l
 head-chain {p = p} e c = rw (e, add-one p) c
 
-module _ (n p i j : ℕ) (s : List ℕ) (sp : Space n s) (hj : j < n) (hp : p < n) where
+module _ (n p i j : ℕ) (s : List ℕ) (sp : Room n s) (hj : j < n) (hp : p < n) where
   push-head : getD (pushAt n p i j s) (4 * n + j) 0 ≡ p + 1
   push-head =
       getD-set-same (set (set s (6 * n + (p + p)) i) (6 * n + (p + p) + 1) (getD s (4 * n + j) 0)) (4 * n + j) (p + 1) 0
-      (simp length-set (omega (arith, sp .fits)))
+      (simp length-set (omega (arith, sp .long)))
 
   push-row : getD (pushAt n p i j s) (6 * n + (p + p)) 0 ≡ i
   push-row =
       let b₁ = 6 * n + (p + p) in
       getD-set-other (set (set s b₁ i) (b₁ + 1) (getD s (4 * n + j) 0)) (4 * n + j) b₁ (p + 1) 0 (omega arith)
       ∙ getD-set-other (set s b₁ i) (b₁ + 1) b₁ (getD s (4 * n + j) 0) 0 (omega arith)
-      ∙ getD-set-same s b₁ i 0 (omega (arith, sp .fits))
+      ∙ getD-set-same s b₁ i 0 (omega (arith, sp .long))
 
   push-rest : getD (pushAt n p i j s) (6 * n + (p + p) + 1) 0 ≡ getD s (4 * n + j) 0
   push-rest =
       let b₁ = 6 * n + (p + p) in
       getD-set-other (set (set s b₁ i) (b₁ + 1) (getD s (4 * n + j) 0)) (4 * n + j) (b₁ + 1) (p + 1) 0 (omega arith)
-      ∙ getD-set-same (set s b₁ i) (b₁ + 1) (getD s (4 * n + j) 0) 0 (simp length-set (omega (arith, sp .fits)))
+      ∙ getD-set-same (set s b₁ i) (b₁ + 1) (getD s (4 * n + j) 0) 0 (simp length-set (omega (arith, sp .long)))
 
   -- nodes below p, and other heads
   push-chain : {h : ℕ} {l : List ℕ} → h ≤ p → Chain n s h l → Chain n (pushAt n p i j s) h l
@@ -111,7 +111,7 @@ offer-out n lo hi i j p s h = record {
 pub offer-room : {n lo hi i j p : ℕ} {s : List ℕ} → lo ≤ j → j < hi → Roomy n lo hi i (j ∷ []) s p → p < n
 offer-room {n} {lo} {hi} {i} {j} a b r = omega (arith, r .listed .count, r .room, held-one lo hi i j (r .f) a b)
 
-pub offer-push : {n lo hi i j p : ℕ} {s u : List ℕ} → Space n s → p < n → hi ≤ n → i < n → lo ≤ j → j < hi → u ≡ pushAt n p i j s
+pub offer-push : {n lo hi i j p : ℕ} {s u : List ℕ} → Room n s → p < n → hi ≤ n → i < n → lo ≤ j → j < hi → u ≡ pushAt n p i j s
     → Offered n lo hi i (j ∷ []) s u p (p + 1)
 offer-push {n} {lo} {hi} {i} {j} {p} {s} sp hp hn hi′ hl hh e = rw e (record {
   kept = push-kept n p i j s sp (omega arith) hp lo hi hl hh;

@@ -5,7 +5,7 @@ use Prim.Native.Nat.{ℕ, _<_}
 use Rattle.base.specs.declared.Side.{Side}
 use Rattle.base.specs.declared.Side.the-variants.{Lower, Upper}
 use Rattle.matrix.specs.Input.{Input}
-use Rattle.columns.specs.Marks.{Below, stamped}
+use Rattle.marks.specs.Marks.{Below, stamped}
 use Rattle.columns.specs.Columns.{orderOf, Kept, Unmarked, Untouched, Given, rowsOf, Started, Ready, Loaded}
 use Rattle.base.specs.Lists.{rowOf}
 use lib.ListN.{getD}

@@ -14,8 +14,8 @@ use Rattle.base.specs.declared.Side.{Side}
 use Rattle.base.specs.declared.Side.the-variants.{Lower, Upper}
 use Rattle.matrix.specs.Input.{Input, ic, stored}
 use Rattle.matrix.specs.OrderLaws.{order-below, place-of, place-hits}
-use Rattle.columns.specs.Marks.{Below, markAt, stamped, Blocks, Fresh}
-use Rattle.columns.specs.Columns.{Space, orderOf, Given, placed, rowsOf, consIf, hits, bare, column}
+use Rattle.marks.specs.Marks.{Room, Below, markAt, stamped, Blocks, Fresh}
+use Rattle.columns.specs.Columns.{orderOf, Given, placed, rowsOf, consIf, hits, bare, column}
 use Rattle.columns.specs.Sides.{sidePattern, sideRow, SideLoaded, Distinct, Inverse, Sound, rowsIn}
 use Rattle.columns.proofs.Keeps.{placed-at, placed-length, stamped-keeps, space-kept}
 use Rattle.columns.proofs.ColumnLaws.{hits-bit, hits-none, column-zero, column-suc, bare-length}
@@ -134,7 +134,7 @@ module _ (i : Input) (s : List ℕ) (sound : Sound i) (inverse : Inverse i s) wh
       }
 
   -- the questions and the inverse order settle what the columns need
-  pub given-sound : Space (i .n) s → Given (i .n) (i .columns) (i .starts) (i .r) s
+  pub given-sound : Room (i .n) s → Given (i .n) (i .columns) (i .starts) (i .r) s
   given-sound sp = record {
     space = sp;
     order = λ c h. omega (arith, inverse .place c h, place-hits (i .c) (i .n) (sound .column-order) c h .0);
@@ -154,14 +154,14 @@ module _ (i : Input) (s : List ℕ) (sound : Sound i) (inverse : Inverse i s) wh
 
 -- ---- the marks as a set
 
-mark-at : (n t : ℕ) (s : List ℕ) (x j : ℕ) → Space n s → x < n → j < n → eqb (getD (markAt n t s x) j 0) t ≡ (eqb x j || eqb (getD s j 0) t)
+mark-at : (n t : ℕ) (s : List ℕ) (x j : ℕ) → Room n s → x < n → j < n → eqb (getD (markAt n t s x) j 0) t ≡ (eqb x j || eqb (getD s j 0) t)
 mark-at n t s x j sp h g = rw (getD-set-other (set s x t) (n + n + x / 64) j t 0 (omega arith)) (go (ℕ-discrete x j))
   where
     go : Dec (x ≡ j) → eqb (getD (set s x t) j 0) t ≡ (eqb x j || eqb (getD s j 0) t)
-    go (yes e) = rw (eq-eqb x j e, ← e, getD-set-same s x t 0 (omega (arith, sp .fits))) (eq-eqb t t refl)
+    go (yes e) = rw (eq-eqb x j e, ← e, getD-set-same s x t 0 (omega (arith, sp .long))) (eq-eqb t t refl)
     go (no e) = rw (ne-eqb x j e, getD-set-other s x j t 0 (λ v. e (sym v)))
 
-pub stamped-has : (n t : ℕ) (s l : List ℕ) (j : ℕ) → Space n s → Below n l → j < n → eqb (getD (stamped n t s l) j 0) t ≡ (has l j || eqb (getD s j 0) t)
+pub stamped-has : (n t : ℕ) (s l : List ℕ) (j : ℕ) → Room n s → Below n l → j < n → eqb (getD (stamped n t s l) j 0) t ≡ (has l j || eqb (getD s j 0) t)
 unfolding has stamped
 stamped-has n t s [] j sp b h = refl
 stamped-has n t s (x ∷ l) j sp b h =
@@ -176,14 +176,14 @@ stamped-has n t s (x ∷ l) j sp b h =
 
 -- marks and their blocks, in a buffer long enough
 record Blocked (n t : ℕ) (s : List ℕ) : Type 0 where
-  pub space : Space n s
+  pub space : Room n s
   pub blocks : Blocks n t s
 
 blocked-mark : (n t : ℕ) (s : List ℕ) (x : ℕ) → x < n → Blocked n t s → Blocked n t (markAt n t s x)
 blocked-mark n t s x h k = record { space = space-kept (simp length-set) (k .space); blocks = λ j g e. go j g e (ℕ-discrete (n + n + j / 64) (n + n + x / 64)) }
   where
     f : 8 * n ≤ length s
-    f = k .space .fits
+    f = k .space .long
 
     go : (j : ℕ) → j < n → getD (markAt n t s x) j 0 ≡ t → Dec (n + n + j / 64 ≡ n + n + x / 64) → getD (markAt n t s x) (n + n + j / 64) 0 ≡ t
     go j g e (yes q) = rw q (getD-set-same (set s x t) (n + n + x / 64) t 0 (simp length-set (omega arith)))
@@ -192,7 +192,7 @@ blocked-mark n t s x h k = record { space = space-kept (simp length-set) (k .spa
         ∙ k .blocks j g (sym (getD-set-other (set s x t) (n + n + x / 64) j t 0 (omega arith) ∙ getD-set-other s x j t 0 (λ v. q (ap (λ m. n + n + m / 64) v))) ∙ e)
 
 -- after a load the marks are exactly row k of the side's pattern, and their blocks are stamped
-module _ (i : Input) (side : Side) (t k hi₀ hi : ℕ) (s₀ s : List ℕ) (sound : Sound i) (inverse : Inverse i s₀) (space : Space (i .n) s₀) (place : k < i .n)
+module _ (i : Input) (side : Side) (t k hi₀ hi : ℕ) (s₀ s : List ℕ) (sound : Sound i) (inverse : Inverse i s₀) (space : Room (i .n) s₀) (place : k < i .n)
     (fresh : Fresh (i .n) t s₀) (loaded : SideLoaded side (i .n) t k hi₀ hi (rowsIn i s₀) s₀ s) where
   abbrev list : List ℕ
   list = sideRow side (rowsIn i s₀) (i .n) k

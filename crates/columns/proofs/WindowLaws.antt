@@ -8,8 +8,8 @@ use lib.ListN.{length, getD, take, set}
 use lib.Seq.{getD-set-other, getD-set-same}
 use Rattle.base.specs.Lists.{sum}
 use Rattle.base.specs.AscLaws.{sum-ext}
-use Rattle.columns.specs.Marks.{Below, stamped}
-use Rattle.columns.specs.Columns.{Space, orderOf, Kept, Steady, rowsOf, hits, bare, column, Counts, Countable, Counted, Tally, Started, Chain, none, HasChain, lengthAt, held, Listed, Roomy, Offered, headAt, Emptied, Filled, Ready, Windowed, Loaded}
+use Rattle.marks.specs.Marks.{Room, Below, stamped}
+use Rattle.columns.specs.Columns.{orderOf, Kept, Steady, rowsOf, hits, bare, column, Counts, Countable, Counted, Tally, Started, Chain, none, HasChain, lengthAt, held, Listed, Roomy, Offered, headAt, Emptied, Filled, Ready, Windowed, Loaded}
 use Rattle.columns.proofs.Keeps.{same, then, stored, order-kept, kept-wider, steady-unmarked, unmarked-stamped, both-stamped}
 use Rattle.columns.proofs.ColumnLaws.{hits-here, hits-there, hits-more, hits-part, grown-start, grown-more, grown-end, column-zero, column-more, column-part, bare-length, below-column, held-at-most}
 use Rattle.columns.proofs.ListLaws.{lists-frame}
@@ -27,11 +27,11 @@ pub record Clearing (n i : ℕ) (s₀ s : List ℕ) : Type 0 where
 pub clear-start : (n : ℕ) (s : List ℕ) → Clearing n 0 s s
 clear-start n s = record { kept = same s; zero = λ j h. absurd (omega arith) }
 
-pub clear-more : {n i : ℕ} {s₀ s : List ℕ} → Space n s₀ → i < n → Clearing n i s₀ s → Clearing n (i + 1) s₀ (set s (4 * n + i) 0)
+pub clear-more : {n i : ℕ} {s₀ s : List ℕ} → Room n s₀ → i < n → Clearing n i s₀ s → Clearing n (i + 1) s₀ (set s (4 * n + i) 0)
 clear-more {n} {i} {s₀} {s} sp h c = record {
   kept = then (c .kept) (head-kept n 0 n i 0 s (omega arith) h (omega arith));
   zero = λ j g. elim (ℕ-discrete j i) [
-    | yes e ↦ rw e (getD-set-same s (4 * n + i) 0 0 (omega (arith, sp .fits, c .kept .size)))
+    | yes e ↦ rw e (getD-set-same s (4 * n + i) 0 0 (omega (arith, sp .long, c .kept .size)))
     | no e ↦ getD-set-other s (4 * n + i) (4 * n + j) 0 0 (omega arith) ∙ c .zero j (omega arith)
   ];
 }
@@ -40,13 +40,13 @@ pub clear-end : {n i : ℕ} {s₀ s : List ℕ} → n ≤ i → Clearing n i s�
 clear-end h c = record { kept = c .kept; counts = record { slot = λ j a b. c .zero j (omega arith) ∙ sym (bare-length j) } }
 
 -- one entry counted
-pub one-counted : {n j : ℕ} {s u : List ℕ} → Space n s → j < n → u ≡ set s (4 * n + j) (getD s (4 * n + j) 0 + 1) → Counted n (j ∷ []) s u
+pub one-counted : {n j : ℕ} {s u : List ℕ} → Room n s → j < n → u ≡ set s (4 * n + j) (getD s (4 * n + j) 0 + 1) → Counted n (j ∷ []) s u
 one-counted {n} {j} {s} sp h e = rw e (record {
   kept = head-kept n 0 n j (getD s (4 * n + j) 0 + 1) s (omega arith) h (omega arith);
   grown = λ i. record {
     grow = λ f c. record {
       slot = λ x a b. elim (ℕ-discrete x j) [
-        | yes q ↦ rw q (getD-set-same s (4 * n + j) (getD s (4 * n + j) 0 + 1) 0 (omega (arith, sp .fits)) ∙ omega (arith, c .slot j (omega arith) h, hits-here i j f))
+        | yes q ↦ rw q (getD-set-same s (4 * n + j) (getD s (4 * n + j) 0 + 1) 0 (omega (arith, sp .long)) ∙ omega (arith, c .slot j (omega arith) h, hits-here i j f))
         | no q ↦ getD-set-other s (4 * n + j) (4 * n + x) (getD s (4 * n + j) 0 + 1) 0 (omega arith) ∙ c .slot x a b ∙ ap length (sym (hits-there i j f x (λ v. q (sym v))))
       ];
     };
@@ -129,7 +129,7 @@ open-start n lo s h =
     let e : lo - lo ≡ 0 = omega arith in
     record { kept = same s; least = omega arith; most = h; zero = λ j a b. absurd (omega arith); total = rw e (omega (arith, sum-none (headAt n s lo))) }
 
-pub open-more : {n lo hi left c : ℕ} {s₀ s : List ℕ} → Space n s₀ → hi < n → c ≡ getD s (4 * n + hi) 0 → c ≤ left
+pub open-more : {n lo hi left c : ℕ} {s₀ s : List ℕ} → Room n s₀ → hi < n → c ≡ getD s (4 * n + hi) 0 → c ≤ left
     → Opening n lo hi left s₀ s → Opening n lo (hi + 1) (left - c) s₀ (set s (4 * n + hi) 0)
 open-more {n} {lo} {hi} {left} {c} {s₀} {s} sp h ec hc m =
     let l = m .least in
@@ -141,7 +141,7 @@ open-more {n} {lo} {hi} {left} {c} {s₀} {s} sp h ec hc m =
       least = omega arith;
       most = omega arith;
       zero = λ j a b. elim (ℕ-discrete j hi) [
-        | yes e ↦ rw e (getD-set-same s (4 * n + hi) 0 0 (omega (arith, sp .fits, m .kept .size)))
+        | yes e ↦ rw e (getD-set-same s (4 * n + hi) 0 0 (omega (arith, sp .long, m .kept .size)))
         | no e ↦ getD-set-other s (4 * n + hi) (4 * n + j) 0 0 (omega arith) ∙ m .zero j a (omega arith)
       ];
       total = rw d (omega (arith, sum-next (hi - lo) (headAt n s₀ lo), v, m .total));
@@ -278,7 +278,7 @@ ready-next h r = record {
   lists = record { chain = λ j a b. r .lists .chain j (omega arith) b; heads = λ j a b. r .lists .heads j (omega arith) b };
 }
 
-pub loaded : {n t k hi : ℕ} {R : ℕ → List ℕ} {s₀ s u : List ℕ} → Space n s₀ → Windowed n k hi R s₀ s → u ≡ stamped n t s (column R n k) → Loaded n t k hi R s₀ u
+pub loaded : {n t k hi : ℕ} {R : ℕ → List ℕ} {s₀ s u : List ℕ} → Room n s₀ → Windowed n k hi R s₀ s → u ≡ stamped n t s (column R n k) → Loaded n t k hi R s₀ u
 loaded {n} {t} {k} {hi} {R} {s₀} {s} sp w e =
     let l = column R n k in
     let b : Below n l = below-column n R n k (omega arith) in

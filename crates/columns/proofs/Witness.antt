@@ -36,7 +36,7 @@ unfolding orderOf ic first isOf
 inverse = record { place = elim [ zero ↦ λ h. refl | suc k ↦ λ h. absurd (omega arith) ] }
 
 pub given : Given 1 (0 ∷ []) (0 ∷ 1 ∷ []) (0 ∷ []) scratch
-given = given-sound one scratch sound inverse (record { small = omega arith; fits = omega arith })
+given = given-sound one scratch sound inverse (record { small = omega arith; long = omega arith })
 
 pub counted : Ready 1 0 0 (rowsIn one scratch) scratch
 unfolding column rowsOf placed orderOf listAt hits bare

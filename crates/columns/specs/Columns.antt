@@ -9,13 +9,9 @@ use Prim.Native.Nat.{ℕ, zero, suc, _+_, _-_, _*_, _<_, _≤_}
 use lib.ListN.{length, getD, take, drop, set}
 use lib.Dec.{eqb}
 use Rattle.base.specs.Lists.{sum, rowOf}
-use Rattle.columns.specs.Marks.{Below, stamped}
+use Rattle.marks.specs.Marks.{Below, Room, stamped}
 
 -- ---- scratch
-
-pub record Space (n : ℕ) (s : List ℕ) : Type 0 where
-  pub small : n ≤ 65536
-  pub fits : 8 * n ≤ length s
 
 -- the inverse column order
 unfoldable pub orderOf : ℕ → List ℕ → List ℕ
@@ -91,7 +87,7 @@ Order n s = (c : ℕ) → c < n → getD (orderOf n s) c 0 < n
 
 -- what the questions and the inverse order settle: the rows of M' can be read, and no column has more than n entries
 pub record Given (n : ℕ) (columns starts r s : List ℕ) : Type 0 where
-  pub space : Space n s
+  pub space : Room n s
   pub order : Order n s
   pub long : n ≤ length r
   pub read : (k : ℕ) → k < n → RowIn columns starts (getD r k 0)

@@ -9,7 +9,7 @@ use Rattle.fill.specs.Fill.{Pattern, flip}
 use Rattle.matrix.specs.Input.{Input, ic}
 use Rattle.matrix.specs.Questions.{IsOrder}
 use Rattle.base.specs.Lists.{rowOf}
-use Rattle.columns.specs.Marks.{Below, stamped}
+use Rattle.marks.specs.Marks.{Below, stamped}
 use Rattle.columns.specs.Columns.{column, orderOf, rowsOf, Ready, Loaded}
 
 -- "the same three steps with rows and columns exchanged": the pattern whose upper lists are the side's

@@ -6,8 +6,8 @@ ghost use Prim.Native.Nat.{ℕ, _+_, _*_, _≤_, _<_};
 ghost use lib.ListN.{length, getD, set};
 ghost use Rattle.base.specs.Lists.{rowOf};
 ghost use Rattle.matrix.specs.Input.{placeAt};
-ghost use Rattle.columns.specs.Marks.{Below, markAt, stamped};
-ghost use Rattle.columns.specs.Columns.{Space, orderOf, Order, RowIn, Given, placed, rowsOf, bare, column, Countable, Counted, Counts, Tally, Started, Emptied, Roomy, Offered, pushAt, held, Filled, Ready, Windowed, Chain, HasChain, Loaded};
+ghost use Rattle.marks.specs.Marks.{Room, Below, markAt, stamped};
+ghost use Rattle.columns.specs.Columns.{orderOf, Order, RowIn, Given, placed, rowsOf, bare, column, Countable, Counted, Counts, Tally, Started, Emptied, Roomy, Offered, pushAt, held, Filled, Ready, Windowed, Chain, HasChain, Loaded};
 ghost use Rattle.columns.specs.Sides.{SideReady, SideLoaded};
 use base::OwnNumber;
 use base::Place;
@@ -19,41 +19,25 @@ fn wide16(x: u16) -> usize
     x as usize
 }
 
-fn wide32(x: u32) -> usize
-    ensures { λ r. ⌜ (r ≡ x) × (r < 4294967296) ⌝ }
-{
-    x as usize
-}
-
-// Adds place j to the set.
-fn mark(s: &mut [u32], n: usize, stamp: u32, j: usize)
-    requires { ⌜ Space n (now s) ⌝ }
-    requires { ⌜ j < n ⌝ }
-    ensures { λ r. ⌜ now (s .exit) ≡ markAt n stamp (now (s .entry)) j ⌝ }
-{
-    s[j] = stamp;
-    s[n + n + j / 64] = stamp;
-}
-
 // The place of an own column.
 fn place_of(s: &[u32], n: usize, c: OwnNumber) -> Place
-    requires { ⌜ Space n (now s) ⌝ }
+    requires { ⌜ Room n (now s) ⌝ }
     requires { ⌜ c .0 < n ⌝ }
     ensures { λ p. ⌜ p ≡ placeAt (orderOf n (now (s .entry))) c ⌝ }
 {
-    let j = wide32(c.0);
+    let j = marks::wide32(c.0);
     Place(s[n + j])
 }
 
 // The place of entry q of a row.
 fn entry_place(s: &[u32], n: usize, cols: &[u16], q: usize) -> usize
-    requires { ⌜ Space n (now s) ⌝ }
+    requires { ⌜ Room n (now s) ⌝ }
     requires { ⌜ (q < length (now cols)) × (getD (now cols) q 0 < n) ⌝ }
     ensures { λ j. ⌜ j ≡ getD (placed (orderOf n (now (s .entry))) (now (cols .entry))) q 0 ⌝ }
 {
     let c = OwnNumber(cols[q] as u32);
     let p = place_of(s, n, c);
-    wide32(p.0)
+    marks::wide32(p.0)
 }
 
 // The own columns of the row at place k.
@@ -63,8 +47,8 @@ fn row_of<'a>(columns: &'a [u16], starts: &[u32], r: &[u16], k: usize) -> &'a [u
     ensures { λ row. ⌜ now row ≡ rowOf (now (starts .entry)) (now (columns .entry)) (getD (now (r .entry)) k 0) ⌝ }
 {
     let q = wide16(r[k]);
-    let a = wide32(starts[q]);
-    let e = wide32(starts[q + 1]);
+    let a = marks::wide32(starts[q]);
+    let e = marks::wide32(starts[q + 1]);
     &columns[a..e]
 }
 
@@ -72,7 +56,7 @@ fn row_of<'a>(columns: &'a [u16], starts: &[u32], r: &[u16], k: usize) -> &'a [u
 
 // Empties all heads.
 fn clear_heads(s: &mut [u32], n: usize)
-    requires { ⌜ Space n (now s) ⌝ }
+    requires { ⌜ Room n (now s) ⌝ }
     ensures { λ _. ⌜ Tally n bare (now (s .entry)) (now (s .exit)) ⌝ }
 {
     let mut j = 0;
@@ -84,7 +68,7 @@ fn clear_heads(s: &mut [u32], n: usize)
 
 // Counts one entry of column j.
 fn count_one(s: &mut [u32], n: usize, j: usize)
-    requires { ⌜ Space n (now s) ⌝ }
+    requires { ⌜ Room n (now s) ⌝ }
     requires { ⌜ (j < n) × (getD (now s) (4 * n + j) 0 < 65536) ⌝ }
     ensures { λ _. ⌜ now (s .exit) ≡ set (now (s .entry)) (4 * n + j) (getD (now (s .entry)) (4 * n + j) 0 + 1) ⌝ }
 {
@@ -94,7 +78,7 @@ fn count_one(s: &mut [u32], n: usize, j: usize)
 
 // Counts the entries of a row by column.
 fn count_row(s: &mut [u32], n: usize, cols: &[u16])
-    requires { ⌜ Space n (now s) ⌝ }
+    requires { ⌜ Room n (now s) ⌝ }
     requires { ⌜ Order n (now s) ⌝ }
     requires { ⌜ Below n (now cols) ⌝ }
     requires { ⌜ Countable n (placed (orderOf n (now s)) (now cols)) (now s) ⌝ }
@@ -135,14 +119,14 @@ pub fn start_columns(s: &mut [u32], n: usize, columns: &[u16], starts: &[u32], r
 
 // Empties the heads from lo on, as long as what they count fits the nodes, and answers where it stops.
 fn open_window(s: &mut [u32], n: usize, lo: usize) -> usize
-    requires { ⌜ Space n (now s) ⌝ }
+    requires { ⌜ Room n (now s) ⌝ }
     requires { ⌜ lo ≤ n ⌝ }
     ensures { λ hi. ⌜ Emptied n lo hi (now (s .entry)) (now (s .exit)) ⌝ }
 {
     let mut left = n;
     let mut hi = lo;
     while hi < n {
-        let count = wide32(s[4 * n + hi]);
+        let count = marks::wide32(s[4 * n + hi]);
         if left < count {
             return hi;
         }
@@ -155,7 +139,7 @@ fn open_window(s: &mut [u32], n: usize, lo: usize) -> usize
 
 // Puts node p, with row i, in front of column j's list.
 fn push_node(s: &mut [u32], n: usize, p: usize, i: usize, j: usize)
-    requires { ⌜ Space n (now s) ⌝ }
+    requires { ⌜ Room n (now s) ⌝ }
     requires { ⌜ (p < n) × (i < n) × (j < n) ⌝ }
     ensures { λ _. ⌜ now (s .exit) ≡ pushAt n p i j (now (s .entry)) ⌝ }
 {
@@ -168,7 +152,7 @@ fn push_node(s: &mut [u32], n: usize, p: usize, i: usize, j: usize)
 
 // Entry (i, j) goes into the lists of lo to hi; answers how many nodes are used.
 fn offer(s: &mut [u32], n: usize, lo: usize, hi: usize, i: usize, j: usize, used: usize) -> usize
-    requires { ⌜ Space n (now s) ⌝ }
+    requires { ⌜ Room n (now s) ⌝ }
     requires { ⌜ (hi ≤ n) × (i < n) ⌝ }
     requires { ⌜ Roomy n lo hi i (j ∷ []) (now s) used ⌝ }
     ensures { λ p. ⌜ Offered n lo hi i (j ∷ []) (now (s .entry)) (now (s .exit)) used p ⌝ }
@@ -193,7 +177,7 @@ fn offer_row(
     cols: &[u16],
     used: usize,
 ) -> usize
-    requires { ⌜ Space n (now s) ⌝ }
+    requires { ⌜ Room n (now s) ⌝ }
     requires { ⌜ Below n (now cols) ⌝ }
     requires { ⌜ (hi ≤ n) × (i < n) ⌝ }
     requires { ⌜ Roomy n lo hi i (placed (orderOf n (now s)) (now cols)) (now s) used ⌝ }
@@ -260,16 +244,16 @@ fn window_at(
 
 // Stamps the list at a head.
 fn stamp_list(s: &mut [u32], n: usize, stamp: u32, head: usize)
-    requires { ⌜ Space n (now s) ⌝ }
+    requires { ⌜ Room n (now s) ⌝ }
     requires { ⌜ HasChain n (now s) head ⌝ }
     ensures { λ _. ⌜ ((l : List ℕ) → Chain n (now (s .entry)) head l → now (s .exit) ≡ stamped n stamp (now (s .entry)) l) ⌝ }
 {
     let mut h = head;
     while 0 < h {
         let b = 6 * n + (h - 1 + (h - 1));
-        let i = wide32(s[b]);
-        let rest = wide32(s[b + 1]);
-        mark(s, n, stamp, i);
+        let i = marks::wide32(s[b]);
+        let rest = marks::wide32(s[b + 1]);
+        marks::mark(s, n, stamp, i);
         h = rest;
     }
 }
@@ -291,14 +275,14 @@ pub fn load_column(
     ensures { λ end. ⌜ Loaded n stamp k end (rowsOf (orderOf n (now (s .entry))) (now (columns .entry)) (now (starts .entry)) (now (r .entry))) (now (s .entry)) (now (s .exit)) ⌝ }
 {
     let end = window_at(s, n, k, hi, columns, starts, r);
-    let head = wide32(s[4 * n + k]);
+    let head = marks::wide32(s[4 * n + k]);
     stamp_list(s, n, stamp, head);
     end
 }
 
 // Stamps the places of a row's columns.
 fn load_row(s: &mut [u32], n: usize, stamp: u32, cols: &[u16])
-    requires { ⌜ Space n (now s) ⌝ }
+    requires { ⌜ Room n (now s) ⌝ }
     requires { ⌜ Order n (now s) ⌝ }
     requires { ⌜ Below n (now cols) ⌝ }
     ensures { λ _. ⌜ now (s .exit) ≡ stamped n stamp (now (s .entry)) (placed (orderOf n (now (s .entry))) (now (cols .entry))) ⌝ }
@@ -306,7 +290,7 @@ fn load_row(s: &mut [u32], n: usize, stamp: u32, cols: &[u16])
     let mut q = 0;
     while q < cols.len() {
         let j = entry_place(s, n, cols, q);
-        mark(s, n, stamp, j);
+        marks::mark(s, n, stamp, j);
         q += 1;
     }
 }

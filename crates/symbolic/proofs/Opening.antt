@@ -11,14 +11,13 @@ use Rattle.base.specs.declared.Side.{Side}
 use Rattle.base.specs.declared.Side.the-variants.{Lower, Upper}
 use Rattle.fill.specs.Fill.{Pattern, filled}
 use Rattle.matrix.specs.Input.{Input}
-use Rattle.marks.specs.Marks.{Room, Base, Fresh, Holds, Free, Same, Parts}
+use Rattle.marks.specs.Marks.{Room, Base, Fresh, Holds, Free, Same, Parts, Below, markAt}
 use Rattle.marks.specs.MarkLaws.{holds-kept}
 use Rattle.rows.specs.Rows.{Cuts, Closed, LowerListed, Closing, UpperListed, Listed, But}
 use Rattle.rows.specs.CutLaws.{cuts-kept}
 use Rattle.rows.specs.FillLaws.{held-parts}
 use Rattle.rows.specs.ListLaws.{lower-marks, listed-both, listed-lower, listed-upper, listed-but, lower-le, upper-le}
-use Rattle.columns.specs.Marks.{Below, markAt}
-use Rattle.columns.specs.Columns.{Space, orderOf, Untouched, Given, Ready}
+use Rattle.columns.specs.Columns.{orderOf, Untouched, Given, Ready}
 use Rattle.columns.specs.Sides.{sideRow, SideReady, SideLoaded, rowsIn}
 use Rattle.columns.proofs.Keeps.{order-read, stamped-keeps, unmarked-stamped, rows-same}
 use Rattle.columns.proofs.WindowLaws.{ready-steady}
@@ -31,9 +30,6 @@ use Rattle.symbolic.specs.Places.{patternOf, cutsOf, Foreign, Apart, Beg
 pub base-of : (side : Side) (n : ℕ) → Base n (cutsOf side n)
 base-of Upper n = record { low = omega arith; high = omega arith }
 base-of Lower n = record { low = omega arith; high = omega arith }
-
-pub room-of : {n : ℕ} {s : List ℕ} → Space n s → Room n s
-room-of p = record { small = p .small; long = p .fits }
 
 pub apart-then : {side : Side} {n : ℕ} {s u v : List ℕ} → Apart side n s u → Apart side n u v → Apart side n s v
 apart-then a b = record {
@@ -85,7 +81,7 @@ begun-apart a b = record {
   few = b .few;
   sound = b .sound;
   inverse = record { place = λ j h. order-apart a j h ∙ b .inverse .place j h };
-  space = record { small = b .space .small; fits = omega (arith, b .space .fits, a .size) };
+  space = record { small = b .space .small; long = omega (arith, b .space .long, a .size) };
 }
 
 -- a part of scratch whose slots are as they were
@@ -146,7 +142,7 @@ module _ (side : Side) (i : Input) (k t window : ℕ) (index runs lists s₀ : L
     kept = side-untouched side n t k window hi (i .columns) (i .starts) (i .r) s₀ s₁ open-given (o .below) loaded
 
     pub loaded-room : Room n s₁
-    loaded-room = record { small = o .begun .space .small; long = omega (arith, o .begun .space .fits, kept .size) }
+    loaded-room = record { small = o .begun .space .small; long = omega (arith, o .begun .space .long, kept .size) }
 
     loaded-fresh : Fresh n (suc t) s₁
     loaded-fresh j l =

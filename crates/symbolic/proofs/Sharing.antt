@@ -30,7 +30,7 @@ use Rattle.symbolic.specs.Places.{Apart, Begun, Adding, SideAt, SideNext
 use Rattle.symbolic.specs.Pass.{slotsOf, placingOf, stampAt, LowerAt, At}
 use Rattle.symbolic.specs.declared.SidePlace.{SidePlace}
 use Rattle.symbolic.specs.declared.Progress.{Progress}
-use Rattle.symbolic.proofs.Opening.{room-of, begun-apart, rows-apart, ready-kept}
+use Rattle.symbolic.proofs.Opening.{begun-apart, rows-apart, ready-kept}
 use Rattle.symbolic.proofs.Keeping.{stored-held}
 use Rattle.symbolic.proofs.Asking.{fits-upper, fits-shared, stop-null, stop-lower, stop-upper, goes-on}
 
@@ -71,7 +71,7 @@ module _ (f : Form) (sharing : placingOf f ≡ Sharing) (i : Input) (low : List 
       upper-adding = record {
         below = place;
         few = begun .few;
-        space = room-of (begun-next .space);
+        space = begun-next .space;
         size = next .size;
         list = next .lower;
         store = stored-before (stored-held (omega arith) (next .at .held));

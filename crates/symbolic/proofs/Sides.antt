@@ -17,7 +17,7 @@ use Rattle.placing.specs.declared.Way.the-variants.{Sharing}
 use Rattle.placing.specs.declared.Extent.{Extent}
 use Rattle.symbolic.specs.Places.{patternOf, cutsOf, Apart, Begun, Open, RowFound, ListsAt, Keep, Kept, SideAt, SideNext}
 use Rattle.symbolic.specs.declared.OpenRow.{OpenRow}
-use Rattle.symbolic.proofs.Opening.{room-of, apart-then, apart-cuts, base-of, part-kept, rows-apart, ready-kept}
+use Rattle.symbolic.proofs.Opening.{apart-then, apart-cuts, base-of, part-kept, rows-apart, ready-kept}
 use Rattle.symbolic.proofs.Keeping.{stored-held}
 
 -- ---- before
@@ -33,7 +33,7 @@ module _ {way : Way} {side : Side} {i : Input} {k : ℕ} {store : List ℕ} {val
   }
 
   pub room-found : {t : ℕ} {s₁ : List ℕ} {o : OpenRow} → RowFound side i k t s s₁ o → Room (i .n) s₁
-  room-found {t} {s₁} found = room-kept (i .n) s s₁ (found .apart .size) (room-of (begun .space))
+  room-found {t} {s₁} found = room-kept (i .n) s s₁ (found .apart .size) (begun .space)
 
   pub lists-keep : {t : ℕ} {s₁ : List ℕ} {o : OpenRow} → RowFound side i k t s s₁ o → Keep way (patternOf side i) (i .n) k t (cutsOf side (i .n)) store values starts runs index s₁ o e
   lists-keep found = record {

@@ -71,7 +71,7 @@ module _ (i : Input) (s₀ s : List ℕ) (l : MatrixLent i (length s₀)) (e : s
       place = λ j h.
           rw (e, placed-inverse (i .c) (i .n) (blank 0 s₀) (omega (arith, zeros))) (getD-table (ic (i .c) (i .n)) (i .n) 0 j h);
     };
-    space = record { small = omega (arith, l .few); fits = rw e (omega (arith, inverted-length (i .c) (i .n) (blank 0 s₀) zeros, blank-length 0 s₀, long)) };
+    space = record { small = omega (arith, l .few); long = rw e (omega (arith, inverted-length (i .c) (i .n) (blank 0 s₀) zeros, blank-length 0 s₀, long)) };
   }
 
   pub fresh-of : Fresh (i .n) 1 s

@@ -14,7 +14,7 @@ use Rattle.placement.specs.Placing.{plain}
 use Rattle.placement.specs.PlacingLaws.{room}
 use Rattle.marks.specs.Marks.{Room, Base, Fresh, Holds}
 use Rattle.rows.specs.Rows.{Stored, Cuts, Held, But, rowSteps}
-use Rattle.columns.specs.Columns.{Space}
+
 use Rattle.columns.specs.Sides.{sidePattern, SideReady, Inverse, Sound, rowsIn}
 use Rattle.placing.specs.Ways.{wayOf}
 use Rattle.placing.specs.Held.{Holding}
@@ -55,7 +55,7 @@ pub record Begun (i : Input) (s : List ℕ) : Type 0 where
   pub few : i .n ≤ maxRows
   pub sound : Sound i
   pub inverse : Inverse i s
-  pub space : Space (i .n) s
+  pub space : Room (i .n) s
 
 -- ---- opening place k: its lists are found
 

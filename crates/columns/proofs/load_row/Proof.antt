@@ -29,7 +29,7 @@ mark-requires c κs =
     let s = l .before .before .before in
     let k = l .loop .inv .1 .kept in
     let e = entry-read (s .args .n) (l .loop .q) _ _ _ (s .args .cols .now) (omega arith) (order-unmarked (s .args .n) k) (w .entry-place .ensures) in
-    (space-kept (k .size) (s .pre .0), entry-below (s .args .n) (l .loop .q) _ _ (s .args .cols .now) (s .pre .1 .0) (s .pre .1 .1) (e .0) (e .1))
+    (entry-below (s .args .n) (l .loop .q) _ _ (s .args .cols .now) (s .pre .1 .0) (s .pre .1 .1) (e .0) (e .1), space-kept (k .size) (s .pre .0))
 
 add-q : tie.Need-add-q Inv-loop μ-loop
 add-q c = search needs

@@ -57,7 +57,7 @@ mark-requires c κs =
     let l = w .before .before .before in
     let s = l .before .before in
     let d = walk-node (l .loop .inv) (s .pre .1) (omega arith) in
-    (space-kept (l .loop .inv .size) (s .pre .0), omega (arith, d .row, w .wide32 .ensures .0))
+    (omega (arith, d .row, w .wide32 .ensures .0), space-kept (l .loop .inv .size) (s .pre .0))
 
 loop-less : tie.Need-loop-less Inv-loop μ-loop
 loop-less c =
