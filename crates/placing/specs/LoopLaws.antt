@@ -5,6 +5,7 @@ use mathlib.Core.Bool.{true, false}
 use mathlib.Core.List.{List, [], _∷_}
 use native.Mathlib.Omega.{arith}
 use native.Mathlib.Numerals.{add-one}
+use native.Mathlib.Decide.{decLt}
 use lib.ListN.{set, length-drop, length, take, drop, getD, drop-of-length-le}
 use lib.Seq.{paste, drop-cons, take-all}
 use lib.Dec.{ltb, eqb}
@@ -30,17 +31,23 @@ module _ (x : ℕ) (l : List ℕ) (j : ℕ) where
   first-miss h t = rw (drop-at-one l j 0 h, ne-eqb (getD l j 0) x t)
 
 module _ (s t : List ℕ) (j : ℕ) where
-  pub agree-end-left : length s ≤ j → agree (drop j s) (drop j t) ≡ true
+  agree-end-left : length s ≤ j → agree (drop j s) (drop j t) ≡ true
   unfolding agree
   agree-end-left h = rw (drop-of-length-le s h)
 
-  pub agree-end-right : length t ≤ j → agree (drop j s) (drop j t) ≡ true
+  agree-end-right : length t ≤ j → agree (drop j s) (drop j t) ≡ true
   unfolding agree
   agree-end-right h = rw (drop-of-length-le t h) (none (drop j s))
     where
       none : (l : List ℕ) → agree l [] ≡ true
       none [] = refl
       none (x ∷ l) = refl
+
+  pub agree-end : min (length s) (length t) ≤ j → agree (drop j s) (drop j t) ≡ true
+  agree-end h = elim (decLt j (length s)) [
+    | yes g ↦ agree-end-right (omega arith)
+    | no g ↦ agree-end-left (omega arith)
+  ]
 
   pub agree-hit : j < length s → j < length t → getD s j 0 ≡ getD t j 0 → agree (drop j s) (drop j t) ≡ agree (drop (j + 1) s) (drop (j + 1) t)
   unfolding agree

@@ -88,15 +88,23 @@ fn first_at(s: &[u16], x: u32) -> usize
     j
 }
 
+// The smaller of two numbers.
+fn smaller(a: usize, b: usize) -> usize
+    ensures { λ r. ⌜ r ≡ min a b ⌝ }
+{
+    if a < b {
+        return a;
+    }
+    b
+}
+
 // Do the two lists agree as far as both go?
 fn agrees(s: &[u16], t: &[u32]) -> bool
     ensures { λ r. ⌜ r ≡ agree (now (s .entry)) (now (t .entry)) ⌝ }
 {
+    let end = smaller(s.len(), t.len());
     let mut j: usize = 0;
-    while j < s.len() {
-        if t.len() <= j {
-            return true;
-        }
+    while j < end {
         if entry(s[j]) != t[j] {
             return false;
         }
@@ -119,16 +127,6 @@ fn fresh_plan(slots: &[u16], list: &[u32]) -> Plan
         start: slots.len(),
         have: 0,
     }
-}
-
-// The smaller of two numbers.
-fn smaller(a: usize, b: usize) -> usize
-    ensures { λ r. ⌜ r ≡ min a b ⌝ }
-{
-    if a < b {
-        return a;
-    }
-    b
 }
 
 // Step 3: the last run is the used part from last on.
