@@ -1,22 +1,27 @@
-// The calls of the shared form. Their stages are in stages/specs/Stages: what is left of a call after each group of questions.
+// The calls of the shared form. Their stages are in stages/specs: Asking for questions 1 to 8, Stages and Ends for what is left of a call after them.
 ghost use mathlib.Core.Path.{_≡_};
 ghost use mathlib.Core.List.{[], _++_};
 ghost use Prim.Native.Nat.{_≤_};
 ghost use lib.ListN.{length};
 ghost use Rattle.base.specs.All.{all};
-ghost use Rattle.base.specs.Lists.{blank, nought};
+ghost use Rattle.base.specs.Lists.{blank};
 ghost use Rattle.base.specs.declared.Form.{Form};
 ghost use Rattle.matrix.specs.Limits.{maxRows};
 ghost use Rattle.matrix.specs.Input.{inputOf};
-ghost use Rattle.outcome.specs.Buffers.{sharedBuffers, sizes, ended, listTests, structureTests, bufferTests};
+ghost use Rattle.outcome.specs.Buffers.{sharedBuffers, ended, listTests, structureTests, bufferTests};
 ghost use Rattle.outcome.specs.Structure.{structure};
 ghost use Rattle.outcome.specs.Solve.{Solves};
+ghost use Rattle.symbolic.specs.Pass.{slotsOf, SharedLent, FoundBoth};
 ghost use Rattle.factor.specs.Factoring.{written};
-ghost use Rattle.stages.specs.Stages.{structureAsked, structurePlaced, solveAsked, solvePlaced, solveFactored};
-ghost use Rattle.stages.specs.Shaped.{patternSizes, numberSizes, StructureShaped, StructureDue, SolveShaped, SolveDue};
+ghost use Rattle.stages.specs.Stages.{solveFactored};
+ghost use Rattle.stages.specs.Shaped.{patternSizes, numberSizes};
 ghost use Rattle.stages.specs.Sharing.{sharedSizes, SharedDue};
+ghost use Rattle.stages.specs.Asking.{StructureAsking, SolveAsking};
+ghost use Rattle.stages.specs.Ends.{sideLists, Unplaced};
 use base::Answer;
+use base::Asked;
 use base::Counts;
+use base::Refusal;
 
 // ---- question 2
 
@@ -77,177 +82,6 @@ fn structure_shared_fits(
     pattern & (sides & scratch)
 }
 
-// ---- a refusal's zeros
-
-fn clear_shared_side(starts: &mut [u32], runs: &mut [u32], index: &mut [u16], values: &mut [f64])
-    ensures { λ _. ⌜ (now (starts .exit) ≡ blank 0 (now (starts .entry))) × (now (runs .exit) ≡ blank 0 (now (runs .entry))) × (now (index .exit) ≡ blank 0 (now (index .entry))) × (now (values .exit) ≡ blank nought (now (values .entry))) ⌝ }
-{
-    base::clear_u32(runs);
-    stages::clear_side(starts, index, values);
-}
-
-// ---- the structure in the shared form
-
-// After questions 3 to 8.
-fn structure_shared_placed(
-    n: usize,
-    starts: &[u32],
-    columns: &[u16],
-    r: &[u16],
-    c: &[u16],
-    lower_starts: &mut [u32],
-    lower_runs: &mut [u32],
-    lower_index: &mut [u16],
-    lower_values: &mut [f64],
-    upper_starts: &mut [u32],
-    upper_runs: &mut [u32],
-    upper_index: &mut [u16],
-    upper_values: &mut [f64],
-    work: &mut [f64],
-    marks: &mut [u32],
-) -> Answer
-    requires { ⌜ StructureDue Form.Shared (inputOf n (now starts) (now columns) [] (now r) (now c) []) (sizes (sharedBuffers (now «lower_starts») (now «lower_runs») (now «lower_index») (now «lower_values») (now «upper_starts») (now «upper_runs») (now «upper_index») (now «upper_values») [] [] (now work) (now marks))) ⌝ }
-    ensures { λ a. ⌜ ended a (sharedBuffers (now («lower_starts» .exit)) (now («lower_runs» .exit)) (now («lower_index» .exit)) (now («lower_values» .exit)) (now («upper_starts» .exit)) (now («upper_runs» .exit)) (now («upper_index» .exit)) (now («upper_values» .exit)) [] [] (now (work .exit)) (now (marks .exit)))
-        ≡ structurePlaced Form.Shared (inputOf n (now (starts .entry)) (now (columns .entry)) [] (now (r .entry)) (now (c .entry)) []) (sharedBuffers (now («lower_starts» .entry)) (now («lower_runs» .entry)) (now («lower_index» .entry)) (now («lower_values» .entry)) (now («upper_starts» .entry)) (now («upper_runs» .entry)) (now («upper_index» .entry)) (now («upper_values» .entry)) [] [] (now (work .entry)) (now (marks .entry))) ⌝ }
-{
-    let a = symbolic::find_shared(
-        n,
-        starts,
-        columns,
-        r,
-        c,
-        lower_starts,
-        lower_runs,
-        lower_index,
-        lower_values.len(),
-        upper_starts,
-        upper_runs,
-        upper_index,
-        upper_values.len(),
-        marks,
-    );
-    if stages::refuses(a) {
-        clear_shared_side(lower_starts, lower_runs, lower_index, lower_values);
-        clear_shared_side(upper_starts, upper_runs, upper_index, upper_values);
-        stages::clear_scratch(work, marks);
-        return a;
-    }
-    base::clear_f64(lower_values);
-    base::clear_f64(upper_values);
-    stages::clear_scratch(work, marks);
-    a
-}
-
-// After questions 1 and 2.
-fn structure_shared_asked(
-    n: usize,
-    starts: &[u32],
-    columns: &[u16],
-    r: &[u16],
-    c: &[u16],
-    lower_starts: &mut [u32],
-    lower_runs: &mut [u32],
-    lower_index: &mut [u16],
-    lower_values: &mut [f64],
-    upper_starts: &mut [u32],
-    upper_runs: &mut [u32],
-    upper_index: &mut [u16],
-    upper_values: &mut [f64],
-    work: &mut [f64],
-    marks: &mut [u32],
-) -> Answer
-    requires { ⌜ StructureShaped Form.Shared (inputOf n (now starts) (now columns) [] (now r) (now c) []) (sizes (sharedBuffers (now «lower_starts») (now «lower_runs») (now «lower_index») (now «lower_values») (now «upper_starts») (now «upper_runs») (now «upper_index») (now «upper_values») [] [] (now work) (now marks))) ⌝ }
-    ensures { λ a. ⌜ ended a (sharedBuffers (now («lower_starts» .exit)) (now («lower_runs» .exit)) (now («lower_index» .exit)) (now («lower_values» .exit)) (now («upper_starts» .exit)) (now («upper_runs» .exit)) (now («upper_index» .exit)) (now («upper_values» .exit)) [] [] (now (work .exit)) (now (marks .exit)))
-        ≡ structureAsked Form.Shared (inputOf n (now (starts .entry)) (now (columns .entry)) [] (now (r .entry)) (now (c .entry)) []) (sharedBuffers (now («lower_starts» .entry)) (now («lower_runs» .entry)) (now («lower_index» .entry)) (now («lower_values» .entry)) (now («upper_starts» .entry)) (now («upper_runs» .entry)) (now («upper_index» .entry)) (now («upper_values» .entry)) [] [] (now (work .entry)) (now (marks .entry))) ⌝ }
-{
-    let a = questions::ask_structure(n, starts, columns, r, c, marks);
-    if stages::stops(a) {
-        stages::clear_scratch(work, marks);
-        return stages::refusal(a);
-    }
-    structure_shared_placed(
-        n,
-        starts,
-        columns,
-        r,
-        c,
-        lower_starts,
-        lower_runs,
-        lower_index,
-        lower_values,
-        upper_starts,
-        upper_runs,
-        upper_index,
-        upper_values,
-        work,
-        marks,
-    )
-}
-
-// The fill of M' in the shared form: lower columns and T(k), each as a part of another where it can be.
-pub fn structure_shared(
-    n: usize,
-    starts: &[u32],
-    columns: &[u16],
-    r: &[u16],
-    c: &[u16],
-    lower_starts: &mut [u32],
-    lower_runs: &mut [u32],
-    lower_index: &mut [u16],
-    lower_values: &mut [f64],
-    upper_starts: &mut [u32],
-    upper_runs: &mut [u32],
-    upper_index: &mut [u16],
-    upper_values: &mut [f64],
-    work: &mut [f64],
-    marks: &mut [u32],
-) -> Answer
-    ensures { λ a. ⌜ ended a (sharedBuffers (now («lower_starts» .exit)) (now («lower_runs» .exit)) (now («lower_index» .exit)) (now («lower_values» .exit)) (now («upper_starts» .exit)) (now («upper_runs» .exit)) (now («upper_index» .exit)) (now («upper_values» .exit)) [] [] (now (work .exit)) (now (marks .exit)))
-        ≡ structure Form.Shared (inputOf n (now (starts .entry)) (now (columns .entry)) [] (now (r .entry)) (now (c .entry)) []) (sharedBuffers (now («lower_starts» .entry)) (now («lower_runs» .entry)) (now («lower_index» .entry)) (now («lower_values» .entry)) (now («upper_starts» .entry)) (now («upper_runs» .entry)) (now («upper_index» .entry)) (now («upper_values» .entry)) [] [] (now (work .entry)) (now (marks .entry))) ⌝ }
-{
-    if shape::rows_within(n) {
-        if structure_shared_fits(
-            n,
-            starts.len(),
-            columns.len(),
-            r.len(),
-            c.len(),
-            lower_starts.len(),
-            lower_runs.len(),
-            lower_index.len(),
-            lower_values.len(),
-            upper_starts.len(),
-            upper_runs.len(),
-            upper_index.len(),
-            upper_values.len(),
-            work.len(),
-            marks.len(),
-        ) {
-            return structure_shared_asked(
-                n,
-                starts,
-                columns,
-                r,
-                c,
-                lower_starts,
-                lower_runs,
-                lower_index,
-                lower_values,
-                upper_starts,
-                upper_runs,
-                upper_index,
-                upper_values,
-                work,
-                marks,
-            );
-        }
-        return stages::wrong_lengths();
-    }
-    stages::wrong_rows()
-}
-
-// ---- the solve in the shared form
-
 // A shared solve's question 2.
 fn solve_shared_fits(
     n: usize,
@@ -290,6 +124,229 @@ fn solve_shared_fits(
     let scratch = shape::scratch_fits(n, work, marks);
     (pattern & numbers) & (sides & (vectors & scratch))
 }
+
+// ---- questions 1 to 8, from the lengths of what a call is lent
+
+fn ask_structure_shared(
+    n: usize,
+    starts: &[u32],
+    columns: &[u16],
+    r: &[u16],
+    c: &[u16],
+    lower_starts: usize,
+    lower_runs: usize,
+    lower_index: usize,
+    lower_values: usize,
+    upper_starts: usize,
+    upper_runs: usize,
+    upper_index: usize,
+    upper_values: usize,
+    work: &mut [f64],
+    marks: &mut [u32],
+) -> Asked
+    ensures { λ a. ⌜ StructureAsking Form.Shared (inputOf n (now (starts .entry)) (now (columns .entry)) [] (now (r .entry)) (now (c .entry)) []) (sharedSizes «lower_starts» «lower_runs» «lower_index» «lower_values» «upper_starts» «upper_runs» «upper_index» «upper_values» 0 0 (length (now (work .entry))) (length (now (marks .entry)))) (now (work .entry)) (now (marks .entry)) (now (work .exit)) (now (marks .exit)) a ⌝ }
+{
+    if shape::rows_within(n) {
+        if structure_shared_fits(
+            n,
+            starts.len(),
+            columns.len(),
+            r.len(),
+            c.len(),
+            lower_starts,
+            lower_runs,
+            lower_index,
+            lower_values,
+            upper_starts,
+            upper_runs,
+            upper_index,
+            upper_values,
+            work.len(),
+            marks.len(),
+        ) {
+            return stages::ask_structure(n, starts, columns, r, c, work, marks);
+        }
+        return Asked::Stop(Refusal::Lengths);
+    }
+    Asked::Stop(Refusal::Rows)
+}
+
+fn ask_solve_shared(
+    n: usize,
+    starts: &[u32],
+    columns: &[u16],
+    values: &[f64],
+    r: &[u16],
+    c: &[u16],
+    b: &[f64],
+    lower_starts: usize,
+    lower_runs: usize,
+    lower_index: usize,
+    lower_values: usize,
+    upper_starts: usize,
+    upper_runs: usize,
+    upper_index: usize,
+    upper_values: usize,
+    d: usize,
+    x: usize,
+    work: &mut [f64],
+    marks: &mut [u32],
+) -> Asked
+    ensures { λ a. ⌜ SolveAsking Form.Shared (inputOf n (now (starts .entry)) (now (columns .entry)) (now (values .entry)) (now (r .entry)) (now (c .entry)) (now (b .entry))) (sharedSizes «lower_starts» «lower_runs» «lower_index» «lower_values» «upper_starts» «upper_runs» «upper_index» «upper_values» d x (length (now (work .entry))) (length (now (marks .entry)))) (now (work .entry)) (now (marks .entry)) (now (work .exit)) (now (marks .exit)) a ⌝ }
+{
+    if shape::rows_within(n) {
+        if solve_shared_fits(
+            n,
+            starts.len(),
+            columns.len(),
+            values.len(),
+            r.len(),
+            c.len(),
+            b.len(),
+            lower_starts,
+            lower_runs,
+            lower_index,
+            lower_values,
+            upper_starts,
+            upper_runs,
+            upper_index,
+            upper_values,
+            d,
+            x,
+            work.len(),
+            marks.len(),
+        ) {
+            return stages::ask_solve(n, starts, columns, values, r, c, b, work, marks);
+        }
+        return Asked::Stop(Refusal::Lengths);
+    }
+    Asked::Stop(Refusal::Rows)
+}
+
+// ---- a refusal's zeros
+
+// The lists of a side.
+fn clear_lists(starts: &mut [u32], runs: &mut [u32], index: &mut [u16])
+    ensures { λ _. ⌜ (now (starts .exit) ≡ blank 0 (now (starts .entry))) × (now (runs .exit) ≡ blank 0 (now (runs .entry))) × (now (index .exit) ≡ blank 0 (now (index .entry))) ⌝ }
+{
+    base::clear_u32(starts);
+    base::clear_u32(runs);
+    base::clear_u16(index);
+}
+
+// ---- questions 9 to 11
+
+// Where they stop a call, the lists are cleared.
+fn place_shared(
+    n: usize,
+    starts: &[u32],
+    columns: &[u16],
+    r: &[u16],
+    c: &[u16],
+    lower_starts: &mut [u32],
+    lower_runs: &mut [u32],
+    lower_index: &mut [u16],
+    lower_values: usize,
+    upper_starts: &mut [u32],
+    upper_runs: &mut [u32],
+    upper_index: &mut [u16],
+    upper_values: usize,
+    marks: &mut [u32],
+) -> Answer
+    requires { ⌜ SharedLent (inputOf n (now starts) (now columns) [] (now r) (now c) []) (now «lower_starts») (now «lower_runs») (now «lower_index») «lower_values» (now «upper_starts») (now «upper_runs») (now «upper_index») «upper_values» (length (now marks)) ⌝ }
+    ensures { λ a. ⌜ FoundBoth Form.Shared (inputOf n (now (starts .entry)) (now (columns .entry)) [] (now (r .entry)) (now (c .entry)) []) (slotsOf (length (now («lower_index» .entry))) «lower_values» (length (now («upper_index» .entry))) «upper_values») (now («lower_starts» .exit)) (now («lower_runs» .exit)) (now («lower_index» .exit)) «lower_values» (now («upper_starts» .exit)) (now («upper_runs» .exit)) (now («upper_index» .exit)) «upper_values» a
+        × Unplaced (sideLists (now («lower_starts» .entry)) (now («lower_runs» .entry)) (now («lower_index» .entry))) (sideLists (now («upper_starts» .entry)) (now («upper_runs» .entry)) (now («upper_index» .entry))) (sideLists (now («lower_starts» .exit)) (now («lower_runs» .exit)) (now («lower_index» .exit))) (sideLists (now («upper_starts» .exit)) (now («upper_runs» .exit)) (now («upper_index» .exit))) a ⌝ }
+{
+    let a = symbolic::find_shared(
+        n,
+        starts,
+        columns,
+        r,
+        c,
+        lower_starts,
+        lower_runs,
+        lower_index,
+        lower_values,
+        upper_starts,
+        upper_runs,
+        upper_index,
+        upper_values,
+        marks,
+    );
+    if stages::refuses(a) {
+        clear_lists(lower_starts, lower_runs, lower_index);
+        clear_lists(upper_starts, upper_runs, upper_index);
+        return a;
+    }
+    a
+}
+
+// ---- the structure in the shared form
+
+// The fill of M' in the shared form: lower columns and T(k), each as a part of another where it can be.
+pub fn structure_shared(
+    n: usize,
+    starts: &[u32],
+    columns: &[u16],
+    r: &[u16],
+    c: &[u16],
+    lower_starts: &mut [u32],
+    lower_runs: &mut [u32],
+    lower_index: &mut [u16],
+    lower_values: &mut [f64],
+    upper_starts: &mut [u32],
+    upper_runs: &mut [u32],
+    upper_index: &mut [u16],
+    upper_values: &mut [f64],
+    work: &mut [f64],
+    marks: &mut [u32],
+) -> Answer
+    ensures { λ a. ⌜ ended a (sharedBuffers (now («lower_starts» .exit)) (now («lower_runs» .exit)) (now («lower_index» .exit)) (now («lower_values» .exit)) (now («upper_starts» .exit)) (now («upper_runs» .exit)) (now («upper_index» .exit)) (now («upper_values» .exit)) [] [] (now (work .exit)) (now (marks .exit)))
+        ≡ structure Form.Shared (inputOf n (now (starts .entry)) (now (columns .entry)) [] (now (r .entry)) (now (c .entry)) []) (sharedBuffers (now («lower_starts» .entry)) (now («lower_runs» .entry)) (now («lower_index» .entry)) (now («lower_values» .entry)) (now («upper_starts» .entry)) (now («upper_runs» .entry)) (now («upper_index» .entry)) (now («upper_values» .entry)) [] [] (now (work .entry)) (now (marks .entry))) ⌝ }
+{
+    let asked = ask_structure_shared(
+        n,
+        starts,
+        columns,
+        r,
+        c,
+        lower_starts.len(),
+        lower_runs.len(),
+        lower_index.len(),
+        lower_values.len(),
+        upper_starts.len(),
+        upper_runs.len(),
+        upper_index.len(),
+        upper_values.len(),
+        work,
+        marks,
+    );
+    if stages::stops(asked) {
+        return stages::refusal(asked);
+    }
+    let a = place_shared(
+        n,
+        starts,
+        columns,
+        r,
+        c,
+        lower_starts,
+        lower_runs,
+        lower_index,
+        lower_values.len(),
+        upper_starts,
+        upper_runs,
+        upper_index,
+        upper_values.len(),
+        marks,
+    );
+    base::clear_f64(lower_values);
+    base::clear_f64(upper_values);
+    stages::clear_scratch(work, marks);
+    a
+}
+
+// ---- the solve in the shared form
 
 // After questions 3 to 11: the lists stand in their stores.
 fn solve_shared_factored(
@@ -338,143 +395,14 @@ fn solve_shared_factored(
     );
     let fault = stages::fault_of(a);
     if stages::stops(fault) {
-        clear_shared_side(lower_starts, lower_runs, lower_index, lower_values);
-        clear_shared_side(upper_starts, upper_runs, upper_index, upper_values);
-        base::clear_f64(d);
-        stages::clear_scratch(work, marks);
+        clear_lists(lower_starts, lower_runs, lower_index);
+        clear_lists(upper_starts, upper_runs, upper_index);
+        stages::clear_numbers(lower_values, upper_values, d, work, marks);
         return stages::ended_by(fault, counts);
     }
     stages::write_x(n, c, work, x);
     stages::clear_scratch(work, marks);
     stages::ended_by(fault, counts)
-}
-
-// After questions 3 to 8.
-fn solve_shared_placed(
-    n: usize,
-    starts: &[u32],
-    columns: &[u16],
-    values: &[f64],
-    r: &[u16],
-    c: &[u16],
-    b: &[f64],
-    lower_starts: &mut [u32],
-    lower_runs: &mut [u32],
-    lower_index: &mut [u16],
-    lower_values: &mut [f64],
-    upper_starts: &mut [u32],
-    upper_runs: &mut [u32],
-    upper_index: &mut [u16],
-    upper_values: &mut [f64],
-    d: &mut [f64],
-    x: &mut [f64],
-    work: &mut [f64],
-    marks: &mut [u32],
-) -> Answer
-    requires { ⌜ SolveDue Form.Shared (inputOf n (now starts) (now columns) (now values) (now r) (now c) (now b)) (sizes (sharedBuffers (now «lower_starts») (now «lower_runs») (now «lower_index») (now «lower_values») (now «upper_starts») (now «upper_runs») (now «upper_index») (now «upper_values») (now d) (now x) (now work) (now marks))) ⌝ }
-    ensures { λ a. ⌜ ended a (sharedBuffers (now («lower_starts» .exit)) (now («lower_runs» .exit)) (now («lower_index» .exit)) (now («lower_values» .exit)) (now («upper_starts» .exit)) (now («upper_runs» .exit)) (now («upper_index» .exit)) (now («upper_values» .exit)) (now (d .exit)) (now (x .exit)) (now (work .exit)) (now (marks .exit)))
-        ≡ solvePlaced Form.Shared (inputOf n (now (starts .entry)) (now (columns .entry)) (now (values .entry)) (now (r .entry)) (now (c .entry)) (now (b .entry))) (sharedBuffers (now («lower_starts» .entry)) (now («lower_runs» .entry)) (now («lower_index» .entry)) (now («lower_values» .entry)) (now («upper_starts» .entry)) (now («upper_runs» .entry)) (now («upper_index» .entry)) (now («upper_values» .entry)) (now (d .entry)) (now (x .entry)) (now (work .entry)) (now (marks .entry))) ⌝ }
-{
-    let a = symbolic::find_shared(
-        n,
-        starts,
-        columns,
-        r,
-        c,
-        lower_starts,
-        lower_runs,
-        lower_index,
-        lower_values.len(),
-        upper_starts,
-        upper_runs,
-        upper_index,
-        upper_values.len(),
-        marks,
-    );
-    if stages::refuses(a) {
-        clear_shared_side(lower_starts, lower_runs, lower_index, lower_values);
-        clear_shared_side(upper_starts, upper_runs, upper_index, upper_values);
-        base::clear_f64(d);
-        stages::clear_scratch(work, marks);
-        return a;
-    }
-    let counts = a.counts();
-    solve_shared_factored(
-        n,
-        starts,
-        columns,
-        values,
-        r,
-        c,
-        b,
-        lower_starts,
-        lower_runs,
-        lower_index,
-        lower_values,
-        upper_starts,
-        upper_runs,
-        upper_index,
-        upper_values,
-        d,
-        x,
-        work,
-        marks,
-        counts,
-    )
-}
-
-// After questions 1 and 2.
-fn solve_shared_asked(
-    n: usize,
-    starts: &[u32],
-    columns: &[u16],
-    values: &[f64],
-    r: &[u16],
-    c: &[u16],
-    b: &[f64],
-    lower_starts: &mut [u32],
-    lower_runs: &mut [u32],
-    lower_index: &mut [u16],
-    lower_values: &mut [f64],
-    upper_starts: &mut [u32],
-    upper_runs: &mut [u32],
-    upper_index: &mut [u16],
-    upper_values: &mut [f64],
-    d: &mut [f64],
-    x: &mut [f64],
-    work: &mut [f64],
-    marks: &mut [u32],
-) -> Answer
-    requires { ⌜ SolveShaped Form.Shared (inputOf n (now starts) (now columns) (now values) (now r) (now c) (now b)) (sizes (sharedBuffers (now «lower_starts») (now «lower_runs») (now «lower_index») (now «lower_values») (now «upper_starts») (now «upper_runs») (now «upper_index») (now «upper_values») (now d) (now x) (now work) (now marks))) ⌝ }
-    ensures { λ a. ⌜ ended a (sharedBuffers (now («lower_starts» .exit)) (now («lower_runs» .exit)) (now («lower_index» .exit)) (now («lower_values» .exit)) (now («upper_starts» .exit)) (now («upper_runs» .exit)) (now («upper_index» .exit)) (now («upper_values» .exit)) (now (d .exit)) (now (x .exit)) (now (work .exit)) (now (marks .exit)))
-        ≡ solveAsked Form.Shared (inputOf n (now (starts .entry)) (now (columns .entry)) (now (values .entry)) (now (r .entry)) (now (c .entry)) (now (b .entry))) (sharedBuffers (now («lower_starts» .entry)) (now («lower_runs» .entry)) (now («lower_index» .entry)) (now («lower_values» .entry)) (now («upper_starts» .entry)) (now («upper_runs» .entry)) (now («upper_index» .entry)) (now («upper_values» .entry)) (now (d .entry)) (now (x .entry)) (now (work .entry)) (now (marks .entry))) ⌝ }
-{
-    let a = questions::ask_solve(n, starts, columns, values, r, c, b, marks);
-    if stages::stops(a) {
-        stages::clear_scratch(work, marks);
-        return stages::refusal(a);
-    }
-    solve_shared_placed(
-        n,
-        starts,
-        columns,
-        values,
-        r,
-        c,
-        b,
-        lower_starts,
-        lower_runs,
-        lower_index,
-        lower_values,
-        upper_starts,
-        upper_runs,
-        upper_index,
-        upper_values,
-        d,
-        x,
-        work,
-        marks,
-    )
 }
 
 // Structure, factors and x in the shared form.
@@ -503,51 +431,71 @@ pub fn solve_shared(
         (sharedBuffers (now («lower_starts» .entry)) (now («lower_runs» .entry)) (now («lower_index» .entry)) (now («lower_values» .entry)) (now («upper_starts» .entry)) (now («upper_runs» .entry)) (now («upper_index» .entry)) (now («upper_values» .entry)) (now (d .entry)) (now (x .entry)) (now (work .entry)) (now (marks .entry)))
         a (sharedBuffers (now («lower_starts» .exit)) (now («lower_runs» .exit)) (now («lower_index» .exit)) (now («lower_values» .exit)) (now («upper_starts» .exit)) (now («upper_runs» .exit)) (now («upper_index» .exit)) (now («upper_values» .exit)) (now (d .exit)) (now (x .exit)) (now (work .exit)) (now (marks .exit))) ⌝ }
 {
-    if shape::rows_within(n) {
-        if solve_shared_fits(
-            n,
-            starts.len(),
-            columns.len(),
-            values.len(),
-            r.len(),
-            c.len(),
-            b.len(),
-            lower_starts.len(),
-            lower_runs.len(),
-            lower_index.len(),
-            lower_values.len(),
-            upper_starts.len(),
-            upper_runs.len(),
-            upper_index.len(),
-            upper_values.len(),
-            d.len(),
-            x.len(),
-            work.len(),
-            marks.len(),
-        ) {
-            return solve_shared_asked(
-                n,
-                starts,
-                columns,
-                values,
-                r,
-                c,
-                b,
-                lower_starts,
-                lower_runs,
-                lower_index,
-                lower_values,
-                upper_starts,
-                upper_runs,
-                upper_index,
-                upper_values,
-                d,
-                x,
-                work,
-                marks,
-            );
-        }
-        return stages::wrong_lengths();
+    let asked = ask_solve_shared(
+        n,
+        starts,
+        columns,
+        values,
+        r,
+        c,
+        b,
+        lower_starts.len(),
+        lower_runs.len(),
+        lower_index.len(),
+        lower_values.len(),
+        upper_starts.len(),
+        upper_runs.len(),
+        upper_index.len(),
+        upper_values.len(),
+        d.len(),
+        x.len(),
+        work,
+        marks,
+    );
+    if stages::stops(asked) {
+        return stages::refusal(asked);
     }
-    stages::wrong_rows()
+    let a = place_shared(
+        n,
+        starts,
+        columns,
+        r,
+        c,
+        lower_starts,
+        lower_runs,
+        lower_index,
+        lower_values.len(),
+        upper_starts,
+        upper_runs,
+        upper_index,
+        upper_values.len(),
+        marks,
+    );
+    if stages::refuses(a) {
+        stages::clear_numbers(lower_values, upper_values, d, work, marks);
+        return a;
+    }
+    let counts = a.counts();
+    solve_shared_factored(
+        n,
+        starts,
+        columns,
+        values,
+        r,
+        c,
+        b,
+        lower_starts,
+        lower_runs,
+        lower_index,
+        lower_values,
+        upper_starts,
+        upper_runs,
+        upper_index,
+        upper_values,
+        d,
+        x,
+        work,
+        marks,
+        counts,
+    )
 }

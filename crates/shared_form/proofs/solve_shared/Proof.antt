@@ -1,46 +1,118 @@
 use mathlib.Core.Path.{sym, _∙_}
 use Rattle.base.specs.declared.Form.the-variants.{Shared}
-use Rattle.stages.specs.Stages.{solve-rows, solve-lengths}
-use Rattle.stages.specs.ShapedLaws.{rows-few, solve-shaped}
-use Rattle.stages.specs.Sharing.{solve-fits}
-use Rattle.shared_form.proofs.Shared.{ended-as}
+use Rattle.questions.specs.SettledLaws.{settled}
+use Rattle.stages.specs.ShapedLaws.{solve-again, pattern-structured}
+use Rattle.stages.specs.Sharing.{shared-lent}
+use Rattle.stages.specs.Branches.{pass-of}
+use Rattle.stages.specs.Asking.{solve-stops}
+use Rattle.stages.specs.Ends.{done-with}
+use Rattle.shared_form.proofs.Shared.{shared-due, shared-refused, shared-go}
 use native.Mathlib.Omega.{arith}
 use borrow.Author.Needs.{needs}
 use Rattle.shared_form.proofs.solve_shared.Statement.{statement}
 use Rattle.shared_form.proofs.solve_shared.Tie as tie
 
-solve-shared-fits-requires : tie.Need-solve-shared-fits-requires
-solve-shared-fits-requires c κs = rows-few _ _ (c .before .rows-within .ensures) (c .if1 .taken)
+-- the questions, the pass that follows them, and the branches on its answer
+abbrev Asked : tie.After-stops → tie.After-ask-solve-shared
+Asked s = s .before .before .before .before .before
 
-solve-shared-asked-requires : tie.Need-solve-shared-asked-requires
-solve-shared-asked-requires c κs =
-    solve-shaped Shared _ _ (sym (c .before .before .before .before .before .before .before .before .before .before .before .before .before .before .before .rows-within .ensures) ∙ c .before .before .before .before .before .before .before .before .before .before .before .before .before .before .if1 .taken) (sym (c .before .before .before .before .before .before .before .before .before .before .before .before .before .solve-shared-fits .ensures) ∙ c .before .before .before .before .before .before .before .before .before .before .before .before .if2 .taken)
+abbrev Goes : tie.After-place-shared → tie.Else1
+Goes s = s .before .before .before .before .before .before .before .before
+
+abbrev Placed : tie.After-refuses → tie.After-place-shared
+Placed s = s .before .before .before .before .before .before .before .before .before .before .before .before .before .before .before
+
+abbrev Refusing : tie.After-slice-known26 → tie.Then2
+Refusing s = s .before .before .before .before .before .before .before .before .before .before .before .before .before .before .before .before
+
+abbrev Cleared : tie.After-slice-known26 → tie.After-clear-numbers
+Cleared s = s .before .before .before .before .before .before .before .before .before .before
+
+abbrev Solving : tie.After-slice-known38 → tie.After-solve-shared-factored
+Solving s = s .before .before .before .before .before .before .before .before .before .before .before .before .before .before .before .before .before .before .before .before .before .before .before .before
+
+abbrev Counted : tie.After-solve-shared-factored-arg12 → tie.After-counts
+Counted s = s .before .before .before .before .before .before .before .before .before .before .before .before
 
 returns : tie.Need-returns
 returns c =
-    solve-fits Shared _ _ _ _ _ (c .before .before .before .before .before .before .before .before .before .before .before .before .before .before .before .before .before .before .before .before .before .before .before .before .before .before .before .before .before .before .before .before .before .before .before .before .before .before .before .before .rows-within .ensures) (c .before .before .before .before .before .before .before .before .before .before .before .before .before .before .before .before .before .before .before .before .before .before .before .before .before .before .before .before .before .before .before .before .before .before .before .before .before .before .before .if1 .taken) (c .before .before .before .before .before .before .before .before .before .before .before .before .before .before .before .before .before .before .before .before .before .before .before .before .before .before .before .before .before .before .before .before .before .before .before .before .before .before .solve-shared-fits .ensures) (c .before .before .before .before .before .before .before .before .before .before .before .before .before .before .before .before .before .before .before .before .before .before .before .before .before .before .before .before .before .before .before .before .before .before .before .before .before .if2 .taken) (c .before .before .before .before .before .before .before .before .before .before .before .before .before .before .before .before .before .before .before .before .before .before .before .before .solve-shared-asked .ensures)
+    let b = c .before in
+    solve-stops Shared _ _ _ _ _ _ _ _ _ _ _ (Asked (b .before) .ask-solve-shared .ensures) (sym (b .before .stops .ensures) ∙ b .if1 .taken) (c .refusal .ensures)
+
+place-shared-requires : tie.Need-place-shared-requires
+place-shared-requires c κs =
+    let b = c .before .before .before .before .before .before .before in
+    let p = Asked (b .before) .ask-solve-shared in
+    let q = p .ensures .due (pass-of _ (sym (b .before .stops .ensures) ∙ b .if1 .left)) in
+    shared-lent _ _ _ _ _ _ _ _ _ _ _ _ _ (solve-again Shared _ _ _ _ _ _ _ _ (p .kept .1 .1 .1 .1 .1 .1 .1 .1 .1 .1 .1 .1 .1 .1 .1 .1 .1 .1 .0) (q .shaped) .structure) (pattern-structured _ (settled _ (q .passed) .structured))
 
 returns-2 : tie.Need-returns-2
 returns-2 c =
-    solve-lengths Shared _ _ _ (sym (c .before .before .before .before .rows-within .ensures) ∙ c .before .before .before .if1 .taken) (sym (c .before .before .solve-shared-fits .ensures) ∙ c .before .if2 .left) (ended-as _ _ _ (c .wrong-lengths .ensures))
+    let r = Refusing c in
+    let p = Placed (r .before) .place-shared in
+    let b = Goes (Placed (r .before)) in
+    let a = Asked (b .before) .ask-solve-shared in
+    shared-refused _ _ _ _ _ _ _ _ _ _ _ _ _ _ _ _ _ _ _ _ _ _ _ _ _ _ _ _ _ (a .ensures) (pass-of _ (sym (b .before .stops .ensures) ∙ b .if1 .left)) (p .ensures .0) (p .ensures .1)
+    (sym (r .before .refuses .ensures) ∙ r .if2 .taken) (a .kept .1 .1 .1 .1 .1 .1 .1 .1 .1 .1 .1 .1 .1 .1 .1 .1 .1 .0) (p .kept .1 .1 .1 .1 .1 .1 .1 .1 .1 .1 .1 .1 .1 .0 ∙ a .kept .1 .1 .1 .1 .1 .1 .1 .1 .1 .1 .1 .1 .1 .1 .1 .1 .1 .1 .0) (Cleared c .clear-numbers .ensures)
+
+solve-shared-factored-requires : tie.Need-solve-shared-factored-requires
+solve-shared-factored-requires c κs =
+    let k = Counted c in
+    let r = k .before in
+    let p = Placed (r .before) .place-shared in
+    let b = Goes (Placed (r .before)) in
+    let a = Asked (b .before) .ask-solve-shared in
+    shared-due _ _ _ _ _ _ _ _ _ _ _ _ _ _ _ _ _ _ _ _ (a .ensures .due (pass-of _ (sym (b .before .stops .ensures) ∙ b .if1 .left))) (p .ensures .0) (done-with _ _ _ (r .before .refuses .ensures) (r .if2 .left) (k .counts .ensures))
+    (a .kept .1 .1 .1 .1 .1 .1 .1 .1 .1 .1 .1 .1 .1 .1 .1 .1 .1 .0) (p .kept .1 .1 .1 .1 .1 .1 .1 .1 .1 .1 .1 .1 .1 .0 ∙ a .kept .1 .1 .1 .1 .1 .1 .1 .1 .1 .1 .1 .1 .1 .1 .1 .1 .1 .1 .0)
 
 returns-3 : tie.Need-returns-3
-returns-3 c = solve-rows Shared _ _ _ (sym (c .before .before .rows-within .ensures) ∙ c .before .if1 .left) (ended-as _ _ _ (c .wrong-rows .ensures))
+returns-3 c =
+    let k = Counted (Solving c .before) in
+    let r = k .before in
+    let p = Placed (r .before) .place-shared in
+    let b = Goes (Placed (r .before)) in
+    let a = Asked (b .before) .ask-solve-shared in
+    shared-go _ _ _ _ _ _ _ _ _ _ _ _ _ _ _ _ _ _ _ _ _ _ _ _ _ _ (a .ensures) (pass-of _ (sym (b .before .stops .ensures) ∙ b .if1 .left)) (p .ensures .0)
+    (done-with _ _ _ (r .before .refuses .ensures) (r .if2 .left) (k .counts .ensures))
+    (p .kept .1 .1 .1 .1 .1 .0) (p .kept .1 .1 .1 .1 .1 .1 .0) (p .kept .1 .1 .1 .1 .1 .1 .1 .0) (p .kept .1 .1 .1 .1 .1 .1 .1 .1 .1 .0) (p .kept .1 .1 .1 .1 .1 .1 .1 .1 .1 .1 .0) (p .kept .1 .1 .1 .1 .1 .1 .1 .1 .1 .1 .1 .0) (a .kept .1 .1 .1 .1 .1 .1 .1 .1 .1 .1 .1 .1 .1 .1 .1 .1 .1 .0) (p .kept .1 .1 .1 .1 .1 .1 .1 .1 .1 .1 .1 .1 .1 .0 ∙ a .kept .1 .1 .1 .1 .1 .1 .1 .1 .1 .1 .1 .1 .1 .1 .1 .1 .1 .1 .0)
+    (Solving c .solve-shared-factored .ensures)
+
+-- the pass and the questions behind a refusal of the pass, and behind the arithmetic
+abbrev Before : tie.After-slice-known26 → tie.After-place-shared
+Before c = Placed (Refusing c .before)
+
+abbrev Earlier : tie.After-slice-known38 → tie.After-place-shared
+Earlier c = Placed (Counted (Solving c .before) .before .before)
 
 pub solve-shared-spec : {M : Type 1} → statement M
 solve-shared-spec =
     tie.close
-    (tie.spec (λ c κs. search needs) solve-shared-fits-requires solve-shared-asked-requires
-    (λ c. c .before .before .before .before .before .before .before .before .before .before .before .before .before .before .before .before .before .before .before .before .before .before .before .before .solve-shared-asked .kept .1 .1 .1 .1 .1 .1 .1 .0)
-    (λ c. c .before .before .before .before .before .before .before .before .before .before .before .before .before .before .before .before .before .before .before .before .before .before .before .before .solve-shared-asked .kept .1 .1 .1 .1 .1 .1 .1 .1 .0)
-    (λ c. c .before .before .before .before .before .before .before .before .before .before .before .before .before .before .before .before .before .before .before .before .before .before .before .before .solve-shared-asked .kept .1 .1 .1 .1 .1 .1 .1 .1 .1 .0)
-    (λ c. c .before .before .before .before .before .before .before .before .before .before .before .before .before .before .before .before .before .before .before .before .before .before .before .before .solve-shared-asked .kept .1 .1 .1 .1 .1 .1 .1 .1 .1 .1 .0)
-    (λ c. c .before .before .before .before .before .before .before .before .before .before .before .before .before .before .before .before .before .before .before .before .before .before .before .before .solve-shared-asked .kept .1 .1 .1 .1 .1 .1 .1 .1 .1 .1 .1 .0)
-    (λ c. c .before .before .before .before .before .before .before .before .before .before .before .before .before .before .before .before .before .before .before .before .before .before .before .before .solve-shared-asked .kept .1 .1 .1 .1 .1 .1 .1 .1 .1 .1 .1 .1 .0)
-    (λ c. c .before .before .before .before .before .before .before .before .before .before .before .before .before .before .before .before .before .before .before .before .before .before .before .before .solve-shared-asked .kept .1 .1 .1 .1 .1 .1 .1 .1 .1 .1 .1 .1 .1 .0)
-    (λ c. c .before .before .before .before .before .before .before .before .before .before .before .before .before .before .before .before .before .before .before .before .before .before .before .before .solve-shared-asked .kept .1 .1 .1 .1 .1 .1 .1 .1 .1 .1 .1 .1 .1 .1 .0)
-    (λ c. c .before .before .before .before .before .before .before .before .before .before .before .before .before .before .before .before .before .before .before .before .before .before .before .before .solve-shared-asked .kept .1 .1 .1 .1 .1 .1 .1 .1 .1 .1 .1 .1 .1 .1 .1 .0)
-    (λ c. c .before .before .before .before .before .before .before .before .before .before .before .before .before .before .before .before .before .before .before .before .before .before .before .before .solve-shared-asked .kept .1 .1 .1 .1 .1 .1 .1 .1 .1 .1 .1 .1 .1 .1 .1 .1 .0)
-    (λ c. c .before .before .before .before .before .before .before .before .before .before .before .before .before .before .before .before .before .before .before .before .before .before .before .before .solve-shared-asked .kept .1 .1 .1 .1 .1 .1 .1 .1 .1 .1 .1 .1 .1 .1 .1 .1 .1 .0)
-    (λ c. c .before .before .before .before .before .before .before .before .before .before .before .before .before .before .before .before .before .before .before .before .before .before .before .before .solve-shared-asked .kept .1 .1 .1 .1 .1 .1 .1 .1 .1 .1 .1 .1 .1 .1 .1 .1 .1 .1 .0)
-    returns (λ c κs. search needs) returns-2 (λ c κs. search needs) returns-3)
+    (tie.spec (λ c κs. search needs) (λ c κs. search needs) (λ c κs. search needs)
+    (λ c. Asked (c .before .before) .ask-solve-shared .kept .1 .1 .1 .1 .1 .1 .1 .1 .1 .1 .1 .1 .1 .1 .1 .1 .1 .0)
+    (λ c. Asked (c .before .before) .ask-solve-shared .kept .1 .1 .1 .1 .1 .1 .1 .1 .1 .1 .1 .1 .1 .1 .1 .1 .1 .1 .0)
+    returns place-shared-requires (λ c κs. search needs) (λ c κs. search needs)
+    (λ c. Before c .place-shared .kept .1 .1 .1 .1 .1 .0)
+    (λ c. Before c .place-shared .kept .1 .1 .1 .1 .1 .1 .0)
+    (λ c. Before c .place-shared .kept .1 .1 .1 .1 .1 .1 .1 .0)
+    (λ c. Cleared c .clear-numbers .kept .0)
+    (λ c. Before c .place-shared .kept .1 .1 .1 .1 .1 .1 .1 .1 .1 .0)
+    (λ c. Before c .place-shared .kept .1 .1 .1 .1 .1 .1 .1 .1 .1 .1 .0)
+    (λ c. Before c .place-shared .kept .1 .1 .1 .1 .1 .1 .1 .1 .1 .1 .1 .0)
+    (λ c. Cleared c .clear-numbers .kept .1 .0)
+    (λ c. Cleared c .clear-numbers .kept .1 .1 .0)
+    (λ c. Cleared c .clear-numbers .kept .1 .1 .1 .0 ∙ Asked (Goes (Before c) .before) .ask-solve-shared .kept .1 .1 .1 .1 .1 .1 .1 .1 .1 .1 .1 .1 .1 .1 .1 .1 .1 .0)
+    (λ c. Cleared c .clear-numbers .kept .1 .1 .1 .1 .0 ∙ Before c .place-shared .kept .1 .1 .1 .1 .1 .1 .1 .1 .1 .1 .1 .1 .1 .0 ∙ Asked (Goes (Before c) .before) .ask-solve-shared .kept .1 .1 .1 .1 .1 .1 .1 .1 .1 .1 .1 .1 .1 .1 .1 .1 .1 .1 .0)
+    returns-2 (λ c κs. search needs) solve-shared-factored-requires
+    (λ c. Solving c .solve-shared-factored .kept .1 .1 .1 .1 .1 .1 .1 .0 ∙ Earlier c .place-shared .kept .1 .1 .1 .1 .1 .0)
+    (λ c. Solving c .solve-shared-factored .kept .1 .1 .1 .1 .1 .1 .1 .1 .0 ∙ Earlier c .place-shared .kept .1 .1 .1 .1 .1 .1 .0)
+    (λ c. Solving c .solve-shared-factored .kept .1 .1 .1 .1 .1 .1 .1 .1 .1 .0 ∙ Earlier c .place-shared .kept .1 .1 .1 .1 .1 .1 .1 .0)
+    (λ c. Solving c .solve-shared-factored .kept .1 .1 .1 .1 .1 .1 .1 .1 .1 .1 .0)
+    (λ c. Solving c .solve-shared-factored .kept .1 .1 .1 .1 .1 .1 .1 .1 .1 .1 .1 .0 ∙ Earlier c .place-shared .kept .1 .1 .1 .1 .1 .1 .1 .1 .1 .0)
+    (λ c. Solving c .solve-shared-factored .kept .1 .1 .1 .1 .1 .1 .1 .1 .1 .1 .1 .1 .0 ∙ Earlier c .place-shared .kept .1 .1 .1 .1 .1 .1 .1 .1 .1 .1 .0)
+    (λ c. Solving c .solve-shared-factored .kept .1 .1 .1 .1 .1 .1 .1 .1 .1 .1 .1 .1 .1 .0 ∙ Earlier c .place-shared .kept .1 .1 .1 .1 .1 .1 .1 .1 .1 .1 .1 .0)
+    (λ c. Solving c .solve-shared-factored .kept .1 .1 .1 .1 .1 .1 .1 .1 .1 .1 .1 .1 .1 .1 .0)
+    (λ c. Solving c .solve-shared-factored .kept .1 .1 .1 .1 .1 .1 .1 .1 .1 .1 .1 .1 .1 .1 .1 .0)
+    (λ c. Solving c .solve-shared-factored .kept .1 .1 .1 .1 .1 .1 .1 .1 .1 .1 .1 .1 .1 .1 .1 .1 .0)
+    (λ c. Solving c .solve-shared-factored .kept .1 .1 .1 .1 .1 .1 .1 .1 .1 .1 .1 .1 .1 .1 .1 .1 .1 .0 ∙ Asked (Goes (Earlier c) .before) .ask-solve-shared .kept .1 .1 .1 .1 .1 .1 .1 .1 .1 .1 .1 .1 .1 .1 .1 .1 .1 .0)
+    (λ c. Solving c .solve-shared-factored .kept .1 .1 .1 .1 .1 .1 .1 .1 .1 .1 .1 .1 .1 .1 .1 .1 .1 .1 .0 ∙ Earlier c .place-shared .kept .1 .1 .1 .1 .1 .1 .1 .1 .1 .1 .1 .1 .1 .0 ∙ Asked (Goes (Earlier c) .before) .ask-solve-shared .kept .1 .1 .1 .1 .1 .1 .1 .1 .1 .1 .1 .1 .1 .1 .1 .1 .1 .1 .0)
+    returns-3)

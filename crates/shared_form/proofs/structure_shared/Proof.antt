@@ -1,34 +1,71 @@
 use mathlib.Core.Path.{sym, _∙_}
 use Rattle.base.specs.declared.Form.the-variants.{Shared}
-use Rattle.stages.specs.Stages.{structure-rows, structure-lengths, structure-asked}
-use Rattle.stages.specs.ShapedLaws.{rows-few, structure-shaped}
-use Rattle.shared_form.proofs.Shared.{ended-as}
+use Rattle.questions.specs.SettledLaws.{structured}
+use Rattle.stages.specs.ShapedLaws.{shaped-again}
+use Rattle.stages.specs.Sharing.{shared-lent}
+use Rattle.stages.specs.Branches.{pass-of}
+use Rattle.stages.specs.Asking.{structure-stops}
+use Rattle.shared_form.proofs.Shared.{shared-structured}
 use native.Mathlib.Omega.{arith}
 use borrow.Author.Needs.{needs}
 use Rattle.shared_form.proofs.structure_shared.Statement.{statement}
 use Rattle.shared_form.proofs.structure_shared.Tie as tie
 
-structure-shared-fits-requires : tie.Need-structure-shared-fits-requires
-structure-shared-fits-requires c κs = rows-few _ _ (c .before .rows-within .ensures) (c .if1 .taken)
+-- the questions, and the pass that follows them
+abbrev Asked : tie.After-stops → tie.After-ask-structure-shared
+Asked s = s .before .before .before .before .before
 
-structure-shared-asked-requires : tie.Need-structure-shared-asked-requires
-structure-shared-asked-requires c κs =
-    structure-shaped Shared _ _ (sym (c .before .before .before .before .before .before .before .before .before .before .before .before .before .rows-within .ensures) ∙ c .before .before .before .before .before .before .before .before .before .before .before .before .if1 .taken) (sym (c .before .before .before .before .before .before .before .before .before .before .before .structure-shared-fits .ensures) ∙ c .before .before .before .before .before .before .before .before .before .before .if2 .taken)
+abbrev Goes : tie.After-place-shared → tie.Else1
+Goes s = s .before .before .before .before .before .before .before .before
+
+abbrev Placed : tie.After-slice-known23 → tie.After-place-shared
+Placed s = s .before .before .before .before .before .before .before .before .before .before .before .before .before .before .before .before .before .before .before .before .before .before .before .before .before .before .before .before .before
+
+abbrev Scratch : tie.After-slice-known23 → tie.After-clear-scratch
+Scratch s = s .before .before .before .before
+
+abbrev Lower : tie.After-slice-known23 → tie.After-clear-f64
+Lower s = s .before .before .before .before .before .before .before .before .before .before .before .before .before
+
+abbrev Upper : tie.After-slice-known23 → tie.After-clear-f642
+Upper s = s .before .before .before .before .before .before .before .before .before
 
 returns : tie.Need-returns
 returns c =
-    structure-asked Shared _ _ _ (sym (c .before .before .before .before .before .before .before .before .before .before .before .before .before .before .before .before .before .before .before .before .before .before .before .before .before .before .before .before .before .before .before .before .before .before .rows-within .ensures) ∙ c .before .before .before .before .before .before .before .before .before .before .before .before .before .before .before .before .before .before .before .before .before .before .before .before .before .before .before .before .before .before .before .before .before .if1 .taken) (sym (c .before .before .before .before .before .before .before .before .before .before .before .before .before .before .before .before .before .before .before .before .before .before .before .before .before .before .before .before .before .before .before .before .structure-shared-fits .ensures) ∙ c .before .before .before .before .before .before .before .before .before .before .before .before .before .before .before .before .before .before .before .before .before .before .before .before .before .before .before .before .before .before .before .if2 .taken) (c .before .before .before .before .before .before .before .before .before .before .before .before .before .before .before .before .before .before .before .before .structure-shared-asked .ensures)
+    let b = c .before in
+    structure-stops Shared _ _ _ _ _ _ _ _ _ _ _ (Asked (b .before) .ask-structure-shared .ensures) (sym (b .before .stops .ensures) ∙ b .if1 .taken) (c .refusal .ensures)
+
+place-shared-requires : tie.Need-place-shared-requires
+place-shared-requires c κs =
+    let b = c .before .before .before .before .before .before .before in
+    let p = Asked (b .before) .ask-structure-shared in
+    let q = p .ensures .due (pass-of _ (sym (b .before .stops .ensures) ∙ b .if1 .left)) in
+    shared-lent _ _ _ _ _ _ _ _ _ _ _ _ _ (shaped-again Shared _ _ _ _ _ _ _ _ (p .kept .1 .1 .1 .1 .1 .1 .1 .1 .1 .1 .1 .1 .1 .1 .0) (q .shaped)) (structured _ (q .passed))
 
 returns-2 : tie.Need-returns-2
 returns-2 c =
-    structure-lengths Shared _ _ _ (sym (c .before .before .before .before .rows-within .ensures) ∙ c .before .before .before .if1 .taken) (sym (c .before .before .structure-shared-fits .ensures) ∙ c .before .if2 .left) (ended-as _ _ _ (c .wrong-lengths .ensures))
-
-returns-3 : tie.Need-returns-3
-returns-3 c = structure-rows Shared _ _ _ (sym (c .before .before .rows-within .ensures) ∙ c .before .if1 .left) (ended-as _ _ _ (c .wrong-rows .ensures))
+    let p = Placed c .place-shared in
+    let b = Goes (Placed c) in
+    let a = Asked (b .before) .ask-structure-shared in
+    shared-structured _ _ _ _ _ _ _ _ _ _ _ _ _ _ _ _ _ _ _ _ _ _ _ _ _ _ (a .ensures) (pass-of _ (sym (b .before .stops .ensures) ∙ b .if1 .left)) (p .ensures .0) (p .ensures .1)
+    (p .kept .1 .1 .1 .1 .1 .1 .1 .0) (p .kept .1 .1 .1 .1 .1 .1 .1 .1 .1 .1 .1 .0) (a .kept .1 .1 .1 .1 .1 .1 .1 .1 .1 .1 .1 .1 .1 .0) (p .kept .1 .1 .1 .1 .1 .1 .1 .1 .1 .1 .1 .1 .1 .0 ∙ a .kept .1 .1 .1 .1 .1 .1 .1 .1 .1 .1 .1 .1 .1 .1 .0)
+    (Lower c .clear-f64 .ensures) (Upper c .clear-f642 .ensures) (Scratch c .clear-scratch .ensures)
 
 pub structure-shared-spec : {M : Type 1} → statement M
 structure-shared-spec =
     tie.close
-    (tie.spec (λ c κs. search needs) structure-shared-fits-requires structure-shared-asked-requires (λ c. search needs) (λ c. search needs)
-    (λ c. search needs) (λ c. search needs) (λ c. search needs) (λ c. search needs) (λ c. search needs) (λ c. search needs) (λ c. search needs)
-    (λ c. search needs) returns (λ c κs. search needs) returns-2 (λ c κs. search needs) returns-3)
+    (tie.spec (λ c κs. search needs) (λ c κs. search needs) (λ c κs. search needs)
+    (λ c. Asked (c .before .before) .ask-structure-shared .kept .1 .1 .1 .1 .1 .1 .1 .1 .1 .1 .1 .1 .1 .0)
+    (λ c. Asked (c .before .before) .ask-structure-shared .kept .1 .1 .1 .1 .1 .1 .1 .1 .1 .1 .1 .1 .1 .1 .0)
+    returns place-shared-requires (λ c κs. search needs) (λ c κs. search needs) (λ c κs. search needs)
+    (λ c. Placed c .place-shared .kept .1 .1 .1 .1 .1 .0)
+    (λ c. Placed c .place-shared .kept .1 .1 .1 .1 .1 .1 .0)
+    (λ c. Placed c .place-shared .kept .1 .1 .1 .1 .1 .1 .1 .0)
+    (λ c. Lower c .clear-f64 .kept .0)
+    (λ c. Placed c .place-shared .kept .1 .1 .1 .1 .1 .1 .1 .1 .1 .0)
+    (λ c. Placed c .place-shared .kept .1 .1 .1 .1 .1 .1 .1 .1 .1 .1 .0)
+    (λ c. Placed c .place-shared .kept .1 .1 .1 .1 .1 .1 .1 .1 .1 .1 .1 .0)
+    (λ c. Upper c .clear-f642 .kept .0)
+    (λ c. Scratch c .clear-scratch .kept .0 ∙ Asked (Goes (Placed c) .before) .ask-structure-shared .kept .1 .1 .1 .1 .1 .1 .1 .1 .1 .1 .1 .1 .1 .0)
+    (λ c. Scratch c .clear-scratch .kept .1 .0 ∙ Placed c .place-shared .kept .1 .1 .1 .1 .1 .1 .1 .1 .1 .1 .1 .1 .1 .0 ∙ Asked (Goes (Placed c) .before) .ask-structure-shared .kept .1 .1 .1 .1 .1 .1 .1 .1 .1 .1 .1 .1 .1 .1 .0)
+    returns-2)
