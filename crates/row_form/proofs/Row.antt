@@ -1,71 +1,41 @@
 -- The row form's ends: what it writes is cleared, whatever the answer, but x.
-use mathlib.Core.Path.{_≡_, refl, sym, ap, _∙_}
-use mathlib.Core.Bool.{Bool, false}
+use mathlib.Core.Path.{_≡_, refl, ap, _∙_}
+use mathlib.Core.Bool.{true, false}
 use mathlib.Core.List.{List, []}
 use Prim.Native.Nat.{ℕ, _+_}
+use native.Mathlib.Omega.{arith}
 use lib.ListN.{length, drop}
 use lib.Ieee.{Float}
 use Rattle.base.specs.Lists.{blank, nought}
 use Rattle.base.specs.Answers.{countsOf}
 use Rattle.matrix.specs.Input.{Input, stored, ownOrder}
 use Rattle.questions.specs.Settled.{Structured}
-use Rattle.outcome.specs.Buffers.{SideSizes, Sizes, Buffers, rowBuffers, sizes, sideCleared, cleared, Outcome, ended}
+use Rattle.questions.specs.SettledLaws.{settled}
+use Rattle.outcome.specs.Buffers.{SideSizes, Sizes, Buffers, rowBuffers, sizes, sideCleared, cleared, ended}
 use Rattle.outcome.specs.Structure.{askPlaces, counts}
-use Rattle.symbolic.specs.Pass.{slotsOf, Found, RowLent}
-use Rattle.factor.specs.Factoring.{lists, written, FactoredAs}
+use Rattle.outcome.specs.Solve.{solve}
+use Rattle.symbolic.specs.Pass.{slotsOf, foundAnswer, Found, RowLent}
+use Rattle.factor.specs.Factoring.{lists, written, Factorable, FactoredAs}
 use Rattle.factor.specs.declared.Factored.{Factored}
 use Rattle.base.specs.declared.Form.the-variants.{ByRow}
-use Rattle.base.specs.declared.Counts.{Counts}
-use Rattle.base.specs.declared.Refusal.{Refusal}
 use Rattle.base.specs.declared.Asked.{Asked}
-use Rattle.base.specs.declared.Asked.the-variants.{Pass, Stop}
+use Rattle.base.specs.declared.Asked.the-variants.{Pass}
 use Rattle.base.specs.declared.Answer.{Answer}
-use Rattle.base.specs.declared.Answer.the-variants.{Done, Refused}
 use Rattle.stages.specs.Stages.{solvePlaced, solveFactored}
-use Rattle.stages.specs.Branches.{isRefused, done-of}
-use Rattle.stages.specs.Shaped.{pattern, StructureShaped, SolveDue, FactorDue, faultAsked}
+use Rattle.stages.specs.Branches.{isStop, isRefused, noCounts, pass-of, done-of, refused-ends}
+use Rattle.stages.specs.Shaped.{pattern, StructureShaped, SolveDue, SolutionDue, faultAsked}
 use Rattle.stages.specs.ShapedLaws.{matrix-lent, factor-due}
-use Rattle.stages.specs.StageLaws.{AllZero, found-done, solve-refused, solve-go, factored-stop, factored-done}
+use Rattle.stages.specs.StageLaws.{AllZero, blank-of, found-done, counted, solve-refused, solve-go, factored-done}
+use Rattle.stages.specs.Asking.{Blanked, SolveAsking, solve-goes}
+use Rattle.stages.specs.Ends.{factor-stops}
 use Rattle.row_form.specs.Sizes.{rowSizes}
 
-pub same-end : (a b : Answer) (t : Buffers) → a ≡ b → ended a t ≡ ended b t
-same-end a b t h = ap (λ (y : Answer). ended y t) h
+-- ---- what the stages hand on
 
--- ---- zeros
-
-pub row-cleared : (us₀ ur₀ ui₀ m₀ us ur ui m : List ℕ) (uv₀ d₀ w₀ uv d w x : List Float)
-    → us ≡ blank 0 us₀ → ur ≡ blank 0 ur₀ → ui ≡ blank 0 ui₀ → uv ≡ blank nought uv₀ → d ≡ blank nought d₀ → w ≡ blank nought w₀ → m ≡ blank 0 m₀
-    → rowBuffers us ur ui uv d x w m ≡ cleared (sizes (rowBuffers us₀ ur₀ ui₀ uv₀ d₀ x w₀ m₀)) x
-unfolding cleared sideCleared blank
-row-cleared us₀ ur₀ ui₀ m₀ us ur ui m uv₀ d₀ w₀ uv d w x a b c e f g h = rw (a, b, c, e, f, g, h)
-
-zeros : (s : Buffers) → AllZero s (cleared (sizes s) (s .x))
-unfolding cleared sideCleared blank
-zeros s = record {
-  lower = record { starts = refl; runs = refl; index = refl; values = refl };
-  upper = record { starts = refl; runs = refl; index = refl; values = refl };
-  d = refl;
-  x = refl;
-  work = refl;
-  marks = refl;
-}
-
--- clearing looks at lengths alone
-cleared-again : (z₀ z : Sizes) (x : List Float) → z .lower ≡ z₀ .lower → z .upper .starts ≡ z₀ .upper .starts → z .upper .runs ≡ z₀ .upper .runs → z .upper .index ≡ z₀ .upper .index
-    → z .upper .values ≡ z₀ .upper .values → z .d ≡ z₀ .d → z .work ≡ z₀ .work → z .marks ≡ z₀ .marks → cleared z x ≡ cleared z₀ x
-unfolding cleared sideCleared
-cleared-again z₀ z x a b c e f g h k = rw (a, b, c, e, f, g, h, k)
-
--- the end of the call, with buffers that were written to in between
-pub row-end : (z₀ z : Sizes) (x : List Float) (t : Buffers) (a : Answer) (r : Outcome Answer) → t ≡ cleared z x → ended a (cleared z₀ x) ≡ r
-    → z .lower ≡ z₀ .lower → z .upper .starts ≡ z₀ .upper .starts → z .upper .runs ≡ z₀ .upper .runs → z .upper .index ≡ z₀ .upper .index
-    → z .upper .values ≡ z₀ .upper .values → z .d ≡ z₀ .d → z .work ≡ z₀ .work → z .marks ≡ z₀ .marks → ended a t ≡ r
-row-end z₀ z x t a r c h e₀ e₁ e₂ e₃ e₄ e₅ e₆ e₇ = ap (λ (y : Buffers). ended a y) (c ∙ cleared-again z₀ z x e₀ e₁ e₂ e₃ e₄ e₅ e₆ e₇) ∙ h
-
--- ---- 9 to 11
-
-pub done-with : (a : Answer) (b : Bool) (k : Counts) → b ≡ isRefused a → b ≡ false → k ≡ countsOf a → a ≡ Done k
-done-with a b k e h c = done-of a (sym e ∙ h) ∙ ap Done (sym c)
+-- questions 3 to 8 wrote to scratch
+pub due-again : (i : Input) (l u : SideSizes) (d x w m w₁ m₁ : ℕ) → w₁ ≡ w → m₁ ≡ m
+    → SolveDue ByRow i (record { lower = l; upper = u; d = d; x = x; work = w; marks = m }) → SolveDue ByRow i (record { lower = l; upper = u; d = d; x = x; work = w₁; marks = m₁ })
+due-again i l u d x w m w₁ m₁ a b h = rw (a, b) h
 
 pub row-lent : (i : Input) (us ur ui : List ℕ) (uv d x w m : ℕ) → StructureShaped ByRow i (rowSizes (length us) (length ur) (length ui) uv d x w m) → Structured i → RowLent i us ur ui uv m
 row-lent i us ur ui uv d x w m h g = record {
@@ -78,39 +48,77 @@ found-row : (i : Input) (z : Sizes) (us ur ui : List ℕ) (uv : ℕ) (a : Answer
 unfolding stored counts
 found-row i z us ur ui uv a h = record { answer = h .answer; upper = h .upper }
 
-pub row-refused : (i : Input) (us ur ui us₀ ur₀ ui₀ m₀ : List ℕ) (uv d x w : List Float) (a : Answer)
-    → Found ByRow (pattern i) (slotsOf 0 0 (length ui₀) (length uv)) us ur ui (length uv) a → (q : Refusal) → a ≡ Refused q
-    → ended (Refused q) (cleared (sizes (rowBuffers us₀ ur₀ ui₀ uv d x w m₀)) x) ≡ solvePlaced ByRow i (rowBuffers us₀ ur₀ ui₀ uv d x w m₀)
-row-refused i us ur ui us₀ ur₀ ui₀ m₀ uv d x w a f q h =
-    let s = rowBuffers us₀ ur₀ ui₀ uv d x w m₀ in
-    solve-refused ByRow i s _ a (found-row i _ us ur ui (length uv) a f .answer) q h (zeros s)
-
-pub row-due : (i : Input) (us ur ui m : List ℕ) (uv d w : List Float) (z : Sizes) (l u : SideSizes) (x m₀ : ℕ) (a : Answer) (k : Counts)
+pub row-due : (i : Input) (us ur ui m : List ℕ) (uv d w : List Float) (z : Sizes) (l u : SideSizes) (x m₀ : ℕ) (a : Answer)
     → SolveDue ByRow i (record { lower = l; upper = u; d = length d; x = x; work = length w; marks = m₀ })
-    → Found ByRow (pattern i) z us ur ui (length uv) a → a ≡ Done k → length m ≡ m₀
-    → FactorDue ByRow i (lists [] [] us ur ui) (written [] uv d w m) x k
-row-due i us ur ui m uv d w z l u x m₀ a k h f e em =
+    → Found ByRow (pattern i) z us ur ui (length uv) a → isRefused a ≡ false → length m ≡ m₀
+    → Factorable ByRow i (lists [] [] us ur ui) (written [] uv d w m)
+row-due i us ur ui m uv d w z l u x m₀ a h f e em =
     let g = found-row i z us ur ui (length uv) a f in
-    let p = found-done (askPlaces ByRow (stored i) (i .n) z (i .n)) (counts i) k a (g .answer) e in
-    factor-due ByRow i _ (lists [] [] us ur ui) (written [] uv d w m) x k h em refl refl refl refl (g .upper (p .0)) (p .1)
+    let p = found-done (askPlaces ByRow (stored i) (i .n) z (i .n)) (counts i) (countsOf a) a (g .answer) (done-of a e) in
+    factor-due ByRow i _ (lists [] [] us ur ui) (written [] uv d w m) x (countsOf a) h em refl refl refl refl (g .upper (p .0)) (p .1) .ready
 
--- the rest of the solve looks at lengths and x alone
-pub row-go : (i : Input) (us₀ ur₀ ui₀ m₀ us ur ui m : List ℕ) (uv d x w x′ : List Float) (a : Answer) (k : Counts) (r : Answer)
-    → Found ByRow (pattern i) (slotsOf 0 0 (length ui₀) (length uv)) us ur ui (length uv) a → a ≡ Done k
-    → length us ≡ length us₀ → length ur ≡ length ur₀ → length ui ≡ length ui₀ → length m ≡ length m₀
-    → ended r (cleared (sizes (rowBuffers us ur ui uv d x w m)) x′) ≡ solveFactored ByRow i (rowBuffers us ur ui uv d x w m)
-    → ended r (cleared (sizes (rowBuffers us₀ ur₀ ui₀ uv d x w m₀)) x′) ≡ solvePlaced ByRow i (rowBuffers us₀ ur₀ ui₀ uv d x w m₀)
-unfolding solveFactored
-row-go i us₀ ur₀ ui₀ m₀ us ur ui m uv d x w x′ a k r f h a₁ a₂ a₃ a₄ e =
-    solve-go ByRow i (rowBuffers us₀ ur₀ ui₀ uv d x w m₀) (rowBuffers us ur ui uv d x w m) a
-    (found-row i _ us ur ui (length uv) a f .answer) k h _ (rw (a₁, a₂, a₃, a₄) at e)
+-- for x, scratch has the length of the questions' scratch
+pub row-solution : (i : Input) (z : Sizes) (work : ℕ) → SolveDue ByRow i z → work ≡ z .work → SolutionDue (i .n) (i .c) work (z .x)
+row-solution i z work h e =
+    let s = h .shaped .structure in
+    record { few = s .few; scratch = omega (arith, e, s .work); size = s .column-order; to = h .shaped .solution; order = settled i (h .passed) .structured .readable .column-order }
 
--- ---- 12 and 13
+-- ---- 9 to 13: the end, once all but x is cleared
 
-module _ (i : Input) (s : Buffers) (uv d w : List Float) (a : Factored) (o : Asked) (g : FactoredAs ByRow i a [] uv d (drop (i .n + i .n) w)) (e : o ≡ faultAsked a) where
-  pub row-fault : (q : Refusal) → o ≡ Stop q → ended (Refused q) (cleared (sizes s) (s .x)) ≡ solveFactored ByRow i s
-  row-fault q h = factored-stop ByRow i [] uv d (drop (i .n + i .n) w) s _ a o g e q h (zeros s)
+zeros : (s : Buffers) → AllZero s (cleared (sizes s) (s .x))
+unfolding cleared sideCleared blank
+zeros s = record {
+  lower = record { starts = refl; runs = refl; index = refl; values = refl };
+  upper = record { starts = refl; runs = refl; index = refl; values = refl };
+  d = refl;
+  x = refl;
+  work = refl;
+  marks = refl;
+}
 
-  pub row-solved : (k : Counts) (x : List Float) → o ≡ Pass → k ≡ counts i → x ≡ ownOrder (i .c) (i .n) (drop (i .n + i .n) w) → ended (Done k) (cleared (sizes s) x) ≡ solveFactored ByRow i s
-  row-solved k x h c v =
-      factored-done ByRow i [] uv d (drop (i .n + i .n) w) s _ a o g e k h c (λ r f. ap (cleared (sizes s)) (v ∙ ap (ownOrder (i .c) (i .n)) (f .solution)))
+module _ (i : Input) (us₀ ur₀ ui₀ m₀ us ur ui : List ℕ) (uv₀ d₀ x₀ w₀ : List Float) (a : Answer) (f : Found ByRow (pattern i) (slotsOf 0 0 (length ui₀) (length uv₀)) us ur ui (length uv₀) a) where
+  abbrev lent : Buffers
+  lent = rowBuffers us₀ ur₀ ui₀ uv₀ d₀ x₀ w₀ m₀
+
+  found : a ≡ foundAnswer (askPlaces ByRow (stored i) (i .n) (slotsOf 0 0 (length ui₀) (length uv₀)) (i .n)) (counts i)
+  found = found-row i _ us ur ui (length uv₀) a f .answer
+
+  pub row-refused : isRefused a ≡ true → ended a (cleared (sizes lent) x₀) ≡ solvePlaced ByRow i lent
+  row-refused h = refused-ends a _ _ h (λ q p. solve-refused ByRow i lent _ a found q p (zeros lent))
+
+  module _ (h : isRefused a ≡ false) (uv d w : List Float) (g : Factored) (o : Asked) (y : FactoredAs ByRow i g [] uv d (drop (i .n + i .n) w)) (e : o ≡ faultAsked g) where
+    pub row-fault : (r : Answer) → isStop o ≡ true → r ≡ foundAnswer o noCounts → ended r (cleared (sizes lent) x₀) ≡ solvePlaced ByRow i lent
+    row-fault r p q =
+        solve-go ByRow i lent lent a found (countsOf a) (done-of a h) _
+        (factor-stops ByRow i [] uv d (drop (i .n + i .n) w) lent _ g o noCounts r y e p q (zeros lent))
+
+    pub row-solved : (x : List Float) → isStop o ≡ false → x ≡ ownOrder (i .c) (i .n) (drop (i .n + i .n) w) → ended a (cleared (sizes lent) x) ≡ solvePlaced ByRow i lent
+    row-solved x p v =
+        solve-go ByRow i lent lent a found (countsOf a) (done-of a h) _
+        (ap (λ (r : Answer). ended r (cleared (sizes lent) x)) (done-of a h) ∙ factored-done ByRow i [] uv d (drop (i .n + i .n) w) lent _ g o y e (countsOf a) (pass-of o p)
+        (counted ByRow i lent lent a found (countsOf a) (done-of a h))
+        (λ r k. ap (cleared (sizes lent)) (v ∙ ap (ownOrder (i .c) (i .n)) (k .solution))))
+
+-- ---- the call
+
+row-cleared : (us₀ ur₀ ui₀ m₀ us ur ui m : List ℕ) (uv₀ d₀ x₀ w₀ uv d x w : List Float)
+    → us ≡ blank 0 us₀ → ur ≡ blank 0 ur₀ → ui ≡ blank 0 ui₀ → uv ≡ blank nought uv₀ → d ≡ blank nought d₀ → w ≡ blank nought w₀ → m ≡ blank 0 m₀
+    → rowBuffers us ur ui uv d x w m ≡ cleared (sizes (rowBuffers us₀ ur₀ ui₀ uv₀ d₀ x₀ w₀ m₀)) x
+unfolding cleared sideCleared blank
+row-cleared us₀ ur₀ ui₀ m₀ us ur ui m uv₀ d₀ x₀ w₀ uv d x w a b c e f g h = rw (a, b, c, e, f, g, h)
+
+-- v and t are scratch as the questions leave it; 9 to 13 leave the buffers numbered 1
+pub row-ends : (i : Input) (us₀ ur₀ ui₀ m₀ t us₁ ur₁ ui₁ m₁ us ur ui m : List ℕ) (uv₀ d₀ x₀ w₀ v uv₁ d₁ w₁ uv d x w : List Float) (o : Asked) (a : Answer)
+    → SolveAsking ByRow i (sizes (rowBuffers us₀ ur₀ ui₀ uv₀ d₀ x₀ w₀ m₀)) w₀ m₀ v t o → o ≡ Pass
+    → ended a (cleared (sizes (rowBuffers us₀ ur₀ ui₀ uv₀ d₀ x₀ v t)) x) ≡ solvePlaced ByRow i (rowBuffers us₀ ur₀ ui₀ uv₀ d₀ x₀ v t)
+    → length v ≡ length w₀ → length t ≡ length m₀
+    → length us₁ ≡ length us₀ → length ur₁ ≡ length ur₀ → length ui₁ ≡ length ui₀ → length uv₁ ≡ length uv₀ → length d₁ ≡ length d₀ → length w₁ ≡ length v → length m₁ ≡ length t
+    → (us ≡ blank 0 us₁) × (ui ≡ blank 0 ui₁) × (uv ≡ blank nought uv₁) → ur ≡ blank 0 ur₁ → d ≡ blank nought d₁ → Blanked w₁ m₁ w m
+    → ended a (rowBuffers us ur ui uv d x w m) ≡ solve ByRow i (rowBuffers us₀ ur₀ ui₀ uv₀ d₀ x₀ w₀ m₀)
+unfolding solvePlaced solveFactored
+row-ends i us₀ ur₀ ui₀ m₀ t us₁ ur₁ ui₁ m₁ us ur ui m uv₀ d₀ x₀ w₀ v uv₁ d₁ w₁ uv d x w o a q p h kw km k₁ k₂ k₃ k₄ k₅ k₆ k₇ side runs pivots scratch =
+    solve-goes ByRow i (rowBuffers us₀ ur₀ ui₀ uv₀ d₀ x₀ w₀ m₀) w₀ v m₀ t o _ q p
+    (ap (λ (y : Buffers). ended a y)
+    (row-cleared us₀ ur₀ ui₀ m₀ us ur ui m uv₀ d₀ x₀ w₀ uv d x w (blank-of 0 us₀ us₁ us k₁ (side .0)) (blank-of 0 ur₀ ur₁ ur k₂ runs) (blank-of 0 ui₀ ui₁ ui k₃ (side .1)) (blank-of nought uv₀ uv₁ uv k₄ (side .2))
+    (blank-of nought d₀ d₁ d k₅ pivots) (blank-of nought w₀ w₁ w (k₆ ∙ kw) (scratch .0)) (blank-of 0 m₀ m₁ m (k₇ ∙ km) (scratch .1)))
+    ∙ (rw (kw, km) at h))

@@ -1,21 +1,21 @@
-// The solve in the row form. Its stages are in stages/specs/Stages: what is left of a call after each group of questions.
+// The solve in the row form. Its stages are in stages/specs: Asking for questions 1 to 8, Stages and Ends for what is left of a call after them.
 ghost use mathlib.Core.Path.{_≡_};
-ghost use mathlib.Core.List.{List, [], _++_};
+ghost use mathlib.Core.List.{_++_};
 ghost use Prim.Native.Nat.{_≤_};
 ghost use lib.ListN.{length};
-ghost use lib.Ieee.{Float};
 ghost use Rattle.base.specs.All.{all};
 ghost use Rattle.base.specs.declared.Form.{Form};
 ghost use Rattle.matrix.specs.Limits.{maxRows};
 ghost use Rattle.matrix.specs.Input.{inputOf};
 ghost use Rattle.outcome.specs.Buffers.{rowBuffers, sizes, cleared, ended, bufferTests};
 ghost use Rattle.outcome.specs.Solve.{Solves};
-ghost use Rattle.factor.specs.Factoring.{lists, written};
-ghost use Rattle.stages.specs.Stages.{solveAsked, solvePlaced, solveFactored};
-ghost use Rattle.stages.specs.Shaped.{patternSizes, numberSizes, SolveShaped, SolveDue, FactorDue};
+ghost use Rattle.stages.specs.Stages.{solvePlaced};
+ghost use Rattle.stages.specs.Shaped.{patternSizes, numberSizes, SolveDue};
+ghost use Rattle.stages.specs.Asking.{SolveAsking};
 ghost use Rattle.row_form.specs.Sizes.{rowSizes};
 use base::Answer;
-use base::Counts;
+use base::Asked;
+use base::Refusal;
 
 // Question 2.
 fn solve_row_fits(
@@ -46,26 +46,8 @@ fn solve_row_fits(
     (pattern & numbers) & (side & (vectors & scratch))
 }
 
-// All that is written but x.
-fn clear_all(
-    upper_starts: &mut [u32],
-    upper_runs: &mut [u32],
-    upper_index: &mut [u16],
-    upper_values: &mut [f64],
-    d: &mut [f64],
-    work: &mut [f64],
-    marks: &mut [u32],
-)
-    ensures { λ _. ⌜ ((x : List Float) → rowBuffers (now («upper_starts» .exit)) (now («upper_runs» .exit)) (now («upper_index» .exit)) (now («upper_values» .exit)) (now (d .exit)) x (now (work .exit)) (now (marks .exit)) ≡ cleared (sizes (rowBuffers (now («upper_starts» .entry)) (now («upper_runs» .entry)) (now («upper_index» .entry)) (now («upper_values» .entry)) (now (d .entry)) x (now (work .entry)) (now (marks .entry)))) x) ⌝ }
-{
-    stages::clear_side(upper_starts, upper_index, upper_values);
-    base::clear_u32(upper_runs);
-    base::clear_f64(d);
-    stages::clear_scratch(work, marks);
-}
-
-// 12 and 13, and x. The factors are left behind.
-fn row_arithmetic(
+// Questions 1 to 8, from the lengths of what the call is lent.
+fn ask_solve_row(
     n: usize,
     starts: &[u32],
     columns: &[u16],
@@ -73,42 +55,40 @@ fn row_arithmetic(
     r: &[u16],
     c: &[u16],
     b: &[f64],
-    upper_starts: &[u32],
-    upper_runs: &[u32],
-    upper_index: &[u16],
-    upper_values: &mut [f64],
-    d: &mut [f64],
-    x: &mut [f64],
+    upper_starts: usize,
+    upper_runs: usize,
+    upper_index: usize,
+    upper_values: usize,
+    d: usize,
+    x: usize,
     work: &mut [f64],
     marks: &mut [u32],
-    counts: Counts,
-) -> Answer
-    requires { ⌜ FactorDue Form.ByRow (inputOf n (now starts) (now columns) (now values) (now r) (now c) (now b)) (lists [] [] (now «upper_starts») (now «upper_runs») (now «upper_index»)) (written [] (now «upper_values») (now d) (now work) (now marks)) (length (now x)) counts ⌝ }
-    ensures { λ a. ⌜ ended a (cleared (sizes (rowBuffers (now («upper_starts» .entry)) (now («upper_runs» .entry)) (now («upper_index» .entry)) (now («upper_values» .entry)) (now (d .entry)) (now (x .entry)) (now (work .entry)) (now (marks .entry)))) (now (x .exit)))
-        ≡ solveFactored Form.ByRow (inputOf n (now (starts .entry)) (now (columns .entry)) (now (values .entry)) (now (r .entry)) (now (c .entry)) (now (b .entry))) (rowBuffers (now («upper_starts» .entry)) (now («upper_runs» .entry)) (now («upper_index» .entry)) (now («upper_values» .entry)) (now (d .entry)) (now (x .entry)) (now (work .entry)) (now (marks .entry))) ⌝ }
+) -> Asked
+    ensures { λ a. ⌜ SolveAsking Form.ByRow (inputOf n (now (starts .entry)) (now (columns .entry)) (now (values .entry)) (now (r .entry)) (now (c .entry)) (now (b .entry))) (rowSizes «upper_starts» «upper_runs» «upper_index» «upper_values» d x (length (now (work .entry))) (length (now (marks .entry)))) (now (work .entry)) (now (marks .entry)) (now (work .exit)) (now (marks .exit)) a ⌝ }
 {
-    let a = factor::factor_row(
-        n,
-        starts,
-        columns,
-        values,
-        r,
-        c,
-        b,
-        upper_starts,
-        upper_runs,
-        upper_index,
-        upper_values,
-        d,
-        work,
-        marks,
-    );
-    let fault = stages::fault_of(a);
-    if stages::stops(fault) {
-        return stages::ended_by(fault, counts);
+    if shape::rows_within(n) {
+        if solve_row_fits(
+            n,
+            starts.len(),
+            columns.len(),
+            values.len(),
+            r.len(),
+            c.len(),
+            b.len(),
+            upper_starts,
+            upper_runs,
+            upper_index,
+            upper_values,
+            d,
+            x,
+            work.len(),
+            marks.len(),
+        ) {
+            return stages::ask_solve(n, starts, columns, values, r, c, b, work, marks);
+        }
+        return Asked::Stop(Refusal::Lengths);
     }
-    stages::write_x(n, c, work, x);
-    stages::ended_by(fault, counts)
+    Asked::Stop(Refusal::Rows)
 }
 
 // 9 to 13, and x. Structure and factors are left behind.
@@ -148,8 +128,7 @@ fn row_work(
     if stages::refuses(a) {
         return a;
     }
-    let counts = a.counts();
-    row_arithmetic(
+    let factored = factor::factor_row(
         n,
         starts,
         columns,
@@ -162,108 +141,15 @@ fn row_work(
         upper_index,
         upper_values,
         d,
-        x,
-        work,
-        marks,
-        counts,
-    )
-}
-
-// After questions 3 to 8.
-fn solve_row_placed(
-    n: usize,
-    starts: &[u32],
-    columns: &[u16],
-    values: &[f64],
-    r: &[u16],
-    c: &[u16],
-    b: &[f64],
-    upper_starts: &mut [u32],
-    upper_runs: &mut [u32],
-    upper_index: &mut [u16],
-    upper_values: &mut [f64],
-    d: &mut [f64],
-    x: &mut [f64],
-    work: &mut [f64],
-    marks: &mut [u32],
-) -> Answer
-    requires { ⌜ SolveDue Form.ByRow (inputOf n (now starts) (now columns) (now values) (now r) (now c) (now b)) (sizes (rowBuffers (now «upper_starts») (now «upper_runs») (now «upper_index») (now «upper_values») (now d) (now x) (now work) (now marks))) ⌝ }
-    ensures { λ a. ⌜ ended a (rowBuffers (now («upper_starts» .exit)) (now («upper_runs» .exit)) (now («upper_index» .exit)) (now («upper_values» .exit)) (now (d .exit)) (now (x .exit)) (now (work .exit)) (now (marks .exit)))
-        ≡ solvePlaced Form.ByRow (inputOf n (now (starts .entry)) (now (columns .entry)) (now (values .entry)) (now (r .entry)) (now (c .entry)) (now (b .entry))) (rowBuffers (now («upper_starts» .entry)) (now («upper_runs» .entry)) (now («upper_index» .entry)) (now («upper_values» .entry)) (now (d .entry)) (now (x .entry)) (now (work .entry)) (now (marks .entry))) ⌝ }
-{
-    let a = row_work(
-        n,
-        starts,
-        columns,
-        values,
-        r,
-        c,
-        b,
-        upper_starts,
-        upper_runs,
-        upper_index,
-        upper_values,
-        d,
-        x,
         work,
         marks,
     );
-    clear_all(
-        upper_starts,
-        upper_runs,
-        upper_index,
-        upper_values,
-        d,
-        work,
-        marks,
-    );
-    a
-}
-
-// After questions 1 and 2.
-fn solve_row_asked(
-    n: usize,
-    starts: &[u32],
-    columns: &[u16],
-    values: &[f64],
-    r: &[u16],
-    c: &[u16],
-    b: &[f64],
-    upper_starts: &mut [u32],
-    upper_runs: &mut [u32],
-    upper_index: &mut [u16],
-    upper_values: &mut [f64],
-    d: &mut [f64],
-    x: &mut [f64],
-    work: &mut [f64],
-    marks: &mut [u32],
-) -> Answer
-    requires { ⌜ SolveShaped Form.ByRow (inputOf n (now starts) (now columns) (now values) (now r) (now c) (now b)) (sizes (rowBuffers (now «upper_starts») (now «upper_runs») (now «upper_index») (now «upper_values») (now d) (now x) (now work) (now marks))) ⌝ }
-    ensures { λ a. ⌜ ended a (rowBuffers (now («upper_starts» .exit)) (now («upper_runs» .exit)) (now («upper_index» .exit)) (now («upper_values» .exit)) (now (d .exit)) (now (x .exit)) (now (work .exit)) (now (marks .exit)))
-        ≡ solveAsked Form.ByRow (inputOf n (now (starts .entry)) (now (columns .entry)) (now (values .entry)) (now (r .entry)) (now (c .entry)) (now (b .entry))) (rowBuffers (now («upper_starts» .entry)) (now («upper_runs» .entry)) (now («upper_index» .entry)) (now («upper_values» .entry)) (now (d .entry)) (now (x .entry)) (now (work .entry)) (now (marks .entry))) ⌝ }
-{
-    let a = questions::ask_solve(n, starts, columns, values, r, c, b, marks);
-    if stages::stops(a) {
-        stages::clear_scratch(work, marks);
-        return stages::refusal(a);
+    let fault = stages::fault_of(factored);
+    if stages::stops(fault) {
+        return stages::refusal(fault);
     }
-    solve_row_placed(
-        n,
-        starts,
-        columns,
-        values,
-        r,
-        c,
-        b,
-        upper_starts,
-        upper_runs,
-        upper_index,
-        upper_values,
-        d,
-        x,
-        work,
-        marks,
-    )
+    stages::write_x(n, c, work, x);
+    a
 }
 
 // x in the row form: only the upper side is kept, and zeroed at the end.
@@ -288,43 +174,46 @@ pub fn solve_row(
         (rowBuffers (now («upper_starts» .entry)) (now («upper_runs» .entry)) (now («upper_index» .entry)) (now («upper_values» .entry)) (now (d .entry)) (now (x .entry)) (now (work .entry)) (now (marks .entry)))
         a (rowBuffers (now («upper_starts» .exit)) (now («upper_runs» .exit)) (now («upper_index» .exit)) (now («upper_values» .exit)) (now (d .exit)) (now (x .exit)) (now (work .exit)) (now (marks .exit))) ⌝ }
 {
-    if shape::rows_within(n) {
-        if solve_row_fits(
-            n,
-            starts.len(),
-            columns.len(),
-            values.len(),
-            r.len(),
-            c.len(),
-            b.len(),
-            upper_starts.len(),
-            upper_runs.len(),
-            upper_index.len(),
-            upper_values.len(),
-            d.len(),
-            x.len(),
-            work.len(),
-            marks.len(),
-        ) {
-            return solve_row_asked(
-                n,
-                starts,
-                columns,
-                values,
-                r,
-                c,
-                b,
-                upper_starts,
-                upper_runs,
-                upper_index,
-                upper_values,
-                d,
-                x,
-                work,
-                marks,
-            );
-        }
-        return stages::wrong_lengths();
+    let asked = ask_solve_row(
+        n,
+        starts,
+        columns,
+        values,
+        r,
+        c,
+        b,
+        upper_starts.len(),
+        upper_runs.len(),
+        upper_index.len(),
+        upper_values.len(),
+        d.len(),
+        x.len(),
+        work,
+        marks,
+    );
+    if stages::stops(asked) {
+        return stages::refusal(asked);
     }
-    stages::wrong_rows()
+    let a = row_work(
+        n,
+        starts,
+        columns,
+        values,
+        r,
+        c,
+        b,
+        upper_starts,
+        upper_runs,
+        upper_index,
+        upper_values,
+        d,
+        x,
+        work,
+        marks,
+    );
+    stages::clear_side(upper_starts, upper_index, upper_values);
+    base::clear_u32(upper_runs);
+    base::clear_f64(d);
+    stages::clear_scratch(work, marks);
+    a
 }
