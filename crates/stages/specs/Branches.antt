@@ -1,5 +1,5 @@
 -- A call's branches on an answer, by a test: what each branch then has to show.
-use mathlib.Core.Path.{_≡_, refl, sym, ap, _∙_}
+use mathlib.Core.Path.{_≡_, refl, sym, _∙_}
 use mathlib.Core.Bool.{Bool, true, false}
 use Prim.Native.Nat.{ℕ}
 use native.Mathlib.Omega.{arith}
@@ -50,7 +50,3 @@ pass-ends (Stop q) k r t o h e f = let z : _≡_ {A = ℕ} 0 1 = cc in absurd (o
 pub refused-ends : (a : Answer) (t : Buffers) (o : Outcome Answer) → isRefused a ≡ true → ((q : Refusal) → a ≡ Refused q → ended (Refused q) t ≡ o) → ended a t ≡ o
 refused-ends (Done c) t o h f = let z : _≡_ {A = ℕ} 0 1 = cc in absurd (omega arith)
 refused-ends (Refused q) t o h f = f q refl
-
-pub done-ends : (a : Answer) (t : Buffers) (o : Outcome Answer) → isRefused a ≡ false → ((k : Counts) → a ≡ Done k → ended (Done k) t ≡ o) → ended a t ≡ o
-done-ends (Done c) t o h f = f c refl
-done-ends (Refused q) t o h f = let z : _≡_ {A = ℕ} 0 1 = cc in absurd (omega arith)

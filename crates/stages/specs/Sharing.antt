@@ -1,31 +1,22 @@
 -- What the shared form adds: run starts on both sides, and a lower side that its arithmetic reads by the list starts alone.
-use mathlib.Core.Path.{_≡_, sym, _∙_}
-use mathlib.Core.Bool.{Bool, true}
-use mathlib.Core.List.{List, [], _++_}
+use mathlib.Core.Path.{_≡_}
+use mathlib.Core.List.{List, []}
 use Prim.Native.Nat.{ℕ}
 use lib.ListN.{length}
 use lib.Ieee.{Float}
-use Rattle.base.specs.All.{all}
 use Rattle.base.specs.Lists.{blank, nought}
-use Rattle.matrix.specs.Limits.{rowsWithin}
 use Rattle.matrix.specs.Input.{Input, stored}
-use Rattle.outcome.specs.Buffers.{sideBuffers, Buffers, Sizes, sizes, matrixTests, bufferTests, Outcome, ended}
-use Rattle.outcome.specs.Solve.{solve}
+use Rattle.outcome.specs.Buffers.{sideBuffers, Sizes}
 use Rattle.outcome.specs.Placed.{PlacedSide}
 use Rattle.questions.specs.Settled.{Structured}
-use Rattle.symbolic.specs.Pass.{FoundBoth, SharedLent}
+use Rattle.symbolic.specs.Pass.{SharedLent}
 use Rattle.factor.specs.Factoring.{lists, Written, Starts}
 use Rattle.base.specs.declared.Counts.{Counts}
-use Rattle.base.specs.declared.Form.{Form}
 use Rattle.base.specs.declared.Form.the-variants.{Shared}
 use Rattle.base.specs.declared.Side.the-variants.{Lower}
-use Rattle.base.specs.declared.Refusal.{Refusal}
-use Rattle.base.specs.declared.Answer.{Answer}
-use Rattle.base.specs.declared.Answer.the-variants.{Refused}
-use Rattle.stages.specs.Stages.{solvePlaced, solveAsked, solve-asked}
-use Rattle.stages.specs.Shaped.{pattern, StructureShaped, FactorDue}
-use Rattle.stages.specs.ShapedLaws.{slots, matrix-lent}
-use Rattle.stages.specs.StageLaws.{blank-of, SideZero, AllZero, found-pattern, solve-refused}
+use Rattle.stages.specs.Shaped.{StructureShaped, FactorDue}
+use Rattle.stages.specs.ShapedLaws.{matrix-lent}
+use Rattle.stages.specs.StageLaws.{blank-of, SideZero}
 
 abbrev pub sharedSizes : ℕ → ℕ → ℕ → ℕ → ℕ → ℕ → ℕ → ℕ → ℕ → ℕ → ℕ → ℕ → Sizes
 sharedSizes ls lr li lv us ur ui uv d x w m =
@@ -63,13 +54,3 @@ pub side-blank : (s₀ r₀ i₀ s r i s′ r′ i′ : List ℕ) (v₀ v v′ :
     → (s′ ≡ blank 0 s) × (r′ ≡ blank 0 r) × (i′ ≡ blank 0 i) × (v′ ≡ blank nought v) → SideZero (sideBuffers s₀ r₀ i₀ v₀) (sideBuffers s′ r′ i′ v′)
 side-blank s₀ r₀ i₀ s r i s′ r′ i′ v₀ v v′ a b c d e =
     record { starts = blank-of 0 s₀ s s′ a (e .0); runs = blank-of 0 r₀ r r′ b (e .1); index = blank-of 0 i₀ i i′ c (e .2); values = blank-of nought v₀ v v′ d (e .3) }
-
--- ---- laws of Stages and StageLaws in the form that many buffers want: each fact a premise of its own
-
-pub solve-fits : (f : Form) (i : Input) (s : Buffers) (r : Outcome Answer) (b t : Bool) → b ≡ rowsWithin (i .n) → b ≡ true → t ≡ all (matrixTests i ++ bufferTests f (i .n) (sizes s)) → t ≡ true
-    → r ≡ solveAsked f i s → r ≡ solve f i s
-solve-fits f i s r b t e h g k a = solve-asked f i s r (sym e ∙ h) (sym g ∙ k) a
-
-pub solve-unplaced : (f : Form) (i : Input) (s t : Buffers) (ls lr li us ur ui : List ℕ) (lv uv : ℕ) (a : Answer) (q : Refusal) → FoundBoth f (pattern i) (slots (sizes s)) ls lr li lv us ur ui uv a → a ≡ Refused q
-    → AllZero s t → ended (Refused q) t ≡ solvePlaced f i s
-solve-unplaced f i s t ls lr li us ur ui lv uv a q h e z = solve-refused f i s t a (found-pattern f i (slots (sizes s)) ls lr li us ur ui lv uv a h .found .answer) q e z

@@ -8,12 +8,11 @@ use lib.Ieee.{Float}
 use Rattle.base.specs.Lists.{blank, nought}
 use Rattle.base.specs.ZerosLaws.{blank-same}
 use Rattle.matrix.specs.Input.{Input, stored, ownOrder}
-use Rattle.matrix.specs.Questions.{askStructure, askSolve}
-use Rattle.outcome.specs.Buffers.{SideBuffers, Buffers, allBuffers, sideSizes, Sizes, sizes, scratchCleared, sideCleared, cleared, Outcome, ended, stop}
+use Rattle.outcome.specs.Buffers.{SideBuffers, Buffers, allBuffers, sideSizes, Sizes, sizes, sideCleared, cleared, Outcome, ended, stop}
 use Rattle.outcome.specs.Structure.{askPlaces, counts, sidePlaced, structured}
-use Rattle.outcome.specs.Solve.{listed, faultOf, valuesKept, pivotsKept, kept, left, concluded}
+use Rattle.outcome.specs.Solve.{listed, faultOf, valuesKept, pivotsKept, kept, left}
 use Rattle.outcome.proofs.Finish.{stopped, gone-on}
-use Rattle.arithmetic.specs.Arith.{Fault, zeroPivot, overflow, Out, ok, met, Result}
+use Rattle.arithmetic.specs.Arith.{Fault, zeroPivot, overflow, ok, met, Result}
 use Rattle.factor.specs.Factoring.{Factors, FactoredAs}
 use Rattle.factor.specs.declared.Factored.{Factored}
 use Rattle.factor.specs.declared.Factored.the-variants.{Solved, Zero, Overflow}
@@ -28,7 +27,7 @@ use Rattle.base.specs.declared.Asked.{Asked}
 use Rattle.base.specs.declared.Asked.the-variants.{Pass, Stop}
 use Rattle.base.specs.declared.Answer.{Answer}
 use Rattle.base.specs.declared.Answer.the-variants.{Done, Refused}
-use Rattle.stages.specs.Stages.{structurePlaced, structureAsked, solveFactored, solvePlaced, solveAsked}
+use Rattle.stages.specs.Stages.{structurePlaced, solveFactored, solvePlaced}
 use Rattle.stages.specs.Shaped.{pattern, faultAsked}
 use Rattle.stages.specs.ShapedLaws.{slots, places-slots}
 
@@ -65,33 +64,6 @@ side-zero s t h = rw (← h .starts, ← h .runs, ← h .index, ← h .values)
 all-zero : (s t : Buffers) → AllZero s t → t ≡ cleared (sizes s) (s .x)
 unfolding cleared blank
 all-zero s t h = rw (← side-zero (s .lower) (t .lower) (h .lower), ← side-zero (s .upper) (t .upper) (h .upper), ← h .d, ← h .x, ← h .work, ← h .marks)
-
--- ---- after questions 1 and 2: 3 to 8 stop the call, or it goes on
-
-module _ (f : Form) (i : Input) (l u : SideBuffers) (d x w : List Float) (m m₁ : List ℕ) (e : length m₁ ≡ length m) where
-  scratch-zero : (w′ : List Float) (m′ : List ℕ) → w′ ≡ blank nought w → m′ ≡ blank 0 m₁ → allBuffers l u d x w′ m′ ≡ scratchCleared (allBuffers l u d x w m)
-  unfolding scratchCleared blank
-  scratch-zero w′ m′ a b = rw (a, b, e)
-
-  module _ (o : Asked) (q : Refusal) (w′ : List Float) (m′ : List ℕ) where
-    pub structure-stop : o ≡ askStructure i → o ≡ Stop q → w′ ≡ blank nought w → m′ ≡ blank 0 m₁
-        → ended (Refused q) (allBuffers l u d x w′ m′) ≡ structureAsked f i (allBuffers l u d x w m)
-    unfolding structureAsked
-    structure-stop a p b c = stopped Refused (askStructure i) o q _ _ _ a p (scratch-zero w′ m′ b c)
-
-    pub solve-stop : o ≡ askSolve i → o ≡ Stop q → w′ ≡ blank nought w → m′ ≡ blank 0 m₁
-        → ended (Refused q) (allBuffers l u d x w′ m′) ≡ solveAsked f i (allBuffers l u d x w m)
-    unfolding solveAsked
-    solve-stop a p b c = stopped Refused (askSolve i) o q _ _ _ a p (scratch-zero w′ m′ b c)
-
-  module _ (o : Asked) (r : Outcome Answer) where
-    pub structure-on : o ≡ askStructure i → o ≡ Pass → r ≡ structurePlaced f i (allBuffers l u d x w m₁) → r ≡ structureAsked f i (allBuffers l u d x w m)
-    unfolding structureAsked structurePlaced
-    structure-on a p g = gone-on Refused (askStructure i) o _ _ r a p (rw e at g)
-
-    pub solve-on : o ≡ askSolve i → o ≡ Pass → r ≡ solvePlaced f i (allBuffers l u d x w m₁) → r ≡ solveAsked f i (allBuffers l u d x w m)
-    unfolding solveAsked solvePlaced solveFactored
-    solve-on a p g = gone-on Refused (askSolve i) o _ _ r a p (rw e at g)
 
 -- ---- after 3 to 8: what the structure pass answered
 

@@ -10,7 +10,6 @@ ghost use Rattle.matrix.specs.Questions.{askStructure, askSolve};
 ghost use Rattle.questions.specs.Lent.{Lent, SolveLent};
 ghost use Rattle.symbolic.specs.Pass.{foundAnswer};
 ghost use Rattle.base.specs.declared.Answer.the-variants.{Refused};
-ghost use Rattle.base.specs.declared.Refusal.the-variants.{Rows, Lengths};
 ghost use Rattle.stages.specs.Shaped.{SolutionDue, faultAsked};
 ghost use Rattle.stages.specs.Branches.{isStop, isRefused, noCounts};
 ghost use Rattle.stages.specs.Asking.{Blanked};
@@ -156,17 +155,4 @@ pub fn refusal(a: Asked) -> Answer
         products: 0,
     };
     ended_by(a, none)
-}
-
-// 1 and 2.
-pub fn wrong_rows() -> Answer
-    ensures { λ r. ⌜ r ≡ Refused Rows ⌝ }
-{
-    Answer::Refused(Refusal::Rows)
-}
-
-pub fn wrong_lengths() -> Answer
-    ensures { λ r. ⌜ r ≡ Refused Lengths ⌝ }
-{
-    Answer::Refused(Refusal::Lengths)
 }
