@@ -2,7 +2,7 @@
 use mathlib.Core.Path.{_≡_, refl, _∙_, ap}
 use mathlib.Core.List.{List, [], _∷_, _++_, append-nil, append-assoc}
 use mathlib.Core.Bool.{Bool, true, false}
-use Prim.Native.Nat.{ℕ, zero, suc, _+_, _-_, _*_, _<_, _≤_, _/_}
+use Prim.Native.Nat.{ℕ, zero, suc, _+_, _-_, _<_, _≤_}
 use native.Mathlib.Omega.{arith}
 use native.Mathlib.Numerals.{add-one}
 use native.Mathlib.Nat.{add-zero, zero-add}
@@ -11,8 +11,8 @@ use lib.Seq.{sets, length-sets}
 use borrow.Author.Tests.{eq-eqb, le-leb}
 use Rattle.base.specs.Lists.{asc, keep}
 use Rattle.base.specs.AscLaws.{asc-ext}
-use Rattle.marks.specs.Marks.{marked, chosen, members, Blocks}
-use Rattle.marks.specs.MarkLaws.{block-none, blocks-same, marks-sets, members-none, members-empty, sets-below}
+use Rattle.marks.specs.Marks.{marked, chosen, members, Blocks, Bare}
+use Rattle.marks.specs.MarkLaws.{blocks-same, marks-sets, members-none, members-empty, sets-below}
 
 -- ---- the members by parts
 
@@ -104,12 +104,13 @@ module _ (t : ℕ) (s₀ : List ℕ) (from at had : ℕ) (s : List ℕ) (count j
   pub filled-miss : (u : List ℕ) (r : ℕ) → j < at → (getD s j 0 ≡ t → ⊥) → u ≡ s → r ≡ count → Filled t s₀ from at had u r (j + 1)
   filled-miss u r h out eu er = filled-none u r (j + 1) (omega arith) (omega arith) (λ i a b. let q : i ≡ j = omega arith in rw q out) eu er
 
-  -- no member in the rest of a block without the stamp
-  pub filled-skip : (n : ℕ) (u : List ℕ) (r stop : ℕ) → Blocks n t s₀ → n + n + n ≤ at → j ≤ stop → stop ≤ n → stop ≤ (j / 64 + 1) * 64
-      → (getD s (n + n + j / 64) 0 ≡ t → ⊥) → u ≡ s → r ≡ count → Filled t s₀ from at had u r stop
-  filled-skip n u r stop b low l h k out eu er =
+  -- blocks without the stamp have no member
+  pub filled-skip : (n e stop : ℕ) → Blocks n t s₀ → n + n + n ≤ at → e ≤ n → Bare n t s j e stop → Filled t s₀ from at had s count stop
+  filled-skip n e stop b low h k =
       let bs = blocks-same n t s₀ s (marks-sets n s₀ s (at + had) (members t s₀ from j) (omega arith) (f .written)) b in
-      filled-none u r stop l (omega arith) (λ i x y. block-none n t s j stop j bs h out (λ i x y. absurd (omega arith)) i x (omega arith) y) eu er
+      let w = k .above in
+      let v = k .within in
+      filled-none s count stop (omega arith) (omega arith) (λ i x y m. k .none i x y (bs i (omega arith) m)) refl refl
 
 pub filled-end : (t : ℕ) (s₀ : List ℕ) (from at had : ℕ) (s : List ℕ) (count j e : ℕ) → j ≤ e → e ≤ j → Filled t s₀ from at had s count j
     → (count ≡ had + length (members t s₀ from e)) × (s ≡ sets s₀ (at + had) (members t s₀ from e))

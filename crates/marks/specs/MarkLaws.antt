@@ -2,11 +2,11 @@
 use mathlib.Core.Path.{_≡_, refl, sym, _∙_}
 use mathlib.Core.List.{List, [], _∷_, _++_, map}
 use mathlib.Core.Bool.{Bool, true, false, _&&_, _||_, or-assoc, or-false, or-true}
-use Prim.Native.Nat.{ℕ, zero, suc, _+_, _-_, _*_, _<_, _≤_, _/_}
+use Prim.Native.Nat.{ℕ, zero, suc, _+_, _-_, _<_, _≤_, _/_}
 use native.Mathlib.Omega.{arith}
 use native.Mathlib.Numerals.{add-one}
 use native.Mathlib.Nat.{add-zero}
-use native.Mathlib.Decide.{ℕ-discrete, decLt}
+use native.Mathlib.Decide.{ℕ-discrete}
 use lib.ListN.{length, getD, drop, set, length-set, length-map}
 use lib.Seq.{drop-cons, drop-length, getD-set-other, getD-set-same, sets}
 use lib.Dec.{eqb, leb}
@@ -150,15 +150,6 @@ through-below n s cols o b p h =
 
 pub same-mark : (n t : ℕ) (s₀ s u : List ℕ) (j : ℕ) → j < n → u ≡ markAt n t s j → Same n s₀ s → Same n s₀ u
 same-mark n t s₀ s u j h e k q f = rw e (mark-free n t s j q h f ∙ k q f)
-
--- a block without the stamp has no member
-pub block-none : (n t : ℕ) (s : List ℕ) (from e j : ℕ) → Blocks n t s → e ≤ n → (getD s (n + n + j / 64) 0 ≡ t → ⊥)
-    → ((i : ℕ) → from ≤ i → i < j → i < e → getD s i 0 ≡ t → ⊥)
-    → (i : ℕ) → from ≤ i → i < (j / 64 + 1) * 64 → i < e → getD s i 0 ≡ t → ⊥
-block-none n t s from e j bs he out below i a b h m = elim (decLt i j) [
-  | yes l ↦ below i a l h m
-  | no g ↦ (let q : i / 64 ≡ j / 64 = omega arith in out (rw q at (bs i (omega arith) m)))
-]
 
 -- ---- the members as a list
 

@@ -42,6 +42,12 @@ marked t s j = eqb (getD s j 0) t
 abbrev pub Blocks : ℕ → ℕ → List ℕ → Type 0
 Blocks n t s = (j : ℕ) → j < n → getD s j 0 ≡ t → getD s (n + n + j / 64) 0 ≡ t
 
+-- r is above j and at most e, and no block of a place from j up to r is stamped
+pub record Bare (n t : ℕ) (s : List ℕ) (j e r : ℕ) : Type 0 where
+  pub above : j < r
+  pub within : r ≤ e
+  pub none : (i : ℕ) → j ≤ i → i < r → getD s (n + n + i / 64) 0 ≡ t → ⊥
+
 -- every mark is older than t
 abbrev pub Fresh : ℕ → ℕ → List ℕ → Type 0
 Fresh n t s = (j : ℕ) → j < n → getD s j 0 < t

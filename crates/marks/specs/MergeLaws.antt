@@ -9,7 +9,7 @@ use lib.ListN.{length, getD, set, length-set, length-append}
 use lib.Seq.{getD-set-other, set-comm, sets}
 use borrow.Author.Tests.{eq-eqb, ne-eqb, le-leb}
 use Rattle.base.specs.AscLaws.{asc-yes, asc-no}
-use Rattle.marks.specs.Marks.{Below, Above, Room, markAt, stamped, pick, marked, Blocks, chosen, members, visited, unite, Merged, Base, partAt, Parts}
+use Rattle.marks.specs.Marks.{Below, Above, Room, markAt, stamped, pick, marked, Blocks, Bare, chosen, members, visited, unite, Merged, Base, partAt, Parts}
 use Rattle.marks.specs.MarkLaws.{mark-other, room-kept, stamped-length, blocks-after, same-after, not-chosen, members-none, sets-snoc, sets-below, blocks-same}
 use Rattle.marks.specs.BlockLaws.{members-same}
 
@@ -183,12 +183,13 @@ going-skip n t T s₀ s i c (suc d) h none g =
     let e : i + suc d ≡ i + d + 1 = omega arith in
     rw e (going-miss n t T s₀ s (i + d) c (omega arith) (going-skip n t T s₀ s i c d (omega arith) (λ j a b. none j a (omega arith)) g) (none (i + d) (omega arith) (omega arith)))
 
--- a block without the stamp has no member
-pub going-past : (n t : ℕ) (T : ℕ → List ℕ) (s₀ s : List ℕ) (i c r : ℕ) → i ≤ r → r ≤ n → r ≤ (i / 64 + 1) * 64 → (getD s (n + n + i / 64) 0 ≡ t → ⊥)
-    → Going n t T s₀ s i c → Going n t T s₀ s r c
-going-past n t T s₀ s i c r lo hi b out g =
-    let e : i + (r - i) ≡ r = omega arith in
-    rw e at (going-skip n t T s₀ s i c (r - i) (omega arith) (λ j x y m. let q : j / 64 ≡ i / 64 = omega arith in out (rw q at (g .blocks j (omega arith) m))) g)
+-- blocks without the stamp have no member
+pub going-past : (n t : ℕ) (T : ℕ → List ℕ) (s₀ s : List ℕ) (i c e r : ℕ) → e ≤ n → Bare n t s i e r → Going n t T s₀ s i c → Going n t T s₀ s r c
+going-past n t T s₀ s i c e r h b g =
+    let w = b .above in
+    let v = b .within in
+    let q : i + (r - i) ≡ r = omega arith in
+    rw q at (going-skip n t T s₀ s i c (r - i) (omega arith) (λ j x y m. b .none j x (omega arith) (g .blocks j (omega arith) m)) g)
 
 -- ---- the loop over a block
 

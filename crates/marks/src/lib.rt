@@ -4,7 +4,7 @@ ghost use Prim.Native.Nat.{ℕ, _+_, _-_, _*_, _/_, _≤_, _<_};
 ghost use lib.ListN.{length, getD, take, drop, set};
 ghost use lib.Seq.{sets};
 ghost use Rattle.base.specs.Lists.{listAt};
-ghost use Rattle.marks.specs.Marks.{Below, Room, markAt, stamped, Blocks, members, through, visited, Merged, ListIn, Base, partAt, PartIn, Parts, upto, cutOne, newCuts};
+ghost use Rattle.marks.specs.Marks.{Below, Room, markAt, stamped, Blocks, Bare, members, through, visited, Merged, ListIn, Base, partAt, PartIn, Parts, upto, cutOne, newCuts};
 ghost use Rattle.marks.specs.MergeLaws.{GoesOn};
 use base::OwnNumber;
 use base::Place;
@@ -56,6 +56,22 @@ fn block_end(j: usize, end: usize) -> usize
     end
 }
 
+// Where the next stamped block behind that of j begins, or `end` if that is before. The block of j is not stamped.
+fn next_block(s: &[u32], n: usize, stamp: u32, j: usize, end: usize) -> usize
+    requires { ⌜ (j < end) × (end ≤ n) × Room n (now s) ⌝ }
+    requires { ⌜ (getD (now s) (n + n + j / 64) 0 ≡ stamp → ⊥) ⌝ }
+    ensures { λ r. ⌜ Bare n stamp (now (s .entry)) j end r ⌝ }
+{
+    let mut b = j / 64 + 1;
+    while b * 64 < end {
+        if s[n + n + b] == stamp {
+            return b * 64;
+        }
+        b += 1;
+    }
+    end
+}
+
 // Writes the members of one block, from `from` up to `end`, behind the `had` written before, and answers how many are written then.
 fn gather_block(s: &mut [u32], stamp: u32, from: usize, end: usize, at: usize, had: usize) -> usize
     requires { ⌜ (from ≤ end) × (end ≤ at) × (end ≤ 65536) × (at + had + (end - from) ≤ length (now s)) ⌝ }
@@ -83,11 +99,13 @@ pub fn gather(s: &mut [u32], n: usize, stamp: u32, from: usize, end: usize, at: 
     let mut count = 0;
     let mut j = from;
     while j < end {
-        let stop = block_end(j, end);
         if s[n + n + j / 64] == stamp {
+            let stop = block_end(j, end);
             count = gather_block(s, stamp, j, stop, at, count);
+            j = stop;
+        } else {
+            j = next_block(s, n, stamp, j, end);
         }
-        j = stop;
     }
     count
 }
@@ -218,11 +236,13 @@ pub fn merge_lower(
     let mut count = 0;
     let mut i = 0;
     while i < k {
-        let stop = block_end(i, k);
         if s[n + n + i / 64] == stamp {
+            let stop = block_end(i, k);
             count = merge_block(s, n, stamp, i, stop, count, cuts, index, runs);
+            i = stop;
+        } else {
+            i = next_block(s, n, stamp, i, k);
         }
-        i = stop;
     }
     count
 }

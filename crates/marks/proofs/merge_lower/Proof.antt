@@ -21,7 +21,7 @@ loop-holds c = (omega arith, going-start _ _ _ _ (c .before .before .before .pre
 
 merge-block-requires : tie.Need-merge-block-requires Inv-loop μ-loop
 merge-block-requires c κs =
-    let r = c .before .before .before .block-end in
+    let r = c .before .block-end in
     let l = c .before .before .before .before .before in
     let s = Begin l in
     let g = l .loop .inv .1 in
@@ -34,16 +34,25 @@ merge-block-requires c κs =
 loop-again : tie.Need-loop-again Inv-loop μ-loop
 loop-again c =
     let m = c .before .before in
-    let b = m .before .before .before .before in
-    let l = b .before .before in
+    let b = m .before .before in
+    let l = b .before .before .before .before in
     (b .block-end .ensures .1, m .merge-block .ensures (Begin l .args .s .now) (l .loop .inv .1))
+
+next-block-requires : tie.Need-next-block-requires Inv-loop μ-loop
+next-block-requires c κs =
+    let l = c .before .before .before .before in
+    let s = Begin l in
+    let q = s .pre .1 .0 in
+    ((omega arith, q .0, room-kept _ (s .args .s .now) _ (l .loop .inv .1 .long) (q .2)), c .before .if1 .left)
+
+loop-less-2 : tie.Need-loop-less-2 Inv-loop μ-loop
+loop-less-2 c = omega (arith, c .next-block .ensures .above, c .next-block .ensures .within)
 
 loop-again-2 : tie.Need-loop-again-2 Inv-loop μ-loop
 loop-again-2 c =
-    let r = c .before .before .block-end .ensures in
-    let l = c .before .before .before .before in
-    let q = Begin l .pre .1 .0 .0 in
-    (r .1, going-past _ _ _ _ _ (l .loop .i) _ _ (omega (arith, r .0)) (omega (arith, r .1, q)) (r .2) (c .if1 .left) (l .loop .inv .1))
+    let r = c .next-block .ensures in
+    let l = c .before .before .before .before .before in
+    (r .within, going-past _ _ _ _ _ (l .loop .i) _ _ _ (Begin l .pre .1 .0 .0) r (l .loop .inv .1))
 
 returns : tie.Need-returns Inv-loop μ-loop
 returns c = going-end _ _ _ _ _ _ _ _ (omega arith) (c .before .loop .inv .1)
@@ -51,5 +60,5 @@ returns c = going-end _ _ _ _ _ _ _ _ (omega arith) (c .before .loop .inv .1)
 pub merge-lower-spec : {M : Type 1} → statement M
 merge-lower-spec =
     tie.close
-    (tie.spec Inv-loop μ-loop loop-holds (λ c κs. search needs) (λ c. search needs) (λ c. search needs) (λ c. search needs) (λ c. search needs)
-    merge-block-requires (λ c. search needs) loop-again (λ c. search needs) loop-again-2 (λ c. search needs) returns)
+    (tie.spec Inv-loop μ-loop loop-holds (λ c. search needs) (λ c. search needs) (λ c. search needs) (λ c. search needs)
+    (λ c κs. search needs) merge-block-requires (λ c. search needs) loop-again next-block-requires loop-less-2 loop-again-2 (λ c. search needs) returns)
