@@ -132,8 +132,12 @@ fn columns(times: &Result<Times, String>) -> String {
         Err(why) => format!("{why:>32}"),
         Ok(Times { ordinary, library: None }) => format!("{:>12}{:>12}{:>8}", milliseconds(*ordinary), "-", "-"),
         Ok(Times { ordinary, library: Some(library) }) => {
-            let ratio = library.as_secs_f64() / ordinary.as_secs_f64();
-            format!("{:>12}{:>12}{:>8.2}", milliseconds(*ordinary), milliseconds(*library), ratio)
+            // The rest of a solve can be too short to be told from its structure.
+            let ratio = match ordinary.is_zero() || library.is_zero() {
+                true => "-".to_string(),
+                false => format!("{:.2}", library.as_secs_f64() / ordinary.as_secs_f64()),
+            };
+            format!("{:>12}{:>12}{ratio:>8}", milliseconds(*ordinary), milliseconds(*library))
         }
     }
 }
@@ -151,6 +155,8 @@ fn rest(symbolic: &Result<Times, String>, total: &Result<Times, String>) -> Resu
 
 /// Index and value slots that the lists of the form need, None where they are over the limit.
 fn exact_slots(form: Form, input: &Input) -> Option<Slots> {
+    // The row form has no structure call; its upper side is the shared form's.
+    let form = if form == Form::Row { Form::Shared } else { form };
     let mut buffers = Buffers::for_call(Call::Structure(form), input.n, Slots::all(MAX_SLOTS));
     let counts = ordinary::structure(form, input, &mut buffers).ok()?;
     let used = |store: &Store, values: u64| store.runs.last().map_or(values as usize, |&run| run as usize);
@@ -184,14 +190,13 @@ fn table(title: &str, systems: &[System], budget: Duration, slots: impl Fn(Form,
 
 /// The three solves of the library and the ordinary plain one, each the fastest of runs that take turns.
 #[cfg(any(feature = "library", feature = "standin"))]
-fn solves(input: &Input, slots: Slots, budget: Duration) -> Result<([Duration; 3], Duration), String> {
-    let forms = [Form::Plain, Form::Shared, Form::Row];
-    let loan = |form: Form| {
+fn solves(input: &Input, slots: [Slots; 3], budget: Duration) -> Result<([Duration; 3], Duration), String> {
+    let loan = |(form, slots): (Form, Slots)| {
         let call = Call::Solve(form);
         Loan::new(call, input, &Buffers::for_call(call, input.n, slots), 4)
     };
-    let mut loans = forms.map(loan);
-    let mut ordinary = Buffers::for_call(Call::Solve(Form::Plain), input.n, slots);
+    let mut loans = [(Form::Plain, slots[0]), (Form::Shared, slots[1]), (Form::Row, slots[2])].map(loan);
+    let mut ordinary = Buffers::for_call(Call::Solve(Form::Plain), input.n, slots[0]);
     let (mut fastest, mut beside) = ([Duration::MAX; 3], Duration::MAX);
     let begin = Instant::now();
     let mut turns = 0;
@@ -214,15 +219,20 @@ fn solves(input: &Input, slots: Slots, budget: Duration) -> Result<([Duration; 3
 
 /// Shared and row as ratios to the library's own plain solve and to the ordinary plain one; growth from size to size.
 #[cfg(any(feature = "library", feature = "standin"))]
-fn forms_table(systems: &[System], budget: Duration) {
-    println!("The three solves, stores of 1,048,576 slots");
+fn forms_table(title: &str, systems: &[System], budget: Duration, slots: impl Fn(Form, &Input) -> Option<Slots>) {
+    println!("The three solves, {title}");
     let heads = ["plain ms", "shared ms", "row ms", "shared/plain", "row/plain", "shared/ord.", "row/ord.", "growth"];
     let line: String = heads.iter().map(|head| format!("{head:>13}")).collect();
     println!("{:<18}{line}", "system");
     let mut before: Option<f64> = None;
     let mut found: Vec<(String, f64)> = Vec::new();
     for system in systems {
-        match solves(&system.input, Slots::all(MAX_SLOTS), budget) {
+        let fitting = [Form::Plain, Form::Shared, Form::Row].map(|form| slots(form, &system.input));
+        let [Some(plain), Some(shared), Some(row)] = fitting else {
+            println!("{:<18}does not fit", system.name);
+            continue;
+        };
+        match solves(&system.input, [plain, shared, row], budget) {
             Err(why) => println!("{:<18}{why}", system.name),
             Ok((times, ordinary)) => {
                 let [plain, shared, row] = times.map(|time| time.as_secs_f64() * 1e3);
@@ -240,8 +250,9 @@ fn forms_table(systems: &[System], budget: Duration) {
     }
     let time = |name: &str| found.iter().find(|(other, _)| other == name).map(|(_, ms)| *ms);
     if let (Some(tridiagonal), Some(load)) = (time("tridiagonal 4096"), time("test load 1024")) {
-        println!("\ntridiagonal 4096 takes {:.3} of test load 1024", tridiagonal / load);
+        println!("tridiagonal 4096 takes {:.3} of test load 1024", tridiagonal / load);
     }
+    println!();
 }
 
 fn main() {
@@ -257,5 +268,8 @@ fn main() {
     table("Stores of 1,048,576 slots", &systems, budget, |_, _| Some(largest));
     table("Stores just long enough", &systems, budget, exact_slots);
     #[cfg(any(feature = "library", feature = "standin"))]
-    forms_table(&systems, budget);
+    {
+        forms_table("stores of 1,048,576 slots", &systems, budget, |_, _| Some(largest));
+        forms_table("stores just long enough", &systems, budget, exact_slots);
+    }
 }
