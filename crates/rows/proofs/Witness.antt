@@ -2,12 +2,12 @@
 use mathlib.Core.Path.{_≡_, refl}
 use mathlib.Core.List.{List, [], _∷_}
 use mathlib.Core.Bool.{true}
-use Prim.Native.Nat.{ℕ, zero, suc}
+use Prim.Native.Nat.{ℕ, zero, suc, _*_}
 use native.Mathlib.Omega.{arith}
-use lib.ListN.{getD}
+use lib.ListN.{getD, take, drop}
 use Rattle.base.specs.Lists.{listAt, asc}
 use Rattle.fill.specs.Fill.{Pattern, reach, filled, upper, upperRow, lowerRow}
-use Rattle.marks.specs.Marks.{Room, Base, Fresh, ListIn, Parts}
+use Rattle.marks.specs.Marks.{Room, Base, Fresh, chosen, members, ListIn, Parts}
 use Rattle.rows.specs.Rows.{CutAt, uncut, Held, Countable}
 use Rattle.rows.specs.FillLaws.{held-parts}
 use Rattle.rows.specs.ListLaws.{held-countable}
@@ -65,3 +65,11 @@ parts = held-parts full 2 1 index runs starts (held .store) 6 scratch (held .cut
 
 countable : Countable (lowerRow full 1) starts
 countable = held-countable full 2 1 index runs starts (held .store) (omega arith) (lowerRow full 1) refl
+
+-- the same place with member 0 marked and written to the list region: what renewing the cuts walks along
+abbrev listed : List ℕ
+listed = 3 ∷ 0 ∷ 0 ∷ 1 ∷ 3 ∷ 0 ∷ 1 ∷ 0 ∷ 0 ∷ 0 ∷ 0 ∷ 0 ∷ 0 ∷ 0 ∷ 0 ∷ 0 ∷ []
+
+walked : take 1 (drop (5 * 2) listed) ≡ members 3 listed 0 1
+unfolding members chosen asc
+walked = refl
