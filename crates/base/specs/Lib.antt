@@ -1,5 +1,7 @@
 pub mod Lists
 pub mod First
+pub mod Index
+pub mod Scratch
 pub mod All
 pub mod AllLaws
 pub mod Answers

@@ -1,8 +1,45 @@
-// The words in which every call answers, and the clearing of lent buffers.
+// The words in which every call answers, index numbers and lengths, and the clearing of lent buffers.
 ghost use mathlib.Core.Path.{_≡_};
+ghost use Prim.Native.Nat.{_<_};
 ghost use lib.Ieee.Scale.{finite};
 ghost use Rattle.base.specs.Lists.{blank, nought};
+ghost use Rattle.base.specs.Index.{indexBound};
 ghost use Rattle.base.specs.Answers.{numberOf, placeOf, numberOfAnswer, placeOfAnswer, countsOf, numberOfEnd, placeOfEnd};
+
+pub mod scratch;
+
+// ---- index numbers
+
+// A number of the columns, the orders and the index stores. specs/Index has its bound; every cast from or to it stands below.
+pub type Index = u16;
+
+pub fn wide(x: Index) -> usize
+    ensures { λ r. ⌜ (r ≡ x) × (r < indexBound) ⌝ }
+{
+    x as usize
+}
+
+pub fn number(x: Index) -> u32
+    ensures { λ r. ⌜ (r ≡ x) × (r < indexBound) ⌝ }
+{
+    x as u32
+}
+
+pub fn narrow(x: u32) -> Index
+    requires { ⌜ x < indexBound ⌝ }
+    ensures { λ r. ⌜ r ≡ x ⌝ }
+{
+    x as Index
+}
+
+// A 32-bit number as a slot's.
+pub fn slot(x: u32) -> usize
+    ensures { λ r. ⌜ (r ≡ x) × (r < 4294967296) ⌝ }
+{
+    x as usize
+}
+
+// ---- answers
 
 // The first index at which a test holds, or none.
 pub enum Found {
@@ -34,6 +71,24 @@ pub enum Form {
     Plain,
     Shared,
     ByRow,
+}
+
+// The lengths of what a side is lent, 0 for what it is not.
+pub struct SideSizes {
+    pub starts: usize,
+    pub runs: usize,
+    pub index: usize,
+    pub values: usize,
+}
+
+// The lengths of all that a call writes.
+pub struct Sizes {
+    pub lower: SideSizes,
+    pub upper: SideSizes,
+    pub d: usize,
+    pub x: usize,
+    pub work: usize,
+    pub marks: usize,
 }
 
 // Row k's sum, reciprocal pivot and y, which go from step to step of its elimination.
@@ -207,7 +262,7 @@ pub fn is_finite(x: f64) -> bool
     x - x == 0.0
 }
 
-pub fn clear_u16(s: &mut [u16])
+pub fn clear_index(s: &mut [Index])
     ensures { λ _. ⌜ now (s .exit) ≡ blank 0 (now (s .entry)) ⌝ }
 {
     let mut i = 0;

@@ -9,11 +9,12 @@ ghost use Rattle.matrix.specs.Input.{placeAt};
 ghost use Rattle.marks.specs.Marks.{Room, Below, markAt, stamped};
 ghost use Rattle.columns.specs.Columns.{orderOf, Order, RowIn, Given, placed, rowsOf, bare, column, Countable, Counted, Counts, Tally, Started, Emptied, Roomy, Offered, pushAt, held, Filled, Ready, Windowed, Chain, HasChain, Loaded};
 ghost use Rattle.columns.specs.Sides.{SideReady, SideLoaded};
+use base::Index;
 use base::OwnNumber;
 use base::Place;
 use base::Side;
 
-fn wide16(x: u16) -> usize
+fn wide16(x: Index) -> usize
     ensures { λ r. ⌜ (r ≡ x) × (r < 65536) ⌝ }
 {
     x as usize
@@ -30,7 +31,7 @@ fn place_of(s: &[u32], n: usize, c: OwnNumber) -> Place
 }
 
 // The place of entry q of a row.
-fn entry_place(s: &[u32], n: usize, cols: &[u16], q: usize) -> usize
+fn entry_place(s: &[u32], n: usize, cols: &[Index], q: usize) -> usize
     requires { ⌜ Room n (now s) ⌝ }
     requires { ⌜ (q < length (now cols)) × (getD (now cols) q 0 < n) ⌝ }
     ensures { λ j. ⌜ j ≡ getD (placed (orderOf n (now (s .entry))) (now (cols .entry))) q 0 ⌝ }
@@ -41,7 +42,7 @@ fn entry_place(s: &[u32], n: usize, cols: &[u16], q: usize) -> usize
 }
 
 // The own columns of the row at place k.
-fn row_of<'a>(columns: &'a [u16], starts: &[u32], r: &[u16], k: usize) -> &'a [u16]
+fn row_of<'a>(columns: &'a [Index], starts: &[u32], r: &[Index], k: usize) -> &'a [Index]
     requires { ⌜ k < length (now r) ⌝ }
     requires { ⌜ RowIn (now columns) (now starts) (getD (now r) k 0) ⌝ }
     ensures { λ row. ⌜ now row ≡ rowOf (now (starts .entry)) (now (columns .entry)) (getD (now (r .entry)) k 0) ⌝ }
@@ -77,7 +78,7 @@ fn count_one(s: &mut [u32], n: usize, j: usize)
 }
 
 // Counts the entries of a row by column.
-fn count_row(s: &mut [u32], n: usize, cols: &[u16])
+fn count_row(s: &mut [u32], n: usize, cols: &[Index])
     requires { ⌜ Room n (now s) ⌝ }
     requires { ⌜ Order n (now s) ⌝ }
     requires { ⌜ Below n (now cols) ⌝ }
@@ -93,7 +94,7 @@ fn count_row(s: &mut [u32], n: usize, cols: &[u16])
 }
 
 // Counts the entries of each column in heads that are empty.
-fn count_columns(s: &mut [u32], n: usize, columns: &[u16], starts: &[u32], r: &[u16])
+fn count_columns(s: &mut [u32], n: usize, columns: &[Index], starts: &[u32], r: &[Index])
     requires { ⌜ Given n (now columns) (now starts) (now r) (now s) ⌝ }
     requires { ⌜ Counts n 0 (now s) bare ⌝ }
     ensures { λ _. ⌜ Tally n (column (rowsOf (orderOf n (now (s .entry))) (now (columns .entry)) (now (starts .entry)) (now (r .entry))) n) (now (s .entry)) (now (s .exit)) ⌝ }
@@ -107,7 +108,7 @@ fn count_columns(s: &mut [u32], n: usize, columns: &[u16], starts: &[u32], r: &[
 }
 
 // Before the first column: no window is open.
-pub fn start_columns(s: &mut [u32], n: usize, columns: &[u16], starts: &[u32], r: &[u16])
+pub fn start_columns(s: &mut [u32], n: usize, columns: &[Index], starts: &[u32], r: &[Index])
     requires { ⌜ Given n (now columns) (now starts) (now r) (now s) ⌝ }
     ensures { λ _. ⌜ Started n (rowsOf (orderOf n (now (s .entry))) (now (columns .entry)) (now (starts .entry)) (now (r .entry))) (now (s .entry)) (now (s .exit)) ⌝ }
 {
@@ -174,7 +175,7 @@ fn offer_row(
     lo: usize,
     hi: usize,
     i: usize,
-    cols: &[u16],
+    cols: &[Index],
     used: usize,
 ) -> usize
     requires { ⌜ Room n (now s) ⌝ }
@@ -199,9 +200,9 @@ fn fill_window(
     n: usize,
     lo: usize,
     hi: usize,
-    columns: &[u16],
+    columns: &[Index],
     starts: &[u32],
-    r: &[u16],
+    r: &[Index],
 )
     requires { ⌜ Given n (now columns) (now starts) (now r) (now s) ⌝ }
     requires { ⌜ (hi ≤ n) × (held lo hi (column (rowsOf (orderOf n (now s)) (now columns) (now starts) (now r)) n) ≤ n) ⌝ }
@@ -223,9 +224,9 @@ fn window_at(
     n: usize,
     k: usize,
     hi: usize,
-    columns: &[u16],
+    columns: &[Index],
     starts: &[u32],
-    r: &[u16],
+    r: &[Index],
 ) -> usize
     requires { ⌜ Given n (now columns) (now starts) (now r) (now s) ⌝ }
     requires { ⌜ Ready n k hi (rowsOf (orderOf n (now s)) (now columns) (now starts) (now r)) (now s) ⌝ }
@@ -265,9 +266,9 @@ pub fn load_column(
     stamp: u32,
     k: usize,
     hi: usize,
-    columns: &[u16],
+    columns: &[Index],
     starts: &[u32],
-    r: &[u16],
+    r: &[Index],
 ) -> usize
     requires { ⌜ Given n (now columns) (now starts) (now r) (now s) ⌝ }
     requires { ⌜ Ready n k hi (rowsOf (orderOf n (now s)) (now columns) (now starts) (now r)) (now s) ⌝ }
@@ -281,7 +282,7 @@ pub fn load_column(
 }
 
 // Stamps the places of a row's columns.
-fn load_row(s: &mut [u32], n: usize, stamp: u32, cols: &[u16])
+fn load_row(s: &mut [u32], n: usize, stamp: u32, cols: &[Index])
     requires { ⌜ Room n (now s) ⌝ }
     requires { ⌜ Order n (now s) ⌝ }
     requires { ⌜ Below n (now cols) ⌝ }
@@ -303,9 +304,9 @@ pub fn load(
     stamp: u32,
     k: usize,
     hi: usize,
-    columns: &[u16],
+    columns: &[Index],
     starts: &[u32],
-    r: &[u16],
+    r: &[Index],
 ) -> usize
     requires { ⌜ Given n (now columns) (now starts) (now r) (now s) ⌝ }
     requires { ⌜ SideReady side n k hi (rowsOf (orderOf n (now s)) (now columns) (now starts) (now r)) (now s) ⌝ }

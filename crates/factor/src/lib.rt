@@ -2,6 +2,7 @@
 // Scratch of 32-bit slots has marks, the inverse column order from slot n on, block stamps from 2n, cuts from 3n, the cursors of L from 4n
 // and lower row k from 5n.
 use base::Form;
+use base::Index;
 use base::OwnNumber;
 use base::Place;
 use base::RowSums;
@@ -41,14 +42,14 @@ fn met_fault(a: Factored) -> bool
     }
 }
 
-fn wide16(x: u16) -> u32
+fn wide16(x: Index) -> u32
     ensures { λ r. ⌜ r ≡ x ⌝ }
 {
     x as u32
 }
 
 // A list of places, from slot `at` on.
-fn copy_list(list: &[u16], marks: &mut [u32], at: usize)
+fn copy_list(list: &[Index], marks: &mut [u32], at: usize)
     requires { ⌜ at + length (now list) ≤ length (now marks) ⌝ }
     ensures { λ _. ⌜ now (marks .exit) ≡ sets (now (marks .entry)) at (now (list .entry)) ⌝ }
 {
@@ -60,7 +61,7 @@ fn copy_list(list: &[u16], marks: &mut [u32], at: usize)
 }
 
 // The columns and the values of the row at place k, b(r(k)), the inverse order and the lower row, as parts of what holds them.
-fn own_columns<'a>(columns: &'a [u16], starts: &[u32], r: &[u16], k: Place) -> &'a [u16]
+fn own_columns<'a>(columns: &'a [Index], starts: &[u32], r: &[Index], k: Place) -> &'a [Index]
     requires { ⌜ OwnRow (now starts) (now r) (length (now columns)) (k .0) ⌝ }
     ensures { λ p. ⌜ now p ≡ rowOf (now (starts .entry)) (now (columns .entry)) (getD (now (r .entry)) (k .0) 0) ⌝ }
 {
@@ -69,7 +70,7 @@ fn own_columns<'a>(columns: &'a [u16], starts: &[u32], r: &[u16], k: Place) -> &
     marks::list_part(columns, starts, starts, i)
 }
 
-fn own_values<'a>(values: &'a [f64], starts: &[u32], r: &[u16], k: Place) -> &'a [f64]
+fn own_values<'a>(values: &'a [f64], starts: &[u32], r: &[Index], k: Place) -> &'a [f64]
     requires { ⌜ OwnRow (now starts) (now r) (length (now values)) (k .0) ⌝ }
     ensures { λ p. ⌜ now p ≡ rowOf (now (starts .entry)) (now (values .entry)) (getD (now (r .entry)) (k .0) 0) ⌝ }
 {
@@ -80,7 +81,7 @@ fn own_values<'a>(values: &'a [f64], starts: &[u32], r: &[u16], k: Place) -> &'a
     &values[from..to]
 }
 
-fn own_right(b: &[f64], r: &[u16], k: Place) -> f64
+fn own_right(b: &[f64], r: &[Index], k: Place) -> f64
     requires { ⌜ (k .0 < length (now r)) × (getD (now r) (k .0) 0 < length (now b)) ⌝ }
     ensures { λ s. ⌜ s ≡ getD (now (b .entry)) (getD (now (r .entry)) (k .0) 0) nan ⌝ }
 {
@@ -111,14 +112,14 @@ fn reduce_at(
     n: usize,
     k: Place,
     starts: &[u32],
-    columns: &[u16],
+    columns: &[Index],
     values: &[f64],
-    r: &[u16],
-    c: &[u16],
+    r: &[Index],
+    c: &[Index],
     b: &[f64],
     ustarts: &[u32],
     uruns: &[u32],
-    uindex: &[u16],
+    uindex: &[Index],
     uvalues: &mut [f64],
     work: &mut [f64],
     marks: &[u32],
@@ -158,7 +159,7 @@ fn reduce_at(
 fn close_at(
     n: usize,
     k: Place,
-    uindex: &[u16],
+    uindex: &[Index],
     uruns: &[u32],
     ustarts: &[u32],
     d: &mut [f64],
@@ -181,7 +182,7 @@ fn solve_back(
     n: usize,
     ustarts: &[u32],
     uruns: &[u32],
-    uindex: &[u16],
+    uindex: &[Index],
     uvalues: &[f64],
     work: &mut [f64],
 ) -> Factored
@@ -199,7 +200,7 @@ fn solve_back(
 // ---- lower row k in the marks, by form
 
 // Lower row k from its store into the marks, and its length.
-fn lower_plain(n: usize, k: Place, lstarts: &[u32], lindex: &[u16], marks: &mut [u32]) -> usize
+fn lower_plain(n: usize, k: Place, lstarts: &[u32], lindex: &[Index], marks: &mut [u32]) -> usize
     requires { ⌜ ListIn (now lindex) (now lstarts) (now lstarts) (k .0) × LowerAt n (length (rowOf (now lstarts) (now lindex) (k .0))) (length (now marks)) ⌝ }
     ensures { λ below. ⌜ (below ≡ length (rowOf (now (lstarts .entry)) (now (lindex .entry)) (k .0)))
         × (now (marks .exit) ≡ sets (now (marks .entry)) (5 * n) (rowOf (now (lstarts .entry)) (now (lindex .entry)) (k .0))) ⌝ }
@@ -215,12 +216,12 @@ fn find_lower(
     n: usize,
     k: Place,
     starts: &[u32],
-    columns: &[u16],
-    r: &[u16],
-    c: &[u16],
+    columns: &[Index],
+    r: &[Index],
+    c: &[Index],
     ustarts: &[u32],
     uruns: &[u32],
-    uindex: &[u16],
+    uindex: &[Index],
     marks: &mut [u32],
 ) -> usize
     requires { ⌜ Findable (patternOf n (now starts) (now columns) (now r) (now c)) n (k .0) (now starts) (now columns) (now r) (now uindex) (now uruns) (now ustarts) (now marks) ⌝ }
@@ -251,14 +252,14 @@ fn lower_at(
     n: usize,
     k: Place,
     starts: &[u32],
-    columns: &[u16],
-    r: &[u16],
-    c: &[u16],
+    columns: &[Index],
+    r: &[Index],
+    c: &[Index],
     lstarts: &[u32],
-    lindex: &[u16],
+    lindex: &[Index],
     ustarts: &[u32],
     uruns: &[u32],
-    uindex: &[u16],
+    uindex: &[Index],
     marks: &mut [u32],
 ) -> usize
     requires { ⌜ LowerAsked (readsLower form) n (k .0) (now starts) (now columns) (now r) (now c) (lists (now lstarts) (now lindex) (now ustarts) (now uruns) (now uindex)) (now marks) ⌝ }
@@ -353,16 +354,16 @@ fn reduce_in(
     n: usize,
     k: Place,
     starts: &[u32],
-    columns: &[u16],
+    columns: &[Index],
     values: &[f64],
-    r: &[u16],
-    c: &[u16],
+    r: &[Index],
+    c: &[Index],
     b: &[f64],
     lstarts: &[u32],
-    lindex: &[u16],
+    lindex: &[Index],
     ustarts: &[u32],
     uruns: &[u32],
-    uindex: &[u16],
+    uindex: &[Index],
     uvalues: &mut [f64],
     work: &mut [f64],
     marks: &mut [u32],
@@ -417,17 +418,17 @@ fn do_row(
     n: usize,
     k: Place,
     starts: &[u32],
-    columns: &[u16],
+    columns: &[Index],
     values: &[f64],
-    r: &[u16],
-    c: &[u16],
+    r: &[Index],
+    c: &[Index],
     b: &[f64],
     lstarts: &[u32],
-    lindex: &[u16],
+    lindex: &[Index],
     lvalues: &mut [f64],
     ustarts: &[u32],
     uruns: &[u32],
-    uindex: &[u16],
+    uindex: &[Index],
     uvalues: &mut [f64],
     d: &mut [f64],
     work: &mut [f64],
@@ -474,17 +475,17 @@ fn do_rows(
     form: Form,
     n: usize,
     starts: &[u32],
-    columns: &[u16],
+    columns: &[Index],
     values: &[f64],
-    r: &[u16],
-    c: &[u16],
+    r: &[Index],
+    c: &[Index],
     b: &[f64],
     lstarts: &[u32],
-    lindex: &[u16],
+    lindex: &[Index],
     lvalues: &mut [f64],
     ustarts: &[u32],
     uruns: &[u32],
-    uindex: &[u16],
+    uindex: &[Index],
     uvalues: &mut [f64],
     d: &mut [f64],
     work: &mut [f64],
@@ -528,7 +529,7 @@ fn do_rows(
 // Zeros where rows will stand and in scratch, and the inverse order.
 fn begin(
     n: usize,
-    c: &[u16],
+    c: &[Index],
     lvalues: &mut [f64],
     uvalues: &mut [f64],
     work: &mut [f64],
@@ -550,17 +551,17 @@ fn factor_in(
     form: Form,
     n: usize,
     starts: &[u32],
-    columns: &[u16],
+    columns: &[Index],
     values: &[f64],
-    r: &[u16],
-    c: &[u16],
+    r: &[Index],
+    c: &[Index],
     b: &[f64],
     lstarts: &[u32],
-    lindex: &[u16],
+    lindex: &[Index],
     lvalues: &mut [f64],
     ustarts: &[u32],
     uruns: &[u32],
-    uindex: &[u16],
+    uindex: &[Index],
     uvalues: &mut [f64],
     d: &mut [f64],
     work: &mut [f64],
@@ -602,16 +603,16 @@ fn factor_in(
 pub fn factor_plain(
     n: usize,
     starts: &[u32],
-    columns: &[u16],
+    columns: &[Index],
     values: &[f64],
-    r: &[u16],
-    c: &[u16],
+    r: &[Index],
+    c: &[Index],
     b: &[f64],
     lstarts: &[u32],
-    lindex: &[u16],
+    lindex: &[Index],
     lvalues: &mut [f64],
     ustarts: &[u32],
-    uindex: &[u16],
+    uindex: &[Index],
     uvalues: &mut [f64],
     d: &mut [f64],
     work: &mut [f64],
@@ -647,16 +648,16 @@ pub fn factor_plain(
 pub fn factor_shared(
     n: usize,
     starts: &[u32],
-    columns: &[u16],
+    columns: &[Index],
     values: &[f64],
-    r: &[u16],
-    c: &[u16],
+    r: &[Index],
+    c: &[Index],
     b: &[f64],
     lstarts: &[u32],
     lvalues: &mut [f64],
     ustarts: &[u32],
     uruns: &[u32],
-    uindex: &[u16],
+    uindex: &[Index],
     uvalues: &mut [f64],
     d: &mut [f64],
     work: &mut [f64],
@@ -692,14 +693,14 @@ pub fn factor_shared(
 pub fn factor_row(
     n: usize,
     starts: &[u32],
-    columns: &[u16],
+    columns: &[Index],
     values: &[f64],
-    r: &[u16],
-    c: &[u16],
+    r: &[Index],
+    c: &[Index],
     b: &[f64],
     ustarts: &[u32],
     uruns: &[u32],
-    uindex: &[u16],
+    uindex: &[Index],
     uvalues: &mut [f64],
     d: &mut [f64],
     work: &mut [f64],

@@ -7,6 +7,7 @@ ghost use lib.Ieee.{binary64, ofBits, toBits};
 ghost use Rattle.base.specs.Lists.{padded};
 ghost use Rattle.fields.specs.Numbers.{le, bytes, fields};
 ghost use Rattle.fields.specs.Payload.{room, payload, payloads, fieldsAt, floatsAt, bitsOf, zeroFrom};
+use base::Index;
 
 // "A reader over the lent file holds its bytes and the next payload byte."
 pub struct Reader<'a> {
@@ -85,14 +86,14 @@ pub fn bits_of(x: f64) -> u64
 }
 
 // Fills `out` with the numbers of 2 bytes from `at` on, and answers where they end. So do the next two, with 4 and 8.
-pub fn read_u16s(file: &[u8], at: usize, out: &mut [u16]) -> usize
+pub fn read_indices(file: &[u8], at: usize, out: &mut [Index]) -> usize
     requires { ⌜ at + 2 * length (now out) ≤ room (now file) ⌝ }
     ensures { λ r. ⌜ (r ≡ at + 2 * length (now (out .entry))) × (now (out .exit) ≡ fieldsAt 2 (now (file .entry)) at (length (now (out .entry)))) ⌝ }
 {
     let n = out.len();
     let mut i = 0;
     while i < n {
-        out[i] = number_at(file, at + 2 * i, 2) as u16;
+        out[i] = number_at(file, at + 2 * i, 2) as Index;
         i += 1;
     }
     at + 2 * n
@@ -157,7 +158,7 @@ pub fn put_number(file: &mut [u8], at: usize, width: usize, v: u64) -> usize
 }
 
 // Lays numbers of 2 bytes down from `at` on, and answers where they end. So do the next two, with 4 and 8.
-pub fn write_u16s(file: &mut [u8], at: usize, src: &[u16]) -> usize
+pub fn write_indices(file: &mut [u8], at: usize, src: &[Index]) -> usize
     requires { ⌜ at + 2 * length (now src) ≤ room (now file) ⌝ }
     ensures { λ r. ⌜ (r ≡ at + 2 * length (now (src .entry))) × (payloads (now (file .exit)) r ≡ payloads (now (file .entry)) at ++ fields 2 (now (src .entry))) ⌝ }
 {

@@ -3,6 +3,7 @@
 ghost use mathlib.Core.Path.{_≡_};
 ghost use Prim.Native.Nat.{_<_};
 use base::Ended;
+use base::Index;
 use libc::STDOUT_FILENO;
 use matrix::Shaped;
 
@@ -40,9 +41,9 @@ fn odd_values() -> [f64; 40] {
     values
 }
 
-fn columns() -> [u16; 40] {
+fn columns() -> [Index; 40] {
     let mut out = [0u16; 40];
-    let mut i: u16 = 0;
+    let mut i: Index = 0;
     while i < 40 {
         out[i as usize] = (i * 5 + 3) % 8;
         i += 1;
@@ -92,8 +93,8 @@ fn main() {
     let starts: [u32; 9] = [0, 5, 10, 15, 20, 25, 30, 35, 40];
     let columns = columns();
     let values = odd_values();
-    let r: [u16; 8] = [3, 1, 7, 0, 5, 2, 6, 4];
-    let c: [u16; 8] = [6, 0, 2, 5, 1, 7, 4, 3];
+    let r: [Index; 8] = [3, 1, 7, 0, 5, 2, 6, 4];
+    let c: [Index; 8] = [6, 0, 2, 5, 1, 7, 4, 3];
     let b: [f64; 8] = [1.0, -2.5, 1e300, 0.0, -0.0, 3e-310, 7.0, 0.3];
     let mut file = [7u8; 1024];
     print_end(matrix_file::write_matrix(8, &starts, &columns, &values, &r, &c, &b, &mut file));

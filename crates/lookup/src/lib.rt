@@ -3,6 +3,7 @@ ghost use mathlib.Core.Path.{_≡_};
 ghost use Prim.Native.Nat.{_<_, _≤_};
 ghost use lib.ListN.{length};
 ghost use Rattle.lookup.specs.Lookup.{SideLent, listsOf, sized, bothFit, runSpan, spanOf, spanIn, Inside, within, lookup};
+use base::Index;
 use base::Place;
 use base::Side;
 use matrix::Matrix;
@@ -90,10 +91,10 @@ fn span_of(
     extra: usize,
     lower_starts: &[u32],
     lower_runs: &[u32],
-    lower_index: &[u16],
+    lower_index: &[Index],
     upper_starts: &[u32],
     upper_runs: &[u32],
-    upper_index: &[u16],
+    upper_index: &[Index],
 ) -> Span
     requires { ⌜ extra ≤ 1 ⌝ }
     ensures { λ s. ⌜ s ≡ spanIn side k n extra (listsOf (now («lower_starts» .entry)) (now («lower_runs» .entry)) (now («lower_index» .entry))) (listsOf (now («upper_starts» .entry)) (now («upper_runs» .entry)) (now («upper_index» .entry))) ⌝ }
@@ -117,7 +118,7 @@ fn span_of(
 }
 
 // The slots of a span that stands within its store.
-fn part<'a>(index: &'a [u16], s: Span) -> &'a [u16]
+fn part<'a>(index: &'a [Index], s: Span) -> &'a [Index]
     requires { ⌜ Inside s (length (now index)) ⌝ }
     ensures { λ l. ⌜ now l ≡ within (now (index .entry)) s ⌝ }
 {
@@ -133,10 +134,10 @@ pub fn span_shared(
     n: usize,
     lower_starts: &[u32],
     lower_runs: &[u32],
-    lower_index: &[u16],
+    lower_index: &[Index],
     upper_starts: &[u32],
     upper_runs: &[u32],
-    upper_index: &[u16],
+    upper_index: &[Index],
 ) -> Span
     ensures { λ s. ⌜ s ≡ spanIn side k n 0 (listsOf (now («lower_starts» .entry)) (now («lower_runs» .entry)) (now («lower_index» .entry))) (listsOf (now («upper_starts» .entry)) (now («upper_runs» .entry)) (now («upper_index» .entry))) ⌝ }
 {
@@ -160,9 +161,9 @@ pub fn span_plain(
     k: Place,
     n: usize,
     lower_starts: &[u32],
-    lower_index: &[u16],
+    lower_index: &[Index],
     upper_starts: &[u32],
-    upper_index: &[u16],
+    upper_index: &[Index],
 ) -> Span
     ensures { λ s. ⌜ s ≡ spanIn side k n 1 (listsOf (now («lower_starts» .entry)) (now («lower_starts» .entry)) (now («lower_index» .entry))) (listsOf (now («upper_starts» .entry)) (now («upper_starts» .entry)) (now («upper_index» .entry))) ⌝ }
 {
@@ -187,11 +188,11 @@ pub fn list_shared<'a>(
     n: usize,
     lower_starts: &[u32],
     lower_runs: &[u32],
-    lower_index: &'a [u16],
+    lower_index: &'a [Index],
     upper_starts: &[u32],
     upper_runs: &[u32],
-    upper_index: &'a [u16],
-) -> &'a [u16]
+    upper_index: &'a [Index],
+) -> &'a [Index]
     ensures { λ l. ⌜ now l ≡ lookup side k n 0 (listsOf (now («lower_starts» .entry)) (now («lower_runs» .entry)) (now («lower_index» .entry))) (listsOf (now («upper_starts» .entry)) (now («upper_runs» .entry)) (now («upper_index» .entry))) ⌝ }
 {
     let s = span_shared(
@@ -217,10 +218,10 @@ pub fn list_plain<'a>(
     k: Place,
     n: usize,
     lower_starts: &[u32],
-    lower_index: &'a [u16],
+    lower_index: &'a [Index],
     upper_starts: &[u32],
-    upper_index: &'a [u16],
-) -> &'a [u16]
+    upper_index: &'a [Index],
+) -> &'a [Index]
     ensures { λ l. ⌜ now l ≡ lookup side k n 1 (listsOf (now («lower_starts» .entry)) (now («lower_starts» .entry)) (now («lower_index» .entry))) (listsOf (now («upper_starts» .entry)) (now («upper_starts» .entry)) (now («upper_index» .entry))) ⌝ }
 {
     let s = span_plain(

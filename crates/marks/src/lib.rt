@@ -6,10 +6,11 @@ ghost use lib.Seq.{sets};
 ghost use Rattle.base.specs.Lists.{listAt};
 ghost use Rattle.marks.specs.Marks.{Below, Room, markAt, stamped, Blocks, Bare, members, through, visited, Merged, ListIn, Base, partAt, PartIn, Parts, upto, cutOne, newCuts};
 ghost use Rattle.marks.specs.MergeLaws.{GoesOn};
+use base::Index;
 use base::OwnNumber;
 use base::Place;
 
-fn wide16(x: u16) -> usize
+fn wide16(x: Index) -> usize
     ensures { λ r. ⌜ r ≡ x ⌝ }
 {
     x as usize
@@ -31,7 +32,7 @@ pub fn mark(s: &mut [u32], n: usize, stamp: u32, j: usize)
 }
 
 // Unites the set with a list of places.
-pub fn merge_list(s: &mut [u32], n: usize, stamp: u32, list: &[u16])
+pub fn merge_list(s: &mut [u32], n: usize, stamp: u32, list: &[Index])
     requires { ⌜ Below n (now list) ⌝ }
     requires { ⌜ Room n (now s) ⌝ }
     ensures { λ r. ⌜ now (s .exit) ≡ stamped n stamp (now (s .entry)) (now (list .entry)) ⌝ }
@@ -110,7 +111,7 @@ pub fn gather(s: &mut [u32], n: usize, stamp: u32, from: usize, end: usize, at: 
     count
 }
 
-pub fn own_number(c: u16) -> OwnNumber
+pub fn own_number(c: Index) -> OwnNumber
     ensures { λ r. ⌜ r .0 ≡ c ⌝ }
 {
     OwnNumber(c as u32)
@@ -126,7 +127,7 @@ pub fn place_of(s: &[u32], n: usize, c: OwnNumber) -> Place
 }
 
 // Adds the columns of a row of M at their places.
-pub fn load_row(s: &mut [u32], n: usize, stamp: u32, columns: &[u16])
+pub fn load_row(s: &mut [u32], n: usize, stamp: u32, columns: &[Index])
     requires { ⌜ Below n (now columns) ⌝ }
     requires { ⌜ Room n (now s) ⌝ }
     requires { ⌜ ((j : ℕ) → j < n → getD (now s) (n + j) 0 < n) ⌝ }
@@ -142,7 +143,7 @@ pub fn load_row(s: &mut [u32], n: usize, stamp: u32, columns: &[u16])
 }
 
 // List i of a store, as a part of it.
-pub fn list_part<'a>(index: &'a [u16], runs: &[u32], starts: &[u32], i: usize) -> &'a [u16]
+pub fn list_part<'a>(index: &'a [Index], runs: &[u32], starts: &[u32], i: usize) -> &'a [Index]
     requires { ⌜ ListIn (now index) (now runs) (now starts) i ⌝ }
     ensures { λ r. ⌜ now r ≡ listAt (now (index .entry)) (now (runs .entry)) (now (starts .entry)) i ⌝ }
 {
@@ -158,10 +159,10 @@ fn cut_part<'a>(
     s: &[u32],
     n: usize,
     cuts: usize,
-    index: &'a [u16],
+    index: &'a [Index],
     runs: &[u32],
     i: usize,
-) -> &'a [u16]
+) -> &'a [Index]
     requires { ⌜ Room n (now s) × Base n cuts × PartIn n (now s) cuts (now index) (now runs) i ⌝ }
     ensures { λ r. ⌜ now r ≡ partAt (now (s .entry)) cuts (now (index .entry)) (now (runs .entry)) i ⌝ }
 {
@@ -177,7 +178,7 @@ fn merge_run(
     stamp: u32,
     i: usize,
     cuts: usize,
-    index: &[u16],
+    index: &[Index],
     runs: &[u32],
 )
     requires { ⌜ Room n (now s) × Base n cuts × PartIn n (now s) cuts (now index) (now runs) i ⌝ }
@@ -197,7 +198,7 @@ fn merge_block(
     end: usize,
     had: usize,
     cuts: usize,
-    index: &[u16],
+    index: &[Index],
     runs: &[u32],
 ) -> usize
     requires { ⌜ Parts n end (now s) cuts (now index) (now runs) ⌝ }
@@ -225,7 +226,7 @@ pub fn merge_lower(
     stamp: u32,
     k: usize,
     cuts: usize,
-    index: &[u16],
+    index: &[Index],
     runs: &[u32],
 ) -> usize
     requires { ⌜ Parts n k (now s) cuts (now index) (now runs) ⌝ }
@@ -248,7 +249,7 @@ pub fn merge_lower(
 }
 
 // How many entries of a list go as far as place k; all, if it has no k.
-fn reach_of(list: &[u16], k: usize) -> usize
+fn reach_of(list: &[Index], k: usize) -> usize
     ensures { λ r. ⌜ (r ≡ upto k (now (list .entry))) × (r ≤ length (now (list .entry))) ⌝ }
 {
     let mut p = 0;
@@ -268,7 +269,7 @@ fn cut_list(
     k: usize,
     i: usize,
     cuts: usize,
-    index: &[u16],
+    index: &[Index],
     runs: &[u32],
     starts: &[u32],
 )
@@ -291,7 +292,7 @@ fn close_cuts(
     k: usize,
     below: usize,
     cuts: usize,
-    index: &[u16],
+    index: &[Index],
     runs: &[u32],
     starts: &[u32],
 )
@@ -324,7 +325,7 @@ pub fn next_cuts(
     k: usize,
     below: usize,
     cuts: usize,
-    index: &[u16],
+    index: &[Index],
     runs: &[u32],
     starts: &[u32],
 )

@@ -11,6 +11,7 @@ ghost use Rattle.fields.specs.Payload.{room, payloads};
 ghost use Rattle.matrix_file.specs.MatrixFile.{nOf, eOf, shapeIn, shaped, fitsShape, askHead, opened, lengthsRight, listsOf, listsAt, matrixParts, orderParts, written, askLengths, askWrite, left, readOutcome, writeOutcome};
 use base::Asked;
 use base::Ended;
+use base::Index;
 use base::Refusal;
 use matrix::Matrix;
 use matrix::Shaped;
@@ -113,20 +114,20 @@ fn lengths_right(
 fn load(
     file: &[u8],
     starts: &mut [u32],
-    columns: &mut [u16],
+    columns: &mut [Index],
     values: &mut [f64],
-    r: &mut [u16],
-    c: &mut [u16],
+    r: &mut [Index],
+    c: &mut [Index],
     b: &mut [f64],
 )
     requires { ⌜ 8 + 4 * length (now starts) + 2 * length (now columns) + 8 * length (now values) + 2 * length (now r) + 2 * length (now c) + 8 * length (now b) ≤ room (now file) ⌝ }
     ensures { λ _. ⌜ listsOf (now (starts .exit)) (now (columns .exit)) (now (values .exit)) (now (r .exit)) (now (c .exit)) (now (b .exit)) ≡ listsAt (now (file .entry)) (length (now (starts .entry))) (length (now (columns .entry))) (length (now (values .entry))) (length (now (r .entry))) (length (now (c .entry))) (length (now (b .entry))) ⌝ }
 {
     let at = fields::read_u32s(file, 8, starts);
-    let at = fields::read_u16s(file, at, columns);
+    let at = fields::read_indices(file, at, columns);
     let at = fields::read_f64s(file, at, values);
-    let at = fields::read_u16s(file, at, r);
-    let at = fields::read_u16s(file, at, c);
+    let at = fields::read_indices(file, at, r);
+    let at = fields::read_indices(file, at, c);
     fields::read_f64s(file, at, b);
 }
 
@@ -134,10 +135,10 @@ fn load(
 pub fn read_matrix(
     file: &[u8],
     starts: &mut [u32],
-    columns: &mut [u16],
+    columns: &mut [Index],
     values: &mut [f64],
-    r: &mut [u16],
-    c: &mut [u16],
+    r: &mut [Index],
+    c: &mut [Index],
     b: &mut [f64],
 ) -> Ended
     ensures { λ a. ⌜ left a (listsOf (now (starts .exit)) (now (columns .exit)) (now (values .exit)) (now (r .exit)) (now (c .exit)) (now (b .exit))) ≡ readOutcome (now (file .entry)) (listsOf (now (starts .entry)) (now (columns .entry)) (now (values .entry)) (now (r .entry)) (now (c .entry)) (now (b .entry))) ⌝ }
@@ -165,24 +166,24 @@ pub fn read_matrix(
 }
 
 // Lays n, e, starts, columns and values down from the first payload byte on, and answers where they end.
-fn lay_matrix(n: usize, starts: &[u32], columns: &[u16], values: &[f64], file: &mut [u8]) -> usize
+fn lay_matrix(n: usize, starts: &[u32], columns: &[Index], values: &[f64], file: &mut [u8]) -> usize
     requires { ⌜ 8 + 4 * length (now starts) + 2 * length (now columns) + 8 * length (now values) ≤ room (now file) ⌝ }
     ensures { λ q. ⌜ (q ≡ 8 + 4 * length (now (starts .entry)) + 2 * length (now (columns .entry)) + 8 * length (now (values .entry))) × (payloads (now (file .exit)) q ≡ stream (matrixParts n (now (starts .entry)) (now (columns .entry)) (now (values .entry)))) ⌝ }
 {
     let at = fields::put_number(file, 0, 4, n as u64);
     let at = fields::put_number(file, at, 4, columns.len() as u64);
     let at = fields::write_u32s(file, at, starts);
-    let at = fields::write_u16s(file, at, columns);
+    let at = fields::write_indices(file, at, columns);
     fields::write_f64s(file, at, values)
 }
 
 // Lays r, c and b down from payload byte `at` on, and answers where they end.
-fn lay_orders(at: usize, r: &[u16], c: &[u16], b: &[f64], file: &mut [u8]) -> usize
+fn lay_orders(at: usize, r: &[Index], c: &[Index], b: &[f64], file: &mut [u8]) -> usize
     requires { ⌜ at + 2 * length (now r) + 2 * length (now c) + 8 * length (now b) ≤ room (now file) ⌝ }
     ensures { λ q. ⌜ (q ≡ at + 2 * length (now (r .entry)) + 2 * length (now (c .entry)) + 8 * length (now (b .entry))) × (payloads (now (file .exit)) q ≡ payloads (now (file .entry)) at ++ stream (orderParts (now (r .entry)) (now (c .entry)) (now (b .entry)))) ⌝ }
 {
-    let at = fields::write_u16s(file, at, r);
-    let at = fields::write_u16s(file, at, c);
+    let at = fields::write_indices(file, at, r);
+    let at = fields::write_indices(file, at, c);
     fields::write_f64s(file, at, b)
 }
 
@@ -190,10 +191,10 @@ fn lay_orders(at: usize, r: &[u16], c: &[u16], b: &[f64], file: &mut [u8]) -> us
 fn store(
     n: usize,
     starts: &[u32],
-    columns: &[u16],
+    columns: &[Index],
     values: &[f64],
-    r: &[u16],
-    c: &[u16],
+    r: &[Index],
+    c: &[Index],
     b: &[f64],
     file: &mut [u8],
 )
@@ -235,10 +236,10 @@ fn ask_write(
 pub fn write_matrix(
     n: usize,
     starts: &[u32],
-    columns: &[u16],
+    columns: &[Index],
     values: &[f64],
-    r: &[u16],
-    c: &[u16],
+    r: &[Index],
+    c: &[Index],
     b: &[f64],
     file: &mut [u8],
 ) -> Ended

@@ -1,6 +1,7 @@
 // The arithmetic of the elimination, row by row, and the back steps. The scratch f has the working row w in its first n slots, y in the next n
 // and z in the last n. T(i) is list i of an upper store (index, run starts, list starts), its u stand in a value store from list start i on.
 // Lower row k is lent, so that no step knows where it is kept.
+use base::Index;
 use base::RowSums;
 use base::is_finite;
 ghost use mathlib.Core.Path.{_≡_};
@@ -17,7 +18,7 @@ ghost use Rattle.arithmetic.specs.RowEnd.{finiteOn, finiteAll, products};
 ghost use Rattle.numeric.specs.Stores.{Below, ListIn, Shape, Loadable, Reducible, Closable, Stepped, Eliminated, Finished, storeGiven, placesOf, gathered, zeroed, numberedBack};
 ghost use Rattle.numeric.specs.Rows.{Held, Lent, Closed, Reduced, Shut};
 
-fn wide16(x: u16) -> usize
+fn wide16(x: Index) -> usize
     ensures { λ r. ⌜ r ≡ x ⌝ }
 {
     x as usize
@@ -30,7 +31,7 @@ fn wide32(x: u32) -> usize
 }
 
 // List i of an index store, as a part of it.
-fn index_part<'a>(index: &'a [u16], runs: &[u32], starts: &[u32], i: usize) -> &'a [u16]
+fn index_part<'a>(index: &'a [Index], runs: &[u32], starts: &[u32], i: usize) -> &'a [Index]
     requires { ⌜ ListIn (length (now index)) (now runs) (now starts) i ⌝ }
     ensures { λ r. ⌜ now r ≡ listAt (now (index .entry)) (now (runs .entry)) (now (starts .entry)) i ⌝ }
 {
@@ -52,7 +53,7 @@ fn values_part<'a>(values: &'a [f64], starts: &[u32], i: usize) -> &'a [f64]
 }
 
 // Step 1: the entries of a row, own columns and values, over w at their places.
-pub fn load_row(w: &mut [f64], columns: &[u16], values: &[f64], ic: &[u32])
+pub fn load_row(w: &mut [f64], columns: &[Index], values: &[f64], ic: &[u32])
     requires { ⌜ Loadable (length (now w)) (now ic) (now columns) (now values) ⌝ }
     ensures { λ _. ⌜ load any (pairs (placesOf (now (ic .entry)) (now (columns .entry))) (now (values .entry))) (now (w .entry)) ≡ ok (now (w .exit)) ⌝ }
 {
@@ -65,7 +66,7 @@ pub fn load_row(w: &mut [f64], columns: &[u16], values: &[f64], ic: &[u32])
 }
 
 // w[j] = w[j] - m * u for the listed j: a product and a difference, each rounded once.
-pub fn axpy(w: &mut [f64], columns: &[u16], u: &[f64], m: f64)
+pub fn axpy(w: &mut [f64], columns: &[Index], u: &[f64], m: f64)
     requires { ⌜ (length (now columns) ≡ length (now u)) × Below (length (now w)) (now columns) ⌝ }
     ensures { λ _. ⌜ subtract any m (now (columns .entry)) (now (u .entry)) (now (w .entry)) ≡ ok (now (w .exit)) ⌝ }
 {
@@ -83,7 +84,7 @@ fn step_at(
     f: &mut [f64],
     n: usize,
     i: usize,
-    upper: &[u16],
+    upper: &[Index],
     runs: &[u32],
     starts: &[u32],
     u: &[f64],
@@ -110,7 +111,7 @@ pub fn eliminate(
     f: &mut [f64],
     n: usize,
     lower: &[u32],
-    upper: &[u16],
+    upper: &[Index],
     runs: &[u32],
     starts: &[u32],
     u: &[f64],
@@ -131,7 +132,7 @@ pub fn eliminate(
 }
 
 // Whether w is finite at each listed place.
-fn all_finite(w: &[f64], columns: &[u16]) -> bool
+fn all_finite(w: &[f64], columns: &[Index]) -> bool
     requires { ⌜ Below (length (now w)) (now columns) ⌝ }
     ensures { λ r. ⌜ r ≡ finiteOn (now (columns .entry)) (now (w .entry)) ⌝ }
 {
@@ -148,7 +149,7 @@ fn all_finite(w: &[f64], columns: &[u16]) -> bool
 }
 
 // Whether row k's sum, its pivot and its working row above the diagonal are finite. (A multiplier that is not makes the sum not finite.)
-fn row_finite(w: &[f64], k: usize, above: &[u16], sum: f64) -> bool
+fn row_finite(w: &[f64], k: usize, above: &[Index], sum: f64) -> bool
     requires { ⌜ (k < length (now w)) × Below (length (now w)) (now above) ⌝ }
     ensures { λ r. ⌜ r ≡ (finite sum && finiteOn (k ∷ now (above .entry)) (now (w .entry))) ⌝ }
 {
@@ -161,7 +162,7 @@ fn row_finite(w: &[f64], k: usize, above: &[u16], sum: f64) -> bool
 }
 
 // u = w at the listed places times d, from slot `from` on, up to the first that is not finite; whether all are.
-fn scale(w: &[f64], columns: &[u16], u: &mut [f64], from: usize, d: f64) -> bool
+fn scale(w: &[f64], columns: &[Index], u: &mut [f64], from: usize, d: f64) -> bool
     requires { ⌜ (from + length (now columns) ≤ length (now u)) × Below (length (now w)) (now columns) ⌝ }
     ensures { λ r. ⌜ (r ≡ finiteAll (products d (now (w .entry)) (now (columns .entry))))
         × (r ≡ true → now (u .exit) ≡ sets (now (u .entry)) from (products d (now (w .entry)) (now (columns .entry)))) ⌝ }
@@ -191,7 +192,7 @@ pub enum Pivot {
 pub fn finish_row(
     w: &[f64],
     k: usize,
-    above: &[u16],
+    above: &[Index],
     u: &mut [f64],
     from: usize,
     row: RowSums,
@@ -228,12 +229,12 @@ pub fn reduce_row(
     f: &mut [f64],
     n: usize,
     k: usize,
-    columns: &[u16],
+    columns: &[Index],
     values: &[f64],
     ic: &[u32],
     b: f64,
     lower: &[u32],
-    upper: &[u16],
+    upper: &[Index],
     runs: &[u32],
     starts: &[u32],
     u: &mut [f64],
@@ -269,7 +270,7 @@ fn clear_lower(w: &mut [f64], places: &[u32])
     }
 }
 
-fn clear_upper(w: &mut [f64], places: &[u16])
+fn clear_upper(w: &mut [f64], places: &[Index])
     requires { ⌜ Below (length (now w)) (now places) ⌝ }
     ensures { λ _. ⌜ now (w .exit) ≡ zeroed (now (places .entry)) (now (w .entry)) ⌝ }
 {
@@ -286,7 +287,7 @@ pub fn close_row(
     n: usize,
     k: usize,
     lower: &[u32],
-    upper: &[u16],
+    upper: &[Index],
     runs: &[u32],
     starts: &[u32],
     d: &mut [f64],
@@ -317,7 +318,7 @@ pub fn keep_by_rows(w: &[f64], lower: &[u32], l: &mut [f64], from: usize)
 }
 
 // t less the products of the factors and z at the listed places, one after the other: the back steps take u and z so, another right side L and y.
-pub fn less_products(t: f64, places: &[u16], factors: &[f64], z: &[f64]) -> f64
+pub fn less_products(t: f64, places: &[Index], factors: &[f64], z: &[f64]) -> f64
     requires { ⌜ (length (now places) ≡ length (now factors)) × Below (length (now z)) (now places) ⌝ }
     ensures { λ r. ⌜ rest any t (now (places .entry)) (now (factors .entry)) (now (z .entry)) ≡ ok r ⌝ }
 {
@@ -336,7 +337,7 @@ fn back_at(
     f: &[f64],
     n: usize,
     k: usize,
-    upper: &[u16],
+    upper: &[Index],
     runs: &[u32],
     starts: &[u32],
     u: &[f64],
@@ -362,7 +363,7 @@ pub enum Back {
 pub fn back_steps(
     f: &mut [f64],
     n: usize,
-    upper: &[u16],
+    upper: &[Index],
     runs: &[u32],
     starts: &[u32],
     u: &[f64],

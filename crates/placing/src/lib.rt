@@ -13,6 +13,7 @@ ghost use Rattle.placing.specs.Slices.{Tailed, AllTailed, fullAt, asPlan
 ghost use Rattle.placing.specs.Held.{PlaceEnds, PlainEnds, CheckEnds};
 ghost use Rattle.placing.specs.declared.Way.{Way};
 use base::Found;
+use base::Index;
 use base::Place;
 
 // How the lists of a side stand in their index store.
@@ -29,14 +30,14 @@ fn wide(x: u32) -> usize
 }
 
 // A slot of an index store as a 32-bit number.
-fn entry(x: u16) -> u32
+fn entry(x: Index) -> u32
     ensures { λ r. ⌜ (r ≡ x) × (r < 65536) ⌝ }
 {
     x as u32
 }
 
 // Has place i's list count entries above k? It ascends and has no more of them, so one entry tells.
-fn has_tail(slots: &[u16], runs: &[u32], starts: &[u32], i: Place, k: Place, count: usize) -> bool
+fn has_tail(slots: &[Index], runs: &[u32], starts: &[u32], i: Place, k: Place, count: usize) -> bool
     requires { ⌜ Tailed (now slots) (now runs) (now starts) (k .0) count (i .0) ⌝ }
     requires { ⌜ 0 < count ⌝ }
     ensures { λ r. ⌜ r ≡ eqb (tails (listAt (now (slots .entry)) (now (runs .entry)) (now (starts .entry))) (k .0) (i .0)) count ⌝ }
@@ -52,7 +53,7 @@ fn has_tail(slots: &[u16], runs: &[u32], starts: &[u32], i: Place, k: Place, cou
 
 // "the first whose T(i) has the most entries above k", where that number is count: its index in the row.
 fn full_tail(
-    slots: &[u16],
+    slots: &[Index],
     runs: &[u32],
     starts: &[u32],
     row: &[u32],
@@ -75,7 +76,7 @@ fn full_tail(
 }
 
 // The index of the first entry that is x, or the length.
-fn first_at(s: &[u16], x: u32) -> usize
+fn first_at(s: &[Index], x: u32) -> usize
     ensures { λ r. ⌜ r ≡ firstAt x (now (s .entry)) ⌝ }
 {
     let mut j: usize = 0;
@@ -99,7 +100,7 @@ fn smaller(a: usize, b: usize) -> usize
 }
 
 // Do the two lists agree as far as both go?
-fn agrees(s: &[u16], t: &[u32]) -> bool
+fn agrees(s: &[Index], t: &[u32]) -> bool
     ensures { λ r. ⌜ r ≡ agree (now (s .entry)) (now (t .entry)) ⌝ }
 {
     let end = smaller(s.len(), t.len());
@@ -120,7 +121,7 @@ pub struct Plan {
 }
 
 // Step 3 where there is no overlap: append all.
-fn fresh_plan(slots: &[u16], list: &[u32]) -> Plan
+fn fresh_plan(slots: &[Index], list: &[u32]) -> Plan
     ensures { λ r. ⌜ r ≡ asPlan (fresh (now (slots .entry)) (now (list .entry))) ⌝ }
 {
     Plan {
@@ -130,7 +131,7 @@ fn fresh_plan(slots: &[u16], list: &[u32]) -> Plan
 }
 
 // Step 3: the last run is the used part from last on.
-fn overlap_plan(slots: &[u16], last: usize, list: &[u32]) -> Plan
+fn overlap_plan(slots: &[Index], last: usize, list: &[u32]) -> Plan
     requires { ⌜ (last ≤ length (now slots)) × (0 < length (now list)) ⌝ }
     ensures { λ r. ⌜ r ≡ asPlan (overlap (now (slots .entry)) last (now (list .entry))) ⌝ }
 {
@@ -159,7 +160,7 @@ fn tail_start(runs: &[u32], starts: &[u32], i: Place, most: usize) -> usize
 
 // Steps 1 to 3: where place k's list goes.
 fn shared_plan(
-    slots: &[u16],
+    slots: &[Index],
     runs: &[u32],
     starts: &[u32],
     last: usize,
@@ -192,7 +193,7 @@ fn shared_plan(
 // Where place k's list goes, in either way.
 fn plan_list(
     way: Way,
-    slots: &[u16],
+    slots: &[Index],
     runs: &[u32],
     starts: &[u32],
     last: usize,
@@ -221,14 +222,14 @@ fn narrow(x: usize) -> u32
 }
 
 // What a list lacks goes after the used slots.
-fn append(index: &mut [u16], used: usize, rest: &[u32])
+fn append(index: &mut [Index], used: usize, rest: &[u32])
     requires { ⌜ used + length (now rest) ≤ length (now index) ⌝ }
     requires { ⌜ Small (now rest) ⌝ }
     ensures { λ _. ⌜ now (index .exit) ≡ paste (now (index .entry)) used (now (rest .entry)) (length (now (rest .entry))) ⌝ }
 {
     let mut j: usize = 0;
     while j < rest.len() {
-        index[used + j] = rest[j] as u16;
+        index[used + j] = rest[j] as Index;
         j += 1;
     }
 }
@@ -259,7 +260,7 @@ pub enum Look {
 // Where place k's list would go, and does it fit? Nothing is written: placing and comparing both start from this.
 fn look_for(
     way: Way,
-    index: &[u16],
+    index: &[Index],
     runs: &[u32],
     starts: &[u32],
     values: usize,
@@ -293,7 +294,7 @@ fn look_for(
 }
 
 // What place k's list lacks goes after the used slots, and its values end where list start k + 1 says.
-fn write_list(index: &mut [u16], starts: &mut [u32], list: &[u32], k: Place, s: Extent, have: usize)
+fn write_list(index: &mut [Index], starts: &mut [u32], list: &[u32], k: Place, s: Extent, have: usize)
     requires { ⌜ Writable (now index) (now starts) (now list) (k .0) s have ⌝ }
     ensures { λ _. ⌜ WrittenBy (now (index .entry)) (now (starts .entry)) (now (list .entry)) (k .0) s have (now (index .exit)) (now (starts .exit)) ⌝ }
 {
@@ -312,7 +313,7 @@ pub enum Put {
 // Place k's list into the stores, if it fits the index store and the value store.
 pub fn place_list(
     way: Way,
-    index: &mut [u16],
+    index: &mut [Index],
     runs: &mut [u32],
     starts: &mut [u32],
     values: usize,
@@ -339,7 +340,7 @@ pub fn place_list(
 
 // The same in the plain form, which has no run starts: the list starts are the run starts.
 pub fn place_plain(
-    index: &mut [u16],
+    index: &mut [Index],
     starts: &mut [u32],
     values: usize,
     list: &[u32],
@@ -378,7 +379,7 @@ pub enum Match {
 
 // Do the starts of place k and the slots from the used ones on hold what placing would write?
 fn stands(
-    index: &[u16],
+    index: &[Index],
     runs: &[u32],
     starts: &[u32],
     list: &[u32],
@@ -402,7 +403,7 @@ fn stands(
 // Do the stores hold place k's list where placing would put it? Nothing is written.
 pub fn check_list(
     way: Way,
-    index: &[u16],
+    index: &[Index],
     runs: &[u32],
     starts: &[u32],
     values: usize,

@@ -19,6 +19,7 @@ ghost use Rattle.stages.specs.Ends.{sideLists, Unplaced};
 use base::Answer;
 use base::Asked;
 use base::Counts;
+use base::Index;
 use base::Refusal;
 
 // ---- question 2
@@ -118,9 +119,9 @@ fn solve_plain_fits(
 fn ask_structure_plain(
     n: usize,
     starts: &[u32],
-    columns: &[u16],
-    r: &[u16],
-    c: &[u16],
+    columns: &[Index],
+    r: &[Index],
+    c: &[Index],
     lower_starts: usize,
     lower_index: usize,
     lower_values: usize,
@@ -158,10 +159,10 @@ fn ask_structure_plain(
 fn ask_solve_plain(
     n: usize,
     starts: &[u32],
-    columns: &[u16],
+    columns: &[Index],
     values: &[f64],
-    r: &[u16],
-    c: &[u16],
+    r: &[Index],
+    c: &[Index],
     b: &[f64],
     lower_starts: usize,
     lower_index: usize,
@@ -209,14 +210,14 @@ fn ask_solve_plain(
 fn place_plain(
     n: usize,
     starts: &[u32],
-    columns: &[u16],
-    r: &[u16],
-    c: &[u16],
+    columns: &[Index],
+    r: &[Index],
+    c: &[Index],
     lower_starts: &mut [u32],
-    lower_index: &mut [u16],
+    lower_index: &mut [Index],
     lower_values: usize,
     upper_starts: &mut [u32],
-    upper_index: &mut [u16],
+    upper_index: &mut [Index],
     upper_values: usize,
     marks: &mut [u32],
 ) -> Answer
@@ -240,9 +241,9 @@ fn place_plain(
     );
     if stages::refuses(a) {
         base::clear_u32(lower_starts);
-        base::clear_u16(lower_index);
+        base::clear_index(lower_index);
         base::clear_u32(upper_starts);
-        base::clear_u16(upper_index);
+        base::clear_index(upper_index);
         return a;
     }
     a
@@ -254,14 +255,14 @@ fn place_plain(
 pub fn structure_plain(
     n: usize,
     starts: &[u32],
-    columns: &[u16],
-    r: &[u16],
-    c: &[u16],
+    columns: &[Index],
+    r: &[Index],
+    c: &[Index],
     lower_starts: &mut [u32],
-    lower_index: &mut [u16],
+    lower_index: &mut [Index],
     lower_values: &mut [f64],
     upper_starts: &mut [u32],
-    upper_index: &mut [u16],
+    upper_index: &mut [Index],
     upper_values: &mut [f64],
     work: &mut [f64],
     marks: &mut [u32],
@@ -313,16 +314,16 @@ pub fn structure_plain(
 fn solve_plain_factored(
     n: usize,
     starts: &[u32],
-    columns: &[u16],
+    columns: &[Index],
     values: &[f64],
-    r: &[u16],
-    c: &[u16],
+    r: &[Index],
+    c: &[Index],
     b: &[f64],
     lower_starts: &mut [u32],
-    lower_index: &mut [u16],
+    lower_index: &mut [Index],
     lower_values: &mut [f64],
     upper_starts: &mut [u32],
-    upper_index: &mut [u16],
+    upper_index: &mut [Index],
     upper_values: &mut [f64],
     d: &mut [f64],
     x: &mut [f64],
@@ -369,16 +370,16 @@ fn solve_plain_factored(
 pub fn solve_plain(
     n: usize,
     starts: &[u32],
-    columns: &[u16],
+    columns: &[Index],
     values: &[f64],
-    r: &[u16],
-    c: &[u16],
+    r: &[Index],
+    c: &[Index],
     b: &[f64],
     lower_starts: &mut [u32],
-    lower_index: &mut [u16],
+    lower_index: &mut [Index],
     lower_values: &mut [f64],
     upper_starts: &mut [u32],
-    upper_index: &mut [u16],
+    upper_index: &mut [Index],
     upper_values: &mut [f64],
     d: &mut [f64],
     x: &mut [f64],

@@ -11,6 +11,7 @@ ghost use Rattle.program.specs.Program.{valueLines, answerLines, outcome
 ghost use Rattle.matrix.specs.declared.Shaped.the-variants.{Shape};
 ghost use Rattle.matrix_file.specs.MatrixFile.{listsOf, matrixAt, opened};
 use base::Answer;
+use base::Index;
 use matrix::Matrix;
 use matrix::Shaped;
 
@@ -46,16 +47,16 @@ fn put_answer(out: &mut [u8], n: usize, answer: Answer, x: &[f64]) -> usize
 fn solve_into(
     n: usize,
     starts: &[u32],
-    columns: &[u16],
+    columns: &[Index],
     values: &[f64],
-    r: &[u16],
-    c: &[u16],
+    r: &[Index],
+    c: &[Index],
     b: &[f64],
     lower_starts: &mut [u32],
-    lower_index: &mut [u16],
+    lower_index: &mut [Index],
     lower_values: &mut [f64],
     upper_starts: &mut [u32],
-    upper_index: &mut [u16],
+    upper_index: &mut [Index],
     upper_values: &mut [f64],
     d: &mut [f64],
     x: &mut [f64],
@@ -98,7 +99,7 @@ fn zeros_u32() -> [u32; 520]
     [0; 520]
 }
 
-fn zeros_u16() -> [u16; 2016]
+fn zeros_index() -> [Index; 2016]
     ensures { λ r. ⌜ 2016 ≡ length r ⌝ }
     ensures { λ r. ⌜ r ≡ zeros 2016 ⌝ }
 {
@@ -116,10 +117,10 @@ fn zeros_f64() -> [f64; 2016]
 fn solve_lines(
     n: usize,
     starts: &[u32],
-    columns: &[u16],
+    columns: &[Index],
     values: &[f64],
-    r: &[u16],
-    c: &[u16],
+    r: &[Index],
+    c: &[Index],
     b: &[f64],
     out: &mut [u8],
 ) -> usize
@@ -127,10 +128,10 @@ fn solve_lines(
     ensures { λ k. ⌜ Written (solvedLines (inputOf n (now (starts .entry)) (now (columns .entry)) (now (values .entry)) (now (r .entry)) (now (c .entry)) (now (b .entry)))) (now (out .entry)) 0 (now (out .exit)) k × (k ≤ 4096) ⌝ }
 {
     let mut lower_starts = zeros_u32();
-    let mut lower_index = zeros_u16();
+    let mut lower_index = zeros_index();
     let mut lower_values = zeros_f64();
     let mut upper_starts = zeros_u32();
-    let mut upper_index = zeros_u16();
+    let mut upper_index = zeros_index();
     let mut upper_values = zeros_f64();
     let mut d = zeros_f64();
     let mut x = zeros_f64();
@@ -163,10 +164,10 @@ fn read_lines(
     file: &[u8],
     n: usize,
     starts: &mut [u32],
-    columns: &mut [u16],
+    columns: &mut [Index],
     values: &mut [f64],
-    r: &mut [u16],
-    c: &mut [u16],
+    r: &mut [Index],
+    c: &mut [Index],
     b: &mut [f64],
     out: &mut [u8],
 ) -> usize
@@ -185,10 +186,10 @@ fn shaped_lines(file: &[u8], m: Matrix, out: &mut [u8]) -> usize
     let n = m.rows;
     let e = m.entries;
     let mut starts = zeros_u32();
-    let mut columns = zeros_u16();
+    let mut columns = zeros_index();
     let mut values = zeros_f64();
-    let mut r = zeros_u16();
-    let mut c = zeros_u16();
+    let mut r = zeros_index();
+    let mut c = zeros_index();
     let mut b = zeros_f64();
     read_lines(
         file,

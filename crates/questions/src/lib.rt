@@ -11,6 +11,7 @@ ghost use Rattle.matrix.specs.Questions.{badStart, badIndex, noEntry, repeats, 
 ghost use Rattle.questions.specs.Lent.{Lent, SolveLent, RightLent, OrdersLent, OrderLent, PlacesLent, RowsLent, RowLent, Unstamped, AtMost, askOrder, InverseLent, SolutionLent, inverted, invertedAt};
 use base::Asked;
 use base::Found;
+use base::Index;
 use base::OwnNumber;
 use base::Place;
 use base::Refusal;
@@ -18,7 +19,7 @@ use base::Refusal;
 // ---- the orders
 
 // The own row at a place.
-pub fn own_row(r: &[u16], k: Place) -> OwnNumber
+pub fn own_row(r: &[Index], k: Place) -> OwnNumber
     requires { ⌜ k .0 < length (now r) ⌝ }
     ensures { λ i. ⌜ i ≡ ownAt (now (r .entry)) k ⌝ }
 {
@@ -36,7 +37,7 @@ pub fn place_of(inverse: &[u32], j: OwnNumber) -> Place
 }
 
 // The inverse of an order in the first n slots, all else as it was.
-pub fn invert(n: usize, order: &[u16], inverse: &mut [u32])
+pub fn invert(n: usize, order: &[Index], inverse: &mut [u32])
     requires { ⌜ InverseLent n (now order) (length (now inverse)) ⌝ }
     ensures { λ _. ⌜ now (inverse .exit) ≡ inverted (now (order .entry)) n (now (inverse .entry)) ⌝ }
 {
@@ -49,7 +50,7 @@ pub fn invert(n: usize, order: &[u16], inverse: &mut [u32])
 }
 
 // The inverse of an order in slots n to 2n - 1, all else as it was.
-pub fn invert_at(n: usize, order: &[u16], scratch: &mut [u32])
+pub fn invert_at(n: usize, order: &[Index], scratch: &mut [u32])
     requires { ⌜ InverseLent n (now order) (length (now scratch) - n) ⌝ }
     ensures { λ _. ⌜ now (scratch .exit) ≡ invertedAt (now (order .entry)) n (now (scratch .entry)) ⌝ }
 {
@@ -57,7 +58,7 @@ pub fn invert_at(n: usize, order: &[u16], scratch: &mut [u32])
 }
 
 // "x(c(k)) = t": the solution by own column.
-pub fn write_solution(n: usize, c: &[u16], z: &[f64], x: &mut [f64])
+pub fn write_solution(n: usize, c: &[Index], z: &[f64], x: &mut [f64])
     requires { ⌜ SolutionLent n (now c) (length (now z)) (length (now x)) ⌝ }
     ensures { λ _. ⌜ now (x .exit) ≡ ownOrder (now (c .entry)) n (now (z .entry)) ⌝ }
 {
@@ -82,7 +83,7 @@ fn stamp_slot(j: usize, stamp: u32, marks: &mut [u32]) -> bool
 }
 
 // The first index whose number is out of range or stands before it too. No slot holds the stamp yet.
-fn first_fault(n: usize, list: &[u16], stamp: u32, marks: &mut [u32]) -> Found
+fn first_fault(n: usize, list: &[Index], stamp: u32, marks: &mut [u32]) -> Found
     requires { ⌜ Unstamped n stamp (now marks) ⌝ }
     ensures { λ f. ⌜ (f ≡ first (badIndex (now (list .entry)) n) (length (now (list .entry)))) × AtMost (now (marks .exit)) stamp ⌝ }
 {
@@ -139,7 +140,7 @@ fn ask_starts(n: usize, e: usize, starts: &[u32]) -> Asked
 }
 
 // 4: is each column below n?
-fn ask_columns(n: usize, columns: &[u16]) -> Asked
+fn ask_columns(n: usize, columns: &[Index]) -> Asked
     requires { ⌜ length (now columns) ≤ 4294967296 ⌝ }
     ensures { λ a. ⌜ a ≡ ask4 n (now (columns .entry)) ⌝ }
 {
@@ -154,7 +155,7 @@ fn ask_columns(n: usize, columns: &[u16]) -> Asked
 }
 
 // 5 of one order, the index plus `from`.
-fn ask_order(n: usize, order: &[u16], from: usize, marks: &mut [u32]) -> Asked
+fn ask_order(n: usize, order: &[Index], from: usize, marks: &mut [u32]) -> Asked
     requires { ⌜ OrderLent n (now order) from (length (now marks)) ⌝ }
     ensures { λ a. ⌜ a ≡ askOrder (now (order .entry)) n from ⌝ }
 {
@@ -167,7 +168,7 @@ fn ask_order(n: usize, order: &[u16], from: usize, marks: &mut [u32]) -> Asked
 }
 
 // 5: are r and then c orders?
-fn ask_orders(n: usize, r: &[u16], c: &[u16], marks: &mut [u32]) -> Asked
+fn ask_orders(n: usize, r: &[Index], c: &[Index], marks: &mut [u32]) -> Asked
     requires { ⌜ OrdersLent n (now r) (now c) (length (now marks)) ⌝ }
     ensures { λ a. ⌜ a ≡ ask5 n (now (r .entry)) (now (c .entry)) ⌝ }
 {
@@ -215,7 +216,7 @@ fn row_empty(starts: &[u32], i: OwnNumber) -> bool
 }
 
 // 7: has each row an entry?
-fn ask_entries(n: usize, starts: &[u32], r: &[u16]) -> Asked
+fn ask_entries(n: usize, starts: &[u32], r: &[Index]) -> Asked
     requires { ⌜ PlacesLent n (now starts) (now r) ⌝ }
     ensures { λ a. ⌜ a ≡ ask7 n (now (starts .entry)) (now (r .entry)) ⌝ }
 {
@@ -234,7 +235,7 @@ fn ask_entries(n: usize, starts: &[u32], r: &[u16]) -> Asked
 fn row_repeats(
     n: usize,
     starts: &[u32],
-    columns: &[u16],
+    columns: &[Index],
     i: OwnNumber,
     stamp: u32,
     marks: &mut [u32],
@@ -250,7 +251,7 @@ fn row_repeats(
 }
 
 // 8: is no column twice in a row?
-fn ask_repeats(n: usize, starts: &[u32], columns: &[u16], r: &[u16], marks: &mut [u32]) -> Asked
+fn ask_repeats(n: usize, starts: &[u32], columns: &[Index], r: &[Index], marks: &mut [u32]) -> Asked
     requires { ⌜ RowsLent n (now starts) (now columns) (now r) (length (now marks)) ⌝ }
     ensures { λ a. ⌜ a ≡ ask8 n (now (starts .entry)) (now (columns .entry)) (now (r .entry)) ⌝ }
 {
@@ -272,9 +273,9 @@ fn ask_repeats(n: usize, starts: &[u32], columns: &[u16], r: &[u16], marks: &mut
 fn ask_pattern(
     n: usize,
     starts: &[u32],
-    columns: &[u16],
-    r: &[u16],
-    c: &[u16],
+    columns: &[Index],
+    r: &[Index],
+    c: &[Index],
     marks: &mut [u32],
 ) -> Asked
     requires { ⌜ Lent n (now starts) (now columns) (now r) (now c) (length (now marks)) ⌝ }
@@ -292,7 +293,7 @@ fn ask_pattern(
 }
 
 // 7, 8.
-fn ask_rows(n: usize, starts: &[u32], columns: &[u16], r: &[u16], marks: &mut [u32]) -> Asked
+fn ask_rows(n: usize, starts: &[u32], columns: &[Index], r: &[Index], marks: &mut [u32]) -> Asked
     requires { ⌜ RowsLent n (now starts) (now columns) (now r) (length (now marks)) ⌝ }
     ensures { λ a. ⌜ a ≡ askRows (inputOf n (now (starts .entry)) (now (columns .entry)) [] (now (r .entry)) [] []) ⌝ }
 {
@@ -307,9 +308,9 @@ fn ask_rows(n: usize, starts: &[u32], columns: &[u16], r: &[u16], marks: &mut [u
 pub fn ask_structure(
     n: usize,
     starts: &[u32],
-    columns: &[u16],
-    r: &[u16],
-    c: &[u16],
+    columns: &[Index],
+    r: &[Index],
+    c: &[Index],
     marks: &mut [u32],
 ) -> Asked
     requires { ⌜ Lent n (now starts) (now columns) (now r) (now c) (length (now marks)) ⌝ }
@@ -326,10 +327,10 @@ pub fn ask_structure(
 pub fn ask_solve(
     n: usize,
     starts: &[u32],
-    columns: &[u16],
+    columns: &[Index],
     values: &[f64],
-    r: &[u16],
-    c: &[u16],
+    r: &[Index],
+    c: &[Index],
     b: &[f64],
     marks: &mut [u32],
 ) -> Asked
@@ -348,7 +349,7 @@ pub fn ask_solve(
 }
 
 // Another right side's: 5, and 6 of b. The marks are overwritten.
-pub fn ask_right(n: usize, r: &[u16], c: &[u16], b: &[f64], marks: &mut [u32]) -> Asked
+pub fn ask_right(n: usize, r: &[Index], c: &[Index], b: &[f64], marks: &mut [u32]) -> Asked
     requires { ⌜ RightLent n (now r) (now c) (length (now b)) (length (now marks)) ⌝ }
     ensures { λ a. ⌜ a ≡ askRight n (now (r .entry)) (now (c .entry)) (now (b .entry)) ⌝ }
 {

@@ -15,6 +15,7 @@ ghost use Rattle.stages.specs.Asking.{SolveAsking};
 ghost use Rattle.row_form.specs.Sizes.{rowSizes};
 use base::Answer;
 use base::Asked;
+use base::Index;
 use base::Refusal;
 
 // Question 2.
@@ -50,10 +51,10 @@ fn solve_row_fits(
 fn ask_solve_row(
     n: usize,
     starts: &[u32],
-    columns: &[u16],
+    columns: &[Index],
     values: &[f64],
-    r: &[u16],
-    c: &[u16],
+    r: &[Index],
+    c: &[Index],
     b: &[f64],
     upper_starts: usize,
     upper_runs: usize,
@@ -95,14 +96,14 @@ fn ask_solve_row(
 fn row_work(
     n: usize,
     starts: &[u32],
-    columns: &[u16],
+    columns: &[Index],
     values: &[f64],
-    r: &[u16],
-    c: &[u16],
+    r: &[Index],
+    c: &[Index],
     b: &[f64],
     upper_starts: &mut [u32],
     upper_runs: &mut [u32],
-    upper_index: &mut [u16],
+    upper_index: &mut [Index],
     upper_values: &mut [f64],
     d: &mut [f64],
     x: &mut [f64],
@@ -156,14 +157,14 @@ fn row_work(
 pub fn solve_row(
     n: usize,
     starts: &[u32],
-    columns: &[u16],
+    columns: &[Index],
     values: &[f64],
-    r: &[u16],
-    c: &[u16],
+    r: &[Index],
+    c: &[Index],
     b: &[f64],
     upper_starts: &mut [u32],
     upper_runs: &mut [u32],
-    upper_index: &mut [u16],
+    upper_index: &mut [Index],
     upper_values: &mut [f64],
     d: &mut [f64],
     x: &mut [f64],

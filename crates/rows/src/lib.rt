@@ -7,11 +7,12 @@ ghost use Rattle.base.specs.Lists.{rowOf, total};
 ghost use Rattle.fill.specs.Fill.{Pattern, filled};
 ghost use Rattle.marks.specs.Marks.{Below, Room, Blocks, Holds, marked, members, ListIn, Base, Parts};
 ghost use Rattle.rows.specs.Rows.{Loaded, Closing, UpperListed, Renewed, lengthIn, Countable};
+use base::Index;
 use base::OwnNumber;
 use base::Place;
 
 // "place k takes own row r(k)"
-pub fn own_row(order: &[u16], k: Place) -> OwnNumber
+pub fn own_row(order: &[Index], k: Place) -> OwnNumber
     requires { ⌜ k .0 < length (now order) ⌝ }
     ensures { λ r. ⌜ (r .0 ≡ getD (now (order .entry)) (k .0) 0) ⌝ }
 {
@@ -25,9 +26,9 @@ pub fn load_row_place(
     n: usize,
     stamp: u32,
     k: Place,
-    columns: &[u16],
+    columns: &[Index],
     starts: &[u32],
-    order: &[u16],
+    order: &[Index],
 )
     requires { ⌜ (k .0 < length (now order)) × Room n (now s) ⌝ }
     requires { ⌜ ListIn (now columns) (now starts) (now starts) (getD (now order) (k .0) 0) ⌝ }
@@ -49,7 +50,7 @@ pub fn close_place(
     stamp: u32,
     k: Place,
     cuts: usize,
-    index: &[u16],
+    index: &[Index],
     runs: &[u32],
 ) -> usize
     requires { ⌜ Parts n (k .0) (now s) cuts (now index) (now runs) ⌝ }
@@ -89,7 +90,7 @@ pub fn renew_cuts(
     k: Place,
     below: usize,
     cuts: usize,
-    index: &[u16],
+    index: &[Index],
     runs: &[u32],
     starts: &[u32],
 )

@@ -21,6 +21,7 @@ ghost use Rattle.stages.specs.Ends.{sideLists, Unplaced};
 use base::Answer;
 use base::Asked;
 use base::Counts;
+use base::Index;
 use base::Refusal;
 
 // ---- question 2
@@ -130,9 +131,9 @@ fn solve_shared_fits(
 fn ask_structure_shared(
     n: usize,
     starts: &[u32],
-    columns: &[u16],
-    r: &[u16],
-    c: &[u16],
+    columns: &[Index],
+    r: &[Index],
+    c: &[Index],
     lower_starts: usize,
     lower_runs: usize,
     lower_index: usize,
@@ -174,10 +175,10 @@ fn ask_structure_shared(
 fn ask_solve_shared(
     n: usize,
     starts: &[u32],
-    columns: &[u16],
+    columns: &[Index],
     values: &[f64],
-    r: &[u16],
-    c: &[u16],
+    r: &[Index],
+    c: &[Index],
     b: &[f64],
     lower_starts: usize,
     lower_runs: usize,
@@ -226,12 +227,12 @@ fn ask_solve_shared(
 // ---- a refusal's zeros
 
 // The lists of a side.
-fn clear_lists(starts: &mut [u32], runs: &mut [u32], index: &mut [u16])
+fn clear_lists(starts: &mut [u32], runs: &mut [u32], index: &mut [Index])
     ensures { λ _. ⌜ (now (starts .exit) ≡ blank 0 (now (starts .entry))) × (now (runs .exit) ≡ blank 0 (now (runs .entry))) × (now (index .exit) ≡ blank 0 (now (index .entry))) ⌝ }
 {
     base::clear_u32(starts);
     base::clear_u32(runs);
-    base::clear_u16(index);
+    base::clear_index(index);
 }
 
 // ---- questions 9 to 11
@@ -240,16 +241,16 @@ fn clear_lists(starts: &mut [u32], runs: &mut [u32], index: &mut [u16])
 fn place_shared(
     n: usize,
     starts: &[u32],
-    columns: &[u16],
-    r: &[u16],
-    c: &[u16],
+    columns: &[Index],
+    r: &[Index],
+    c: &[Index],
     lower_starts: &mut [u32],
     lower_runs: &mut [u32],
-    lower_index: &mut [u16],
+    lower_index: &mut [Index],
     lower_values: usize,
     upper_starts: &mut [u32],
     upper_runs: &mut [u32],
-    upper_index: &mut [u16],
+    upper_index: &mut [Index],
     upper_values: usize,
     marks: &mut [u32],
 ) -> Answer
@@ -287,16 +288,16 @@ fn place_shared(
 pub fn structure_shared(
     n: usize,
     starts: &[u32],
-    columns: &[u16],
-    r: &[u16],
-    c: &[u16],
+    columns: &[Index],
+    r: &[Index],
+    c: &[Index],
     lower_starts: &mut [u32],
     lower_runs: &mut [u32],
-    lower_index: &mut [u16],
+    lower_index: &mut [Index],
     lower_values: &mut [f64],
     upper_starts: &mut [u32],
     upper_runs: &mut [u32],
-    upper_index: &mut [u16],
+    upper_index: &mut [Index],
     upper_values: &mut [f64],
     work: &mut [f64],
     marks: &mut [u32],
@@ -352,18 +353,18 @@ pub fn structure_shared(
 fn solve_shared_factored(
     n: usize,
     starts: &[u32],
-    columns: &[u16],
+    columns: &[Index],
     values: &[f64],
-    r: &[u16],
-    c: &[u16],
+    r: &[Index],
+    c: &[Index],
     b: &[f64],
     lower_starts: &mut [u32],
     lower_runs: &mut [u32],
-    lower_index: &mut [u16],
+    lower_index: &mut [Index],
     lower_values: &mut [f64],
     upper_starts: &mut [u32],
     upper_runs: &mut [u32],
-    upper_index: &mut [u16],
+    upper_index: &mut [Index],
     upper_values: &mut [f64],
     d: &mut [f64],
     x: &mut [f64],
@@ -409,18 +410,18 @@ fn solve_shared_factored(
 pub fn solve_shared(
     n: usize,
     starts: &[u32],
-    columns: &[u16],
+    columns: &[Index],
     values: &[f64],
-    r: &[u16],
-    c: &[u16],
+    r: &[Index],
+    c: &[Index],
     b: &[f64],
     lower_starts: &mut [u32],
     lower_runs: &mut [u32],
-    lower_index: &mut [u16],
+    lower_index: &mut [Index],
     lower_values: &mut [f64],
     upper_starts: &mut [u32],
     upper_runs: &mut [u32],
-    upper_index: &mut [u16],
+    upper_index: &mut [Index],
     upper_values: &mut [f64],
     d: &mut [f64],
     x: &mut [f64],

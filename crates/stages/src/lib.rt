@@ -16,15 +16,16 @@ ghost use Rattle.stages.specs.Asking.{Blanked};
 use base::Answer;
 use base::Asked;
 use base::Counts;
+use base::Index;
 use base::Refusal;
 use factor::Factored;
 
 // The lists and the values of a side without run starts.
-pub fn clear_side(starts: &mut [u32], index: &mut [u16], values: &mut [f64])
+pub fn clear_side(starts: &mut [u32], index: &mut [Index], values: &mut [f64])
     ensures { λ _. ⌜ (now (starts .exit) ≡ blank 0 (now (starts .entry))) × (now (index .exit) ≡ blank 0 (now (index .entry))) × (now (values .exit) ≡ blank nought (now (values .entry))) ⌝ }
 {
     base::clear_u32(starts);
-    base::clear_u16(index);
+    base::clear_index(index);
     base::clear_f64(values);
 }
 
@@ -55,9 +56,9 @@ pub fn clear_numbers(
 pub fn ask_structure(
     n: usize,
     starts: &[u32],
-    columns: &[u16],
-    r: &[u16],
-    c: &[u16],
+    columns: &[Index],
+    r: &[Index],
+    c: &[Index],
     work: &mut [f64],
     marks: &mut [u32],
 ) -> Asked
@@ -76,10 +77,10 @@ pub fn ask_structure(
 pub fn ask_solve(
     n: usize,
     starts: &[u32],
-    columns: &[u16],
+    columns: &[Index],
     values: &[f64],
-    r: &[u16],
-    c: &[u16],
+    r: &[Index],
+    c: &[Index],
     b: &[f64],
     work: &mut [f64],
     marks: &mut [u32],
@@ -107,7 +108,7 @@ pub fn fault_of(a: Factored) -> Asked
 }
 
 // z stands in the last n slots of scratch.
-pub fn write_x(n: usize, c: &[u16], work: &[f64], x: &mut [f64])
+pub fn write_x(n: usize, c: &[Index], work: &[f64], x: &mut [f64])
     requires { ⌜ SolutionDue n (now c) (length (now work)) (length (now x)) ⌝ }
     ensures { λ _. ⌜ now (x .exit) ≡ ownOrder (now (c .entry)) n (drop (n + n) (now (work .entry))) ⌝ }
 {

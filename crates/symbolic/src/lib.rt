@@ -16,6 +16,7 @@ ghost use Rattle.symbolic.specs.Pass.{At, Due, TurnEnds, noProgress, cou
 ghost use Rattle.symbolic.specs.Places.{cutsOf, Open, Opening, OpenEnds, Keep, Keeping, KeepEnds, KeepLower, KeepingLower, LowerEnds, Adding, Addable, SideAt, SideDue, SideEnds};
 use base::Answer;
 use base::Counts;
+use base::Index;
 use base::Place;
 use base::Refusal;
 use base::Side;
@@ -81,9 +82,9 @@ fn open_place(
     side: Side,
     n: usize,
     starts: &[u32],
-    columns: &[u16],
-    r: &[u16],
-    index: &[u16],
+    columns: &[Index],
+    r: &[Index],
+    index: &[Index],
     runs: &[u32],
     marks: &mut [u32],
     stamp: u32,
@@ -113,7 +114,7 @@ fn keep_shared(
     n: usize,
     starts: &mut [u32],
     runs: &mut [u32],
-    index: &mut [u16],
+    index: &mut [Index],
     values: usize,
     marks: &mut [u32],
     stamp: u32,
@@ -152,7 +153,7 @@ fn keep_shared(
 fn keep_plain(
     n: usize,
     starts: &mut [u32],
-    index: &mut [u16],
+    index: &mut [Index],
     values: usize,
     marks: &mut [u32],
     stamp: u32,
@@ -189,7 +190,7 @@ fn keep_plain(
 fn keep_lower(
     n: usize,
     starts: &mut [u32],
-    index: &mut [u16],
+    index: &mut [Index],
     values: usize,
     marks: &[u32],
     k: Place,
@@ -219,11 +220,11 @@ fn place_side(
     side: Side,
     n: usize,
     starts: &[u32],
-    columns: &[u16],
-    r: &[u16],
+    columns: &[Index],
+    r: &[Index],
     side_starts: &mut [u32],
     side_runs: &mut [u32],
-    side_index: &mut [u16],
+    side_index: &mut [Index],
     side_values: usize,
     marks: &mut [u32],
     stamp: u32,
@@ -277,7 +278,7 @@ fn place_side(
 // ---- the ends of the pass
 
 // Scratch is zero but for the inverse column order.
-fn begin_marks(n: usize, c: &[u16], marks: &mut [u32])
+fn begin_marks(n: usize, c: &[Index], marks: &mut [u32])
     requires { ⌜ InverseLent n (now c) (length (now marks) - n) ⌝ }
     ensures { λ _. ⌜ now (marks .exit) ≡ invertedAt (now (c .entry)) n (blank 0 (now (marks .entry))) ⌝ }
 {
@@ -286,7 +287,7 @@ fn begin_marks(n: usize, c: &[u16], marks: &mut [u32])
 }
 
 // The same, and the columns of M' can be handed out.
-fn begin_columns(n: usize, starts: &[u32], columns: &[u16], r: &[u16], c: &[u16], marks: &mut [u32])
+fn begin_columns(n: usize, starts: &[u32], columns: &[Index], r: &[Index], c: &[Index], marks: &mut [u32])
     requires { ⌜ MatrixLent (inputOf n (now starts) (now columns) [] (now r) (now c) []) (length (now marks)) ⌝ }
     ensures { λ _. ⌜ ColumnsBegun (inputOf n (now (starts .entry)) (now (columns .entry)) [] (now (r .entry)) (now (c .entry)) []) (now (marks .exit)) ⌝ }
 {
@@ -328,13 +329,13 @@ fn counts_at(g: Progress) -> Counts
 fn plain_place(
     n: usize,
     starts: &[u32],
-    columns: &[u16],
-    r: &[u16],
+    columns: &[Index],
+    r: &[Index],
     lower_starts: &mut [u32],
-    lower_index: &mut [u16],
+    lower_index: &mut [Index],
     lower_values: usize,
     upper_starts: &mut [u32],
-    upper_index: &mut [u16],
+    upper_index: &mut [Index],
     upper_values: usize,
     marks: &mut [u32],
     k: Place,
@@ -400,14 +401,14 @@ fn plain_place(
 pub fn find_plain(
     n: usize,
     starts: &[u32],
-    columns: &[u16],
-    r: &[u16],
-    c: &[u16],
+    columns: &[Index],
+    r: &[Index],
+    c: &[Index],
     lower_starts: &mut [u32],
-    lower_index: &mut [u16],
+    lower_index: &mut [Index],
     lower_values: usize,
     upper_starts: &mut [u32],
-    upper_index: &mut [u16],
+    upper_index: &mut [Index],
     upper_values: usize,
     marks: &mut [u32],
 ) -> Answer
@@ -415,9 +416,9 @@ pub fn find_plain(
     ensures { λ a. ⌜ FoundBoth Form.Plain (inputOf n (now (starts .entry)) (now (columns .entry)) [] (now (r .entry)) (now (c .entry)) []) (slotsOf (length (now («lower_index» .entry))) «lower_values» (length (now («upper_index» .entry))) «upper_values») (now («lower_starts» .exit)) (now («lower_starts» .exit)) (now («lower_index» .exit)) «lower_values» (now («upper_starts» .exit)) (now («upper_starts» .exit)) (now («upper_index» .exit)) «upper_values» a ⌝ }
 {
     base::clear_u32(lower_starts);
-    base::clear_u16(lower_index);
+    base::clear_index(lower_index);
     base::clear_u32(upper_starts);
-    base::clear_u16(upper_index);
+    base::clear_index(upper_index);
     begin_marks(n, c, marks);
     let mut g = no_progress();
     let mut k = 0;
@@ -457,11 +458,11 @@ pub fn find_plain(
 fn row_place(
     n: usize,
     starts: &[u32],
-    columns: &[u16],
-    r: &[u16],
+    columns: &[Index],
+    r: &[Index],
     upper_starts: &mut [u32],
     upper_runs: &mut [u32],
-    upper_index: &mut [u16],
+    upper_index: &mut [Index],
     upper_values: usize,
     marks: &mut [u32],
     k: Place,
@@ -512,12 +513,12 @@ fn row_place(
 pub fn find_row(
     n: usize,
     starts: &[u32],
-    columns: &[u16],
-    r: &[u16],
-    c: &[u16],
+    columns: &[Index],
+    r: &[Index],
+    c: &[Index],
     upper_starts: &mut [u32],
     upper_runs: &mut [u32],
-    upper_index: &mut [u16],
+    upper_index: &mut [Index],
     upper_values: usize,
     marks: &mut [u32],
 ) -> Answer
@@ -525,7 +526,7 @@ pub fn find_row(
     ensures { λ a. ⌜ Found Form.ByRow (inputOf n (now (starts .entry)) (now (columns .entry)) [] (now (r .entry)) (now (c .entry)) []) (slotsOf 0 0 (length (now («upper_index» .entry))) «upper_values») (now («upper_starts» .exit)) (now («upper_runs» .exit)) (now («upper_index» .exit)) «upper_values» a ⌝ }
 {
     base::clear_u32(upper_starts);
-    base::clear_u16(upper_index);
+    base::clear_index(upper_index);
     begin_marks(n, c, marks);
     let mut g = no_progress();
     let mut k = 0;
@@ -563,15 +564,15 @@ pub fn find_row(
 fn shared_place(
     n: usize,
     starts: &[u32],
-    columns: &[u16],
-    r: &[u16],
+    columns: &[Index],
+    r: &[Index],
     lower_starts: &mut [u32],
     lower_runs: &mut [u32],
-    lower_index: &mut [u16],
+    lower_index: &mut [Index],
     lower_values: usize,
     upper_starts: &mut [u32],
     upper_runs: &mut [u32],
-    upper_index: &mut [u16],
+    upper_index: &mut [Index],
     upper_values: usize,
     marks: &mut [u32],
     k: Place,
@@ -640,16 +641,16 @@ fn shared_place(
 pub fn find_shared(
     n: usize,
     starts: &[u32],
-    columns: &[u16],
-    r: &[u16],
-    c: &[u16],
+    columns: &[Index],
+    r: &[Index],
+    c: &[Index],
     lower_starts: &mut [u32],
     lower_runs: &mut [u32],
-    lower_index: &mut [u16],
+    lower_index: &mut [Index],
     lower_values: usize,
     upper_starts: &mut [u32],
     upper_runs: &mut [u32],
-    upper_index: &mut [u16],
+    upper_index: &mut [Index],
     upper_values: usize,
     marks: &mut [u32],
 ) -> Answer
@@ -657,9 +658,9 @@ pub fn find_shared(
     ensures { λ a. ⌜ FoundBoth Form.Shared (inputOf n (now (starts .entry)) (now (columns .entry)) [] (now (r .entry)) (now (c .entry)) []) (slotsOf (length (now («lower_index» .entry))) «lower_values» (length (now («upper_index» .entry))) «upper_values») (now («lower_starts» .exit)) (now («lower_runs» .exit)) (now («lower_index» .exit)) «lower_values» (now («upper_starts» .exit)) (now («upper_runs» .exit)) (now («upper_index» .exit)) «upper_values» a ⌝ }
 {
     base::clear_u32(lower_starts);
-    base::clear_u16(lower_index);
+    base::clear_index(lower_index);
     base::clear_u32(upper_starts);
-    base::clear_u16(upper_index);
+    base::clear_index(upper_index);
     begin_columns(n, starts, columns, r, c, marks);
     let mut g = no_progress();
     let mut k = 0;

@@ -7,7 +7,7 @@ use Rattle.matrix_file.proofs.lay_matrix.Reads as reads
 use Rattle.matrix_file.proofs.lay_matrix.Lts as lts
 use Rattle.fields.proofs.put_number.Reads as put-number-reads
 use Rattle.fields.proofs.write_f64s.Reads as write-f64s-reads
-use Rattle.fields.proofs.write_u16s.Reads as write-u16s-reads
+use Rattle.fields.proofs.write_indices.Reads as write-indices-reads
 use Rattle.fields.proofs.write_u32s.Reads as write-u32s-reads
 
 put-number-requires : tie.Need-put-number-requires
@@ -19,8 +19,8 @@ put-number-requires-2 c κs = search needs
 write-u32s-requires : tie.Need-write-u32s-requires
 write-u32s-requires c κs = search needs
 
-write-u16s-requires : tie.Need-write-u16s-requires
-write-u16s-requires c κs = search needs
+write-indices-requires : tie.Need-write-indices-requires
+write-indices-requires c κs = search needs
 
 write-f64s-requires : tie.Need-write-f64s-requires
 write-f64s-requires c κs = search needs
@@ -33,7 +33,7 @@ returns c =
     let n = c .before .before .before .before .before .before .before .before .before .before .before .before .before .before .before .before .before .before .put-number .ensures in
     let e = c .before .before .before .before .before .before .before .before .before .before .before .before .before .before .put-number2 .ensures in
     let s = c .before .before .before .before .before .before .before .before .before .before .write-u32s .ensures in
-    let j = c .before .before .before .before .before .before .write-u16s .ensures in
+    let j = c .before .before .before .before .before .before .write-indices .ensures in
     let v = c .before .before .write-f64s .ensures in
     (omega arith, laid-matrix _ _ _ _ _ _ _ _ _ _ _ (none-laid (c .before .before .before .before .before .before .before .before .before .before .before .before .before .before .before .before .before .before .before .before .before .before .before .before .args .file .now)) (n .1) (e .1) (s .1) (j .1) (v .1))
 
@@ -44,7 +44,7 @@ lay-matrix-spec =
     put-number-requires
     put-number-requires-2
     write-u32s-requires
-    write-u16s-requires
+    write-indices-requires
     write-f64s-requires
     same-length
     returns)

@@ -7,13 +7,13 @@ use Rattle.matrix_file.proofs.lay_orders.Tie as tie
 use Rattle.matrix_file.proofs.lay_orders.Reads as reads
 use Rattle.matrix_file.proofs.lay_orders.Lts as lts
 use Rattle.fields.proofs.write_f64s.Reads as write-f64s-reads
-use Rattle.fields.proofs.write_u16s.Reads as write-u16s-reads
+use Rattle.fields.proofs.write_indices.Reads as write-indices-reads
 
-write-u16s-requires : tie.Need-write-u16s-requires
-write-u16s-requires c κs = search needs
+write-indices-requires : tie.Need-write-indices-requires
+write-indices-requires c κs = search needs
 
-write-u16s-requires-2 : tie.Need-write-u16s-requires-2
-write-u16s-requires-2 c κs = search needs
+write-indices-requires-2 : tie.Need-write-indices-requires-2
+write-indices-requires-2 c κs = search needs
 
 write-f64s-requires : tie.Need-write-f64s-requires
 write-f64s-requires c κs = search needs
@@ -23,8 +23,8 @@ same-length c = search needs
 
 returns : tie.Need-returns
 returns c =
-    let r = c .before .before .before .before .before .before .before .before .before .before .write-u16s .ensures in
-    let o = c .before .before .before .before .before .before .write-u16s2 .ensures in
+    let r = c .before .before .before .before .before .before .before .before .before .before .write-indices .ensures in
+    let o = c .before .before .before .before .before .before .write-indices2 .ensures in
     let b = c .before .before .write-f64s .ensures in
     let a = c .before .before .before .before .before .before .before .before .before .before .before .before .before .before .before .before .args in
     (omega arith, laid-orders (a .r .now) _ _ (payloads (a .file .now) (a .at)) _ _ _ (r .1) (o .1) (b .1))
@@ -32,4 +32,4 @@ returns c =
 pub lay-orders-spec : {M : Type 1} → statement M
 lay-orders-spec =
     tie.close
-    (tie.spec write-u16s-requires write-u16s-requires-2 write-f64s-requires same-length returns)
+    (tie.spec write-indices-requires write-indices-requires-2 write-f64s-requires same-length returns)

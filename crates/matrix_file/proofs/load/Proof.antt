@@ -6,23 +6,23 @@ use Rattle.matrix_file.proofs.load.Tie as tie
 use Rattle.matrix_file.proofs.load.Reads as reads
 use Rattle.matrix_file.proofs.load.Lts as lts
 use Rattle.fields.proofs.read_f64s.Reads as read-f64s-reads
-use Rattle.fields.proofs.read_u16s.Reads as read-u16s-reads
+use Rattle.fields.proofs.read_indices.Reads as read-indices-reads
 use Rattle.fields.proofs.read_u32s.Reads as read-u32s-reads
 
 read-u32s-requires : tie.Need-read-u32s-requires
 read-u32s-requires c κs = search needs
 
-read-u16s-requires : tie.Need-read-u16s-requires
-read-u16s-requires c κs = search needs
+read-indices-requires : tie.Need-read-indices-requires
+read-indices-requires c κs = search needs
 
 read-f64s-requires : tie.Need-read-f64s-requires
 read-f64s-requires c κs = search needs
 
-read-u16s-requires-2 : tie.Need-read-u16s-requires-2
-read-u16s-requires-2 c κs = search needs
+read-indices-requires-2 : tie.Need-read-indices-requires-2
+read-indices-requires-2 c κs = search needs
 
-read-u16s-requires-3 : tie.Need-read-u16s-requires-3
-read-u16s-requires-3 c κs = search needs
+read-indices-requires-3 : tie.Need-read-indices-requires-3
+read-indices-requires-3 c κs = search needs
 
 read-f64s-requires-2 : tie.Need-read-f64s-requires-2
 read-f64s-requires-2 c κs = search needs
@@ -48,10 +48,10 @@ same-length-6 c = search needs
 returns : tie.Need-returns
 returns c =
     let s = c .before .before .before .before .before .before .before .before .before .before .before .before .before .before .before .before .before .before .before .before .before .before .read-u32s .ensures in
-    let j = c .before .before .before .before .before .before .before .before .before .before .before .before .before .before .before .before .before .before .read-u16s .ensures in
+    let j = c .before .before .before .before .before .before .before .before .before .before .before .before .before .before .before .before .before .before .read-indices .ensures in
     let v = c .before .before .before .before .before .before .before .before .before .before .before .before .before .before .read-f64s .ensures in
-    let r = c .before .before .before .before .before .before .before .before .before .before .read-u16s2 .ensures in
-    let o = c .before .before .before .before .before .before .read-u16s3 .ensures in
+    let r = c .before .before .before .before .before .before .before .before .before .before .read-indices2 .ensures in
+    let o = c .before .before .before .before .before .before .read-indices3 .ensures in
     let b = c .before .before .read-f64s2 .ensures in
     loaded _ _ _ _ _ _ _ _ _ _ _ _ _ _ _ _ _ _ (s .0) (s .1) (j .0) (j .1) (v .0) (v .1) (r .0) (r .1) (o .0) (o .1) (b .1)
 
@@ -60,10 +60,10 @@ load-spec =
     tie.close
     (tie.spec
     read-u32s-requires
-    read-u16s-requires
+    read-indices-requires
     read-f64s-requires
-    read-u16s-requires-2
-    read-u16s-requires-3
+    read-indices-requires-2
+    read-indices-requires-3
     read-f64s-requires-2
     same-length
     same-length-2

@@ -18,13 +18,13 @@ Branch s = s .before .before .before .before .before .before .before .before .be
 abbrev LowerStarts : tie.After-slice-known14 → tie.After-clear-u32
 LowerStarts s = s .before .before .before .before .before .before .before .before .before .before .before .before .before .before
 
-abbrev LowerIndex : tie.After-slice-known14 → tie.After-clear-u16
+abbrev LowerIndex : tie.After-slice-known14 → tie.After-clear-index
 LowerIndex s = s .before .before .before .before .before .before .before .before .before .before
 
 abbrev UpperStarts : tie.After-slice-known14 → tie.After-clear-u322
 UpperStarts s = s .before .before .before .before .before .before
 
-abbrev UpperIndex : tie.After-slice-known14 → tie.After-clear-u162
+abbrev UpperIndex : tie.After-slice-known14 → tie.After-clear-index2
 UpperIndex s = s .before .before
 
 returns : tie.Need-returns
@@ -34,8 +34,8 @@ returns c =
     let h = sym (b .before .refuses .ensures) ∙ b .if1 .taken in (
       found-none Plain _ _ _ _ _ _ _ _ _ _ _ _ _ _ _ _ _ (p .ensures) h,
       record {
-        lower = λ r. record { starts = blank-of 0 _ _ _ (p .kept .1 .1 .1 .1 .1 .0) (LowerStarts c .clear-u32 .ensures); runs = blank-none 0; index = blank-of 0 _ _ _ (p .kept .1 .1 .1 .1 .1 .1 .0) (LowerIndex c .clear-u16 .ensures); values = blank-none nought };
-        upper = λ r. record { starts = blank-of 0 _ _ _ (p .kept .1 .1 .1 .1 .1 .1 .1 .1 .0) (UpperStarts c .clear-u322 .ensures); runs = blank-none 0; index = blank-of 0 _ _ _ (p .kept .1 .1 .1 .1 .1 .1 .1 .1 .1 .0) (UpperIndex c .clear-u162 .ensures); values = blank-none nought };
+        lower = λ r. record { starts = blank-of 0 _ _ _ (p .kept .1 .1 .1 .1 .1 .0) (LowerStarts c .clear-u32 .ensures); runs = blank-none 0; index = blank-of 0 _ _ _ (p .kept .1 .1 .1 .1 .1 .1 .0) (LowerIndex c .clear-index .ensures); values = blank-none nought };
+        upper = λ r. record { starts = blank-of 0 _ _ _ (p .kept .1 .1 .1 .1 .1 .1 .1 .1 .0) (UpperStarts c .clear-u322 .ensures); runs = blank-none 0; index = blank-of 0 _ _ _ (p .kept .1 .1 .1 .1 .1 .1 .1 .1 .1 .0) (UpperIndex c .clear-index2 .ensures); values = blank-none nought };
       },
     )
 
@@ -47,9 +47,9 @@ place-plain-spec =
     tie.close
     (tie.spec (λ c κs. search needs) (λ c κs. search needs) (λ c κs. search needs) (λ c κs. search needs) (λ c κs. search needs) (λ c κs. search needs)
     (λ c. LowerStarts c .clear-u32 .kept .0 ∙ Passed (Branch c .before) .find-plain .kept .1 .1 .1 .1 .1 .0)
-    (λ c. LowerIndex c .clear-u16 .kept .0 ∙ Passed (Branch c .before) .find-plain .kept .1 .1 .1 .1 .1 .1 .0)
+    (λ c. LowerIndex c .clear-index .kept .0 ∙ Passed (Branch c .before) .find-plain .kept .1 .1 .1 .1 .1 .1 .0)
     (λ c. UpperStarts c .clear-u322 .kept .0 ∙ Passed (Branch c .before) .find-plain .kept .1 .1 .1 .1 .1 .1 .1 .1 .0)
-    (λ c. UpperIndex c .clear-u162 .kept .0 ∙ Passed (Branch c .before) .find-plain .kept .1 .1 .1 .1 .1 .1 .1 .1 .1 .0)
+    (λ c. UpperIndex c .clear-index2 .kept .0 ∙ Passed (Branch c .before) .find-plain .kept .1 .1 .1 .1 .1 .1 .1 .1 .1 .0)
     (λ c. Passed (Branch c .before) .find-plain .kept .1 .1 .1 .1 .1 .1 .1 .1 .1 .1 .1 .0)
     returns
     (λ c. Passed (c .before) .find-plain .kept .1 .1 .1 .1 .1 .0)

@@ -28,7 +28,7 @@ solve-into-requires c κs = let s = c .before .before .before .before .before .b
 returns : tie.Need-returns
 returns c =
     let z = c .before .before .before .before .before .before .before .before .before .before .before .before .before .before .before .before .before .before .before .before .before .before .before .before in
-    lent-lines _ _ _ _ _ _ _ _ _ _ _ _ _ _ (z .before .before .before .before .before .before .before .before .before .before .before .before .before .before .before .before .before .pre) (z .before .before .before .before .before .before .before .before .before .zeros-u32 .ensures .1) (z .before .before .before .before .before .before .before .before .zeros-u16 .ensures .1) (z .before .before .before .before .before .before .before .zeros-f64 .ensures .1) (z .before .before .before .before .before .before .zeros-u322 .ensures .1) (z .before .before .before .before .before .zeros-u162 .ensures .1) (z .before .before .before .before .zeros-f642 .ensures .1) (z .before .before .before .zeros-f643 .ensures .1) (z .before .before .zeros-f644 .ensures .1) (z .before .zeros-f645 .ensures .1) (z .zeros-u323 .ensures .1) (c .before .before .before .before .before .before .before .before .before .before .before .before .solve-into .ensures)
+    lent-lines _ _ _ _ _ _ _ _ _ _ _ _ _ _ (z .before .before .before .before .before .before .before .before .before .before .before .before .before .before .before .before .before .pre) (z .before .before .before .before .before .before .before .before .before .zeros-u32 .ensures .1) (z .before .before .before .before .before .before .before .before .zeros-index .ensures .1) (z .before .before .before .before .before .before .before .zeros-f64 .ensures .1) (z .before .before .before .before .before .before .zeros-u322 .ensures .1) (z .before .before .before .before .before .zeros-index2 .ensures .1) (z .before .before .before .before .zeros-f642 .ensures .1) (z .before .before .before .zeros-f643 .ensures .1) (z .before .before .zeros-f644 .ensures .1) (z .before .zeros-f645 .ensures .1) (z .zeros-u323 .ensures .1) (c .before .before .before .before .before .before .before .before .before .before .before .before .solve-into .ensures)
 
 pub solve-lines-spec : {M : Type 1} → statement M
 solve-lines-spec =

@@ -26,7 +26,7 @@ Begin b = b .before .before .before .before .before .before .before .before .bef
 
 loop-holds : tie.Need-loop-holds Inv-loop μ-loop
 loop-holds c = (
-  row-start _ _ _ _ _ _ _ _ _ (Begin c .pre) (c .before .before .before .before .before .before .before .before .before .before .before .clear-u32 .ensures) (c .before .before .before .before .before .before .before .clear-u16 .ensures) (c .before .before .before .begin-marks .ensures) _ (c .no-progress .ensures),
+  row-start _ _ _ _ _ _ _ _ _ (Begin c .pre) (c .before .before .before .before .before .before .before .before .before .before .before .clear-u32 .ensures) (c .before .before .before .before .before .before .before .clear-index .ensures) (c .before .before .before .begin-marks .ensures) _ (c .no-progress .ensures),
   refl,
   refl,
   refl,
@@ -46,13 +46,13 @@ In p = p .before .before .before .before .before
 lent : (l : tie.At-loop Inv-loop μ-loop) → let a = Begin (l .before) .args in let b = l .loop in
     (length (b .upper-starts) ≡ length (a .upper-starts .now)) × (length (b .upper-runs) ≡ length (a .upper-runs .now))
     × (length (b .upper-index) ≡ length (a .upper-index .now)) × (length (b .marks) ≡ length (a .marks .now))
-lent l = let v = l .loop .inv in (v .1 ∙ l .before .before .before .before .before .before .before .before .before .before .before .before .clear-u32 .kept .0, v .2, v .3 ∙ l .before .before .before .before .before .before .before .before .clear-u16 .kept .0, v .4 ∙ l .before .before .before .before .begin-marks .kept .1 .1 .0)
+lent l = let v = l .loop .inv in (v .1 ∙ l .before .before .before .before .before .before .before .before .before .before .before .before .clear-u32 .kept .0, v .2, v .3 ∙ l .before .before .before .before .before .before .before .before .clear-index .kept .0, v .4 ∙ l .before .before .before .before .begin-marks .kept .1 .1 .0)
 
 returns : tie.Need-returns Inv-loop μ-loop
 returns c =
     let p = c .before .before .before .before .before .before .before .before .before .before .before in
     let b = In p .before .before in
-    found-stop ByRow _ [] 0 (b .before .before .before .before .before .before .before .clear-u16 .last .0) _ 0 _ refl (b .before .before .before .before .before .before .before .clear-u16 .kept .0) _
+    found-stop ByRow _ [] 0 (b .before .before .before .before .before .before .before .clear-index .last .0) _ 0 _ refl (b .before .before .before .before .before .before .before .clear-index .kept .0) _
     (told (TurnEnds ByRow _ _ _ _ _ _ _ _ _ _ _ _ _) (c .before .turned2 .given .1) (p .row-place .ensures _ _ _ (In p .before .loop .inv .0))) _ _ _
 
 add-k : tie.Need-add-k Inv-loop μ-loop
@@ -76,7 +76,7 @@ loop-again c =
 returns-2 : tie.Need-returns-2 Inv-loop μ-loop
 returns-2 c =
     let l = c .before .before in
-    found-end ByRow _ _ _ _ _ _ _ _ _ _ _ _ _ _ _ _ _ refl (l .before .before .before .before .before .before .before .before .clear-u16 .kept .0) (l .loop .inv .0) (c .before .loop-test .left) (c .counts-at .ensures) tt
+    found-end ByRow _ _ _ _ _ _ _ _ _ _ _ _ _ _ _ _ _ refl (l .before .before .before .before .before .before .before .before .clear-index .kept .0) (l .loop .inv .0) (c .before .loop-test .left) (c .counts-at .ensures) tt
 
 -- the place that ended the pass
 abbrev Last : tie.After-known-told2 Inv-loop μ-loop → tie.After-row-place Inv-loop μ-loop

@@ -4,10 +4,10 @@ use Rattle.base.specs.TableLaws.{Filling, fill-more, fill-end}
 use Rattle.fields.specs.Payload.{fieldAt, fieldsAt}
 use borrow.Author.Needs.{needs}
 use native.Mathlib.Omega.{arith}
-use Rattle.fields.proofs.read_u16s.Statement.{statement}
-use Rattle.fields.proofs.read_u16s.Tie as tie
-use Rattle.fields.proofs.read_u16s.Reads as reads
-use Rattle.fields.proofs.read_u16s.Lts as lts
+use Rattle.fields.proofs.read_indices.Statement.{statement}
+use Rattle.fields.proofs.read_indices.Tie as tie
+use Rattle.fields.proofs.read_indices.Reads as reads
+use Rattle.fields.proofs.read_indices.Lts as lts
 use Rattle.fields.proofs.number_at.Reads as number-at-reads
 
 abbrev Inv-loop : tie.InvT-loop
@@ -60,8 +60,8 @@ returns : tie.Need-returns Inv-loop μ-loop
 unfolding fieldsAt
 returns c = (search needs, fill-end _ _ _ _ (c .loop-test .left) (c .before .loop .inv))
 
-pub read-u16s-spec : {M : Type 1} → statement M
-read-u16s-spec =
+pub read-indices-spec : {M : Type 1} → statement M
+read-indices-spec =
     tie.close
     (tie.spec
     Inv-loop

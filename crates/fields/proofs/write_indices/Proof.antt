@@ -4,10 +4,10 @@ use lib.ListN.{length}
 use Rattle.fields.proofs.PutLaws.{Writing, write-start, write-more, write-end}
 use borrow.Author.Needs.{needs}
 use native.Mathlib.Omega.{arith}
-use Rattle.fields.proofs.write_u16s.Statement.{statement}
-use Rattle.fields.proofs.write_u16s.Tie as tie
-use Rattle.fields.proofs.write_u16s.Reads as reads
-use Rattle.fields.proofs.write_u16s.Lts as lts
+use Rattle.fields.proofs.write_indices.Statement.{statement}
+use Rattle.fields.proofs.write_indices.Tie as tie
+use Rattle.fields.proofs.write_indices.Reads as reads
+use Rattle.fields.proofs.write_indices.Lts as lts
 use Rattle.fields.proofs.put_number.Reads as put-number-reads
 
 abbrev Inv-loop : tie.InvT-loop
@@ -48,8 +48,8 @@ same-length c = search needs
 returns : tie.Need-returns Inv-loop μ-loop
 returns c = write-end _ _ _ _ _ _ _ (c .loop-test .left) (c .before .loop .inv)
 
-pub write-u16s-spec : {M : Type 1} → statement M
-write-u16s-spec =
+pub write-indices-spec : {M : Type 1} → statement M
+write-indices-spec =
     tie.close
     (tie.spec
     Inv-loop

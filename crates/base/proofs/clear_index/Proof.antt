@@ -4,10 +4,10 @@ use native.Mathlib.Omega.{arith}
 use borrow.Author.Needs.{needs}
 use lib.ListN.{length, length-set}
 use Rattle.base.specs.ZerosLaws.{filling, filling-none, filling-more, filling-all}
-use Rattle.base.proofs.clear_u16.Statement.{statement}
-use Rattle.base.proofs.clear_u16.Tie as tie
-use Rattle.base.proofs.clear_u16.Reads as reads
-use Rattle.base.proofs.clear_u16.Lts as lts
+use Rattle.base.proofs.clear_index.Statement.{statement}
+use Rattle.base.proofs.clear_index.Tie as tie
+use Rattle.base.proofs.clear_index.Reads as reads
+use Rattle.base.proofs.clear_index.Lts as lts
 
 abbrev Inv-loop : tie.InvT-loop
 Inv-loop s₀ i₀ s i = (i ≤ length s₀) × (length s ≡ length s₀) × (s ≡ filling 0 s₀ i)
@@ -40,8 +40,8 @@ same-length c = search needs
 returns : tie.Need-returns Inv-loop μ-loop
 returns c = filling-all 0 _ _ (c .before .loop .i) (search needs) (c .before .loop .inv .0) (c .before .loop .inv .2)
 
-pub clear-u16-spec : {M : Type 1} → statement M
-clear-u16-spec =
+pub clear-index-spec : {M : Type 1} → statement M
+clear-index-spec =
     tie.close
     (tie.spec
     Inv-loop

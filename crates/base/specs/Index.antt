@@ -1,0 +1,5 @@
+-- The width of an index number: `Index` of src/ holds the numbers below this bound. Definitions only.
+use Prim.Native.Nat.{ℕ}
+
+abbrev pub indexBound : ℕ
+indexBound = 65536
