@@ -1,6 +1,7 @@
 pub mod Lists
 pub mod First
 pub mod Index
+pub mod Limits
 pub mod Scratch
 pub mod All
 pub mod AllLaws

@@ -7,7 +7,7 @@ use Prim.Native.Nat.{ℕ}
 use native.Mathlib.Omega.{arith}
 use Rattle.base.specs.All.{all}
 use Rattle.base.specs.Answers.{numberOf, holds}
-use Rattle.matrix.specs.Limits.{rowsWithin}
+use Rattle.base.specs.Limits.{rowsWithin}
 use Rattle.matrix.specs.Input.{Input}
 use Rattle.outcome.specs.Buffers.{Buffers, askShape, Outcome, ended, stop}
 use Rattle.outcome.specs.Structure.{structure}

@@ -13,6 +13,7 @@ use Rattle.base.specs.declared.Place.{Place}
 use Rattle.matrix.specs.Input.{placeAt}
 use Rattle.marks.specs.Marks.{Room, Below, markAt, stamped}
 use Rattle.columns.specs.Columns.{orderOf, Outside, Kept, Unmarked, Steady, Order, RowIn, Given, placed, rowsOf}
+use Rattle.base.specs.Scratch.{blocksFrom, headsFrom}
 
 -- ---- slots that are not written
 
@@ -38,7 +39,7 @@ module _ {a b c d : ℕ} where
       go y p q (yes e) = rw e (getD-set-same u x v 0 (omega (arith, k .size)) ∙ sym (getD-set-same s x v 0 h))
       go y p q (no e) = getD-set-other u x y v 0 e ∙ k .slots y p q ∙ sym (getD-set-other s x y v 0 e)
 
-  order-outside : (n : ℕ) {s u : List ℕ} → ((x : ℕ) → n ≤ x → x < n + n → (a ≤ x → b ≤ x) × (c ≤ x → d ≤ x)) → Outside a b c d s u → orderOf n u ≡ orderOf n s
+  order-outside : (n : ℕ) {s u : List ℕ} → ((x : ℕ) → n ≤ x → x < blocksFrom n → (a ≤ x → b ≤ x) × (c ≤ x → d ≤ x)) → Outside a b c d s u → orderOf n u ≡ orderOf n s
   unfolding orderOf
   order-outside n {s} {u} h k =
       let z = k .size in
@@ -59,7 +60,7 @@ kept-wider n lo hi lo′ hi′ l h k = record { size = k .size; slots = λ x p q
 
 pub steady-unmarked : (n k : ℕ) {s u : List ℕ} → Unmarked n s u → Steady n k s u
 steady-unmarked n k h = record {
-  heads = λ j a b. h .slots (4 * n + j) (λ g. omega arith) (λ g. omega arith);
+  heads = λ j a b. h .slots (headsFrom n + j) (λ g. omega arith) (λ g. omega arith);
   nodes = λ x a b. h .slots x (λ g. omega arith) (λ g. omega arith);
 }
 
@@ -142,7 +143,7 @@ stamped-length n t s (j ∷ l) = stamped-length n t (markAt n t s j) l ∙ simp 
 
 pub unmarked-mark : (n t : ℕ) (s : List ℕ) (j : ℕ) → j < n → Unmarked n s (markAt n t s j)
 unmarked-mark n t s j h =
-    then (stored s j t (λ y p q e. omega (arith, p (omega arith)))) (stored (set s j t) (n + n + j / 64) t (λ y p q e. omega (arith, q (omega arith))))
+    then (stored s j t (λ y p q e. omega (arith, p (omega arith)))) (stored (set s j t) (blocksFrom n + j / 64) t (λ y p q e. omega (arith, q (omega arith))))
 
 -- what every mark below n keeps, stamping a list keeps
 pub stamped-keeps : (P : List ℕ → Type 0) (n t : ℕ) → ((u : List ℕ) (j : ℕ) → j < n → P u → P (markAt n t u j))
@@ -162,7 +163,7 @@ both-stamped n t s u (j ∷ l) sp h k =
     let g : j < n = h 0 (omega arith) in
     let f = sp .long in
     both-stamped n t (markAt n t s j) (markAt n t u j) l (space-kept (simp length-set) sp) (λ p a. h (suc p) (omega arith))
-    (both (set s j t) (set u j t) (n + n + j / 64) t (simp length-set (omega arith)) (both s u j t (omega arith) k))
+    (both (set s j t) (set u j t) (blocksFrom n + j / 64) t (simp length-set (omega arith)) (both s u j t (omega arith) k))
 
 pub stamped-cons : (n t j : ℕ) (s l : List ℕ) → stamped n t s (j ∷ l) ≡ stamped n t (markAt n t s j) l
 unfolding stamped

@@ -12,14 +12,15 @@ use Rattle.marks.specs.Marks.{Room, markAt, stamped}
 use Rattle.columns.specs.Columns.{Kept, Steady, hits, Chain, none, node, HasChain, Lists, Listed, Roomy, pushAt, Offered}
 use Rattle.columns.proofs.Keeps.{same, then, stored, unmarked-mark, stamped-cons, stamped-none}
 use Rattle.columns.proofs.ColumnLaws.{hits-there, hits-more, hits-part, grown-start, grown-more, grown-end, held-one, held-ext, held-at-most}
+use Rattle.base.specs.Scratch.{headsFrom, nodesFrom}
 
 -- ---- frames
 
-pub chain-frame : {n : ℕ} {s u : List ℕ} {h : ℕ} {l : List ℕ} → ((x : ℕ) → 6 * n ≤ x → x < 6 * n + (h + h) → getD u x 0 ≡ getD s x 0)
+pub chain-frame : {n : ℕ} {s u : List ℕ} {h : ℕ} {l : List ℕ} → ((x : ℕ) → nodesFrom n ≤ x → x < nodesFrom n + (h + h) → getD u x 0 ≡ getD s x 0)
     → Chain n s h l → Chain n u h l
 chain-frame k none = none
 chain-frame {n} k (node {q} {h} lo le ei eh c) =
-    node lo le (k (6 * n + (q + q)) (omega arith) (omega arith) ∙ ei) (k (6 * n + (q + q) + 1) (omega arith) (omega arith) ∙ eh)
+    node lo le (k (nodesFrom n + (q + q)) (omega arith) (omega arith) ∙ ei) (k (nodesFrom n + (q + q) + 1) (omega arith) (omega arith) ∙ eh)
     (chain-frame (λ x p r. k x p (omega arith)) c)
 
 pub lists-frame : {n lo hi : ℕ} {s u : List ℕ} {f : ℕ → List ℕ} → hi ≤ n → Steady n lo s u → Lists n lo hi s n f → Lists n lo hi u n f
@@ -34,34 +35,34 @@ push-length : (n p i j : ℕ) (s : List ℕ) → length (pushAt n p i j s) ≡ l
 push-length n p i j s = simp length-set
 
 -- another slot
-push-other : (n p i j x : ℕ) (s : List ℕ) → (x ≡ 4 * n + j → ⊥) → (x ≡ 6 * n + (p + p) → ⊥) → (x ≡ 6 * n + (p + p) + 1 → ⊥)
+push-other : (n p i j x : ℕ) (s : List ℕ) → (x ≡ headsFrom n + j → ⊥) → (x ≡ nodesFrom n + (p + p) → ⊥) → (x ≡ nodesFrom n + (p + p) + 1 → ⊥)
     → getD (pushAt n p i j s) x 0 ≡ getD s x 0
 push-other n p i j x s a b c =
-    let b₁ = 6 * n + (p + p) in
-    getD-set-other (set (set s b₁ i) (b₁ + 1) (getD s (4 * n + j) 0)) (4 * n + j) x (p + 1) 0 a
-    ∙ getD-set-other (set s b₁ i) (b₁ + 1) x (getD s (4 * n + j) 0) 0 c ∙ getD-set-other s b₁ x i 0 b
+    let b₁ = nodesFrom n + (p + p) in
+    getD-set-other (set (set s b₁ i) (b₁ + 1) (getD s (headsFrom n + j) 0)) (headsFrom n + j) x (p + 1) 0 a
+    ∙ getD-set-other (set s b₁ i) (b₁ + 1) x (getD s (headsFrom n + j) 0) 0 c ∙ getD-set-other s b₁ x i 0 b
 
 head-chain : {n : ℕ} {s l : List ℕ} {p h : ℕ} → h ≡ p + 1 → Chain n s (suc p) l → Chain n s h l
 head-chain {p = p} e c = rw (e, add-one p) c
 
 module _ (n p i j : ℕ) (s : List ℕ) (sp : Room n s) (hj : j < n) (hp : p < n) where
-  push-head : getD (pushAt n p i j s) (4 * n + j) 0 ≡ p + 1
+  push-head : getD (pushAt n p i j s) (headsFrom n + j) 0 ≡ p + 1
   push-head =
-      getD-set-same (set (set s (6 * n + (p + p)) i) (6 * n + (p + p) + 1) (getD s (4 * n + j) 0)) (4 * n + j) (p + 1) 0
+      getD-set-same (set (set s (nodesFrom n + (p + p)) i) (nodesFrom n + (p + p) + 1) (getD s (headsFrom n + j) 0)) (headsFrom n + j) (p + 1) 0
       (simp length-set (omega (arith, sp .long)))
 
-  push-row : getD (pushAt n p i j s) (6 * n + (p + p)) 0 ≡ i
+  push-row : getD (pushAt n p i j s) (nodesFrom n + (p + p)) 0 ≡ i
   push-row =
-      let b₁ = 6 * n + (p + p) in
-      getD-set-other (set (set s b₁ i) (b₁ + 1) (getD s (4 * n + j) 0)) (4 * n + j) b₁ (p + 1) 0 (omega arith)
-      ∙ getD-set-other (set s b₁ i) (b₁ + 1) b₁ (getD s (4 * n + j) 0) 0 (omega arith)
+      let b₁ = nodesFrom n + (p + p) in
+      getD-set-other (set (set s b₁ i) (b₁ + 1) (getD s (headsFrom n + j) 0)) (headsFrom n + j) b₁ (p + 1) 0 (omega arith)
+      ∙ getD-set-other (set s b₁ i) (b₁ + 1) b₁ (getD s (headsFrom n + j) 0) 0 (omega arith)
       ∙ getD-set-same s b₁ i 0 (omega (arith, sp .long))
 
-  push-rest : getD (pushAt n p i j s) (6 * n + (p + p) + 1) 0 ≡ getD s (4 * n + j) 0
+  push-rest : getD (pushAt n p i j s) (nodesFrom n + (p + p) + 1) 0 ≡ getD s (headsFrom n + j) 0
   push-rest =
-      let b₁ = 6 * n + (p + p) in
-      getD-set-other (set (set s b₁ i) (b₁ + 1) (getD s (4 * n + j) 0)) (4 * n + j) (b₁ + 1) (p + 1) 0 (omega arith)
-      ∙ getD-set-same (set s b₁ i) (b₁ + 1) (getD s (4 * n + j) 0) 0 (simp length-set (omega (arith, sp .long)))
+      let b₁ = nodesFrom n + (p + p) in
+      getD-set-other (set (set s b₁ i) (b₁ + 1) (getD s (headsFrom n + j) 0)) (headsFrom n + j) (b₁ + 1) (p + 1) 0 (omega arith)
+      ∙ getD-set-same (set s b₁ i) (b₁ + 1) (getD s (headsFrom n + j) 0) 0 (simp length-set (omega (arith, sp .long)))
 
   -- nodes below p, and other heads
   push-chain : {h : ℕ} {l : List ℕ} → h ≤ p → Chain n s h l → Chain n (pushAt n p i j s) h l
@@ -69,24 +70,24 @@ module _ (n p i j : ℕ) (s : List ℕ) (sp : Room n s) (hj : j < n) (hp : p < n
 
   pub push-kept : (lo hi : ℕ) → lo ≤ j → j < hi → Kept n lo hi s (pushAt n p i j s)
   push-kept lo hi a b =
-      then (stored s (6 * n + (p + p)) i (λ y x q e. omega (arith, q (omega arith))))
-      (then (stored (set s (6 * n + (p + p)) i) (6 * n + (p + p) + 1) (getD s (4 * n + j) 0) (λ y x q e. omega (arith, q (omega arith))))
-      (stored (set (set s (6 * n + (p + p)) i) (6 * n + (p + p) + 1) (getD s (4 * n + j) 0)) (4 * n + j) (p + 1) (λ y x q e. omega (arith, x (omega arith)))))
+      then (stored s (nodesFrom n + (p + p)) i (λ y x q e. omega (arith, q (omega arith))))
+      (then (stored (set s (nodesFrom n + (p + p)) i) (nodesFrom n + (p + p) + 1) (getD s (headsFrom n + j) 0) (λ y x q e. omega (arith, q (omega arith))))
+      (stored (set (set s (nodesFrom n + (p + p)) i) (nodesFrom n + (p + p) + 1) (getD s (headsFrom n + j) 0)) (headsFrom n + j) (p + 1) (λ y x q e. omega (arith, x (omega arith)))))
 
   pub push-lists : (lo hi : ℕ) (f : ℕ → List ℕ) → i < n → lo ≤ j → j < hi → hi ≤ n → Lists n lo hi s p f → Lists n lo hi (pushAt n p i j s) (p + 1) (hits i (j ∷ []) f)
   unfolding hits
   push-lists lo hi f hi′ hl hh hn l = record { chain = λ x a b. chain-at x a b (ℕ-discrete j x); heads = λ x a b. head-at x a b (ℕ-discrete j x) }
     where
-      other : (x : ℕ) → x < n → (j ≡ x → ⊥) → getD (pushAt n p i j s) (4 * n + x) 0 ≡ getD s (4 * n + x) 0
-      other x a q = push-other n p i j (4 * n + x) s (λ e. q (omega arith)) (omega arith) (omega arith)
+      other : (x : ℕ) → x < n → (j ≡ x → ⊥) → getD (pushAt n p i j s) (headsFrom n + x) 0 ≡ getD s (headsFrom n + x) 0
+      other x a q = push-other n p i j (headsFrom n + x) s (λ e. q (omega arith)) (omega arith) (omega arith)
 
-      chain-at : (x : ℕ) → lo ≤ x → x < hi → Dec (j ≡ x) → Chain n (pushAt n p i j s) (getD (pushAt n p i j s) (4 * n + x) 0) (hits i (j ∷ []) f x)
+      chain-at : (x : ℕ) → lo ≤ x → x < hi → Dec (j ≡ x) → Chain n (pushAt n p i j s) (getD (pushAt n p i j s) (headsFrom n + x) 0) (hits i (j ∷ []) f x)
       chain-at x a b (yes q) =
           rw (eq-eqb j x q, ← q)
           (head-chain push-head (node hi′ (l .heads j hl hh) push-row push-rest (push-chain (l .heads j hl hh) (l .chain j hl hh))))
       chain-at x a b (no q) = rw (ne-eqb j x q, other x (omega arith) q) (push-chain (l .heads x a b) (l .chain x a b))
 
-      head-at : (x : ℕ) → lo ≤ x → x < hi → Dec (j ≡ x) → getD (pushAt n p i j s) (4 * n + x) 0 ≤ p + 1
+      head-at : (x : ℕ) → lo ≤ x → x < hi → Dec (j ≡ x) → getD (pushAt n p i j s) (headsFrom n + x) 0 ≤ p + 1
       head-at x a b (yes q) = rw (← q) (omega (arith, push-head))
       head-at x a b (no q) = omega (arith, other x (omega arith) q, l .heads x a b)
 
@@ -152,10 +153,10 @@ row-end q xs e a = record { kept = a .kept; grown = grown-end q xs e (a .grown) 
 -- the first node of a chain
 pub record Node (n : ℕ) (s : List ℕ) (h : ℕ) (l : List ℕ) : Type 0 where
   pub rest : List ℕ
-  pub row : getD s (6 * n + (h - 1 + (h - 1))) 0 < n
-  pub next : getD s (6 * n + (h - 1 + (h - 1)) + 1) 0 < h
-  pub list : l ≡ getD s (6 * n + (h - 1 + (h - 1))) 0 ∷ rest
-  pub chain : Chain n s (getD s (6 * n + (h - 1 + (h - 1)) + 1) 0) rest
+  pub row : getD s (nodesFrom n + (h - 1 + (h - 1))) 0 < n
+  pub next : getD s (nodesFrom n + (h - 1 + (h - 1)) + 1) 0 < h
+  pub list : l ≡ getD s (nodesFrom n + (h - 1 + (h - 1))) 0 ∷ rest
+  pub chain : Chain n s (getD s (nodesFrom n + (h - 1 + (h - 1)) + 1) 0) rest
 
 first-node : {n : ℕ} {s : List ℕ} {h : ℕ} {l : List ℕ} → 0 < h → Chain n s h l → Node n s h l
 first-node z none = absurd (omega arith)
@@ -169,8 +170,8 @@ pub record Left (n t h : ℕ) (s e : List ℕ) : Type 0 where
   pub chain : Chain n s h rest
   pub same : stamped n t s rest ≡ e
 
-left-more : (n t h i g : ℕ) (s u e : List ℕ) → 0 < h → h ≤ n → i ≡ getD s (6 * n + (h - 1 + (h - 1))) 0
-    → g ≡ getD s (6 * n + (h - 1 + (h - 1)) + 1) 0 → u ≡ markAt n t s i → Left n t h s e → Left n t g u e
+left-more : (n t h i g : ℕ) (s u e : List ℕ) → 0 < h → h ≤ n → i ≡ getD s (nodesFrom n + (h - 1 + (h - 1))) 0
+    → g ≡ getD s (nodesFrom n + (h - 1 + (h - 1)) + 1) 0 → u ≡ markAt n t s i → Left n t h s e → Left n t g u e
 left-more n t h i g s u e z hn ei eg eu l =
     let d = first-node z (l .chain) in
     let k = unmarked-mark n t s i (omega (arith, d .row)) in
@@ -202,7 +203,7 @@ pub walk-node : {n t head h : ℕ} {s₀ s : List ℕ} (w : Walk n t head h s₀
 walk-node w k z = first-node z (w .left (k .list) (k .chain) .chain)
 
 pub walk-more : {n t head h i g : ℕ} {s₀ s u : List ℕ} → HasChain n s₀ head → 0 < h
-    → i ≡ getD s (6 * n + (h - 1 + (h - 1))) 0 → g ≡ getD s (6 * n + (h - 1 + (h - 1)) + 1) 0 → u ≡ markAt n t s i
+    → i ≡ getD s (nodesFrom n + (h - 1 + (h - 1))) 0 → g ≡ getD s (nodesFrom n + (h - 1 + (h - 1)) + 1) 0 → u ≡ markAt n t s i
     → Walk n t head h s₀ s → Walk n t head g s₀ u
 walk-more {n} {t} {head} {h} {i} {g} {s₀} {s} {u} k z ei eg eu w =
     let d = walk-node w k z in

@@ -20,6 +20,7 @@ use Rattle.columns.specs.Sides.{sidePattern, sideRow, SideLoaded, Distin
 use Rattle.columns.proofs.Keeps.{placed-at, placed-length, stamped-keeps, space-kept}
 use Rattle.columns.proofs.ColumnLaws.{hits-bit, hits-none, column-zero, column-suc, bare-length}
 use Rattle.columns.proofs.SideLaws.{side-marks, side-below}
+use Rattle.base.specs.Scratch.{blocksFrom, upperCuts, regionsEnd}
 
 -- ---- a column's members
 
@@ -155,7 +156,7 @@ module _ (i : Input) (s : List ℕ) (sound : Sound i) (inverse : Inverse i s) wh
 -- ---- the marks as a set
 
 mark-at : (n t : ℕ) (s : List ℕ) (x j : ℕ) → Room n s → x < n → j < n → eqb (getD (markAt n t s x) j 0) t ≡ (eqb x j || eqb (getD s j 0) t)
-mark-at n t s x j sp h g = rw (getD-set-other (set s x t) (n + n + x / 64) j t 0 (omega arith)) (go (ℕ-discrete x j))
+mark-at n t s x j sp h g = rw (getD-set-other (set s x t) (blocksFrom n + x / 64) j t 0 (omega arith)) (go (ℕ-discrete x j))
   where
     go : Dec (x ≡ j) → eqb (getD (set s x t) j 0) t ≡ (eqb x j || eqb (getD s j 0) t)
     go (yes e) = rw (eq-eqb x j e, ← e, getD-set-same s x t 0 (omega (arith, sp .long))) (eq-eqb t t refl)
@@ -180,16 +181,16 @@ record Blocked (n t : ℕ) (s : List ℕ) : Type 0 where
   pub blocks : Blocks n t s
 
 blocked-mark : (n t : ℕ) (s : List ℕ) (x : ℕ) → x < n → Blocked n t s → Blocked n t (markAt n t s x)
-blocked-mark n t s x h k = record { space = space-kept (simp length-set) (k .space); blocks = λ j g e. go j g e (ℕ-discrete (n + n + j / 64) (n + n + x / 64)) }
+blocked-mark n t s x h k = record { space = space-kept (simp length-set) (k .space); blocks = λ j g e. go j g e (ℕ-discrete (blocksFrom n + j / 64) (blocksFrom n + x / 64)) }
   where
-    f : 8 * n ≤ length s
+    f : regionsEnd n ≤ length s
     f = k .space .long
 
-    go : (j : ℕ) → j < n → getD (markAt n t s x) j 0 ≡ t → Dec (n + n + j / 64 ≡ n + n + x / 64) → getD (markAt n t s x) (n + n + j / 64) 0 ≡ t
-    go j g e (yes q) = rw q (getD-set-same (set s x t) (n + n + x / 64) t 0 (simp length-set (omega arith)))
+    go : (j : ℕ) → j < n → getD (markAt n t s x) j 0 ≡ t → Dec (blocksFrom n + j / 64 ≡ blocksFrom n + x / 64) → getD (markAt n t s x) (blocksFrom n + j / 64) 0 ≡ t
+    go j g e (yes q) = rw q (getD-set-same (set s x t) (blocksFrom n + x / 64) t 0 (simp length-set (omega arith)))
     go j g e (no q) =
-        getD-set-other (set s x t) (n + n + x / 64) (n + n + j / 64) t 0 q ∙ getD-set-other s x (n + n + j / 64) t 0 (omega arith)
-        ∙ k .blocks j g (sym (getD-set-other (set s x t) (n + n + x / 64) j t 0 (omega arith) ∙ getD-set-other s x j t 0 (λ v. q (ap (λ m. n + n + m / 64) v))) ∙ e)
+        getD-set-other (set s x t) (blocksFrom n + x / 64) (blocksFrom n + j / 64) t 0 q ∙ getD-set-other s x (blocksFrom n + j / 64) t 0 (omega arith)
+        ∙ k .blocks j g (sym (getD-set-other (set s x t) (blocksFrom n + x / 64) j t 0 (omega arith) ∙ getD-set-other s x j t 0 (λ v. q (ap (λ m. blocksFrom n + m / 64) v))) ∙ e)
 
 -- after a load the marks are exactly row k of the side's pattern, and their blocks are stamped
 module _ (i : Input) (side : Side) (t k hi₀ hi : ℕ) (s₀ s : List ℕ) (sound : Sound i) (inverse : Inverse i s₀) (space : Room (i .n) s₀) (place : k < i .n)
@@ -200,7 +201,7 @@ module _ (i : Input) (side : Side) (t k hi₀ hi : ℕ) (s₀ s : List ℕ) (sou
   under : Below (i .n) list
   under = side-below side (i .n) k (i .columns) (i .starts) (i .r) s₀ (given-sound i s₀ sound inverse space) place
 
-  slot : (x : ℕ) → x < 3 * i .n → getD s x 0 ≡ getD (stamped (i .n) t s₀ list) x 0
+  slot : (x : ℕ) → x < upperCuts (i .n) → getD s x 0 ≡ getD (stamped (i .n) t s₀ list) x 0
   slot x h = side-marks side (i .n) t k hi₀ hi (rowsIn i s₀) s₀ s loaded .slots x (λ a. omega arith) (λ a. omega arith)
 
   pub side-set : (j : ℕ) → j < i .n → eqb (getD s j 0) t ≡ sidePattern side (stored i) k j
@@ -214,4 +215,4 @@ module _ (i : Input) (side : Side) (t k hi₀ hi : ℕ) (s₀ s : List ℕ) (sou
   side-blocks j h e =
       let b = stamped-keeps (Blocked (i .n) t) (i .n) t (λ u x g p. blocked-mark (i .n) t u x g p) s₀ list under
       (record { space = space; blocks = λ x g v. absurd (omega (arith, fresh x g)) }) in
-      slot (i .n + i .n + j / 64) (omega arith) ∙ b .blocks j h (sym (slot j (omega arith)) ∙ e)
+      slot (blocksFrom (i .n) + j / 64) (omega arith) ∙ b .blocks j h (sym (slot j (omega arith)) ∙ e)

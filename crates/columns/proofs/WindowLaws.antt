@@ -13,26 +13,27 @@ use Rattle.columns.specs.Columns.{orderOf, Kept, Steady, rowsOf, hits, b
 use Rattle.columns.proofs.Keeps.{same, then, stored, order-kept, kept-wider, steady-unmarked, unmarked-stamped, both-stamped}
 use Rattle.columns.proofs.ColumnLaws.{hits-here, hits-there, hits-more, hits-part, grown-start, grown-more, grown-end, column-zero, column-more, column-part, bare-length, below-column, held-at-most}
 use Rattle.columns.proofs.ListLaws.{lists-frame}
+use Rattle.base.specs.Scratch.{headsFrom}
 
 -- ---- counting
 
 -- a head written
-pub head-kept : (n lo hi j v : ℕ) (s : List ℕ) → lo ≤ j → j < hi → hi ≤ n → Kept n lo hi s (set s (4 * n + j) v)
-head-kept n lo hi j v s a b h = stored s (4 * n + j) v (λ y p q e. omega (arith, p (omega arith)))
+pub head-kept : (n lo hi j v : ℕ) (s : List ℕ) → lo ≤ j → j < hi → hi ≤ n → Kept n lo hi s (set s (headsFrom n + j) v)
+head-kept n lo hi j v s a b h = stored s (headsFrom n + j) v (λ y p q e. omega (arith, p (omega arith)))
 
 pub record Clearing (n i : ℕ) (s₀ s : List ℕ) : Type 0 where
   pub kept : Kept n 0 n s₀ s
-  pub zero : (j : ℕ) → j < i → getD s (4 * n + j) 0 ≡ 0
+  pub zero : (j : ℕ) → j < i → getD s (headsFrom n + j) 0 ≡ 0
 
 pub clear-start : (n : ℕ) (s : List ℕ) → Clearing n 0 s s
 clear-start n s = record { kept = same s; zero = λ j h. absurd (omega arith) }
 
-pub clear-more : {n i : ℕ} {s₀ s : List ℕ} → Room n s₀ → i < n → Clearing n i s₀ s → Clearing n (i + 1) s₀ (set s (4 * n + i) 0)
+pub clear-more : {n i : ℕ} {s₀ s : List ℕ} → Room n s₀ → i < n → Clearing n i s₀ s → Clearing n (i + 1) s₀ (set s (headsFrom n + i) 0)
 clear-more {n} {i} {s₀} {s} sp h c = record {
   kept = then (c .kept) (head-kept n 0 n i 0 s (omega arith) h (omega arith));
   zero = λ j g. elim (ℕ-discrete j i) [
-    | yes e ↦ rw e (getD-set-same s (4 * n + i) 0 0 (omega (arith, sp .long, c .kept .size)))
-    | no e ↦ getD-set-other s (4 * n + i) (4 * n + j) 0 0 (omega arith) ∙ c .zero j (omega arith)
+    | yes e ↦ rw e (getD-set-same s (headsFrom n + i) 0 0 (omega (arith, sp .long, c .kept .size)))
+    | no e ↦ getD-set-other s (headsFrom n + i) (headsFrom n + j) 0 0 (omega arith) ∙ c .zero j (omega arith)
   ];
 }
 
@@ -40,14 +41,14 @@ pub clear-end : {n i : ℕ} {s₀ s : List ℕ} → n ≤ i → Clearing n i s�
 clear-end h c = record { kept = c .kept; counts = record { slot = λ j a b. c .zero j (omega arith) ∙ sym (bare-length j) } }
 
 -- one entry counted
-pub one-counted : {n j : ℕ} {s u : List ℕ} → Room n s → j < n → u ≡ set s (4 * n + j) (getD s (4 * n + j) 0 + 1) → Counted n (j ∷ []) s u
+pub one-counted : {n j : ℕ} {s u : List ℕ} → Room n s → j < n → u ≡ set s (headsFrom n + j) (getD s (headsFrom n + j) 0 + 1) → Counted n (j ∷ []) s u
 one-counted {n} {j} {s} sp h e = rw e (record {
-  kept = head-kept n 0 n j (getD s (4 * n + j) 0 + 1) s (omega arith) h (omega arith);
+  kept = head-kept n 0 n j (getD s (headsFrom n + j) 0 + 1) s (omega arith) h (omega arith);
   grown = λ i. record {
     grow = λ f c. record {
       slot = λ x a b. elim (ℕ-discrete x j) [
-        | yes q ↦ rw q (getD-set-same s (4 * n + j) (getD s (4 * n + j) 0 + 1) 0 (omega (arith, sp .long)) ∙ omega (arith, c .slot j (omega arith) h, hits-here i j f))
-        | no q ↦ getD-set-other s (4 * n + j) (4 * n + x) (getD s (4 * n + j) 0 + 1) 0 (omega arith) ∙ c .slot x a b ∙ ap length (sym (hits-there i j f x (λ v. q (sym v))))
+        | yes q ↦ rw q (getD-set-same s (headsFrom n + j) (getD s (headsFrom n + j) 0 + 1) 0 (omega (arith, sp .long)) ∙ omega (arith, c .slot j (omega arith) h, hits-here i j f))
+        | no q ↦ getD-set-other s (headsFrom n + j) (headsFrom n + x) (getD s (headsFrom n + j) 0 + 1) 0 (omega arith) ∙ c .slot x a b ∙ ap length (sym (hits-there i j f x (λ v. q (sym v))))
       ];
     };
   };
@@ -64,7 +65,7 @@ pub count-end : {n : ℕ} {s₀ s : List ℕ} (q : ℕ) (xs : List ℕ) → leng
 count-end q xs e a = record { kept = a .kept; grown = λ i. grown-end q xs e (a .grown i) }
 
 pub count-room : {n j : ℕ} {s₀ s : List ℕ} (q : ℕ) (xs : List ℕ) → q < length xs → j ≡ getD xs q 0 → j < n → Countable n xs s₀ → Counted n (take q xs) s₀ s
-    → getD s (4 * n + j) 0 < n
+    → getD s (headsFrom n + j) 0 < n
 count-room {n} {j} q xs h e hj r a =
     let g = hits (r .row) (take q xs) (r .f) in
     let v : length (hits (r .row) (j ∷ []) g j) ≤ length (hits (r .row) xs (r .f) j)
@@ -113,7 +114,7 @@ sum-none : (f : ℕ → ℕ) → sum 0 f ≡ 0
 unfolding sum
 sum-none f = refl
 
-head-is : (n lo m j : ℕ) (s : List ℕ) → lo + m ≡ j → headAt n s lo m ≡ getD s (4 * n + j) 0
+head-is : (n lo m j : ℕ) (s : List ℕ) → lo + m ≡ j → headAt n s lo m ≡ getD s (headsFrom n + j) 0
 unfolding headAt
 head-is n lo m j s e = rw e
 
@@ -121,7 +122,7 @@ pub record Opening (n lo hi left : ℕ) (s₀ s : List ℕ) : Type 0 where
   pub kept : Kept n lo hi s₀ s
   pub least : lo ≤ hi
   pub most : hi ≤ n
-  pub zero : (j : ℕ) → lo ≤ j → j < hi → getD s (4 * n + j) 0 ≡ 0
+  pub zero : (j : ℕ) → lo ≤ j → j < hi → getD s (headsFrom n + j) 0 ≡ 0
   pub total : left + sum (hi - lo) (headAt n s₀ lo) ≡ n
 
 pub open-start : (n lo : ℕ) (s : List ℕ) → lo ≤ n → Opening n lo lo n s s
@@ -129,25 +130,25 @@ open-start n lo s h =
     let e : lo - lo ≡ 0 = omega arith in
     record { kept = same s; least = omega arith; most = h; zero = λ j a b. absurd (omega arith); total = rw e (omega (arith, sum-none (headAt n s lo))) }
 
-pub open-more : {n lo hi left c : ℕ} {s₀ s : List ℕ} → Room n s₀ → hi < n → c ≡ getD s (4 * n + hi) 0 → c ≤ left
-    → Opening n lo hi left s₀ s → Opening n lo (hi + 1) (left - c) s₀ (set s (4 * n + hi) 0)
+pub open-more : {n lo hi left c : ℕ} {s₀ s : List ℕ} → Room n s₀ → hi < n → c ≡ getD s (headsFrom n + hi) 0 → c ≤ left
+    → Opening n lo hi left s₀ s → Opening n lo (hi + 1) (left - c) s₀ (set s (headsFrom n + hi) 0)
 open-more {n} {lo} {hi} {left} {c} {s₀} {s} sp h ec hc m =
     let l = m .least in
     let d : hi + 1 - lo ≡ suc (hi - lo) = omega arith in
     let v : headAt n s₀ lo (hi - lo) ≡ c
-    = head-is n lo (hi - lo) hi s₀ (omega arith) ∙ sym (m .kept .slots (4 * n + hi) (λ g. omega arith) (λ g. omega arith)) ∙ sym ec in
+    = head-is n lo (hi - lo) hi s₀ (omega arith) ∙ sym (m .kept .slots (headsFrom n + hi) (λ g. omega arith) (λ g. omega arith)) ∙ sym ec in
     record {
       kept = then (kept-wider n lo hi lo (hi + 1) (omega arith) (omega arith) (m .kept)) (head-kept n lo (hi + 1) hi 0 s l (omega arith) (omega arith));
       least = omega arith;
       most = omega arith;
       zero = λ j a b. elim (ℕ-discrete j hi) [
-        | yes e ↦ rw e (getD-set-same s (4 * n + hi) 0 0 (omega (arith, sp .long, m .kept .size)))
-        | no e ↦ getD-set-other s (4 * n + hi) (4 * n + j) 0 0 (omega arith) ∙ m .zero j a (omega arith)
+        | yes e ↦ rw e (getD-set-same s (headsFrom n + hi) 0 0 (omega (arith, sp .long, m .kept .size)))
+        | no e ↦ getD-set-other s (headsFrom n + hi) (headsFrom n + j) 0 0 (omega arith) ∙ m .zero j a (omega arith)
       ];
       total = rw d (omega (arith, sum-next (hi - lo) (headAt n s₀ lo), v, m .total));
     }
 
-pub open-stop : {n lo hi left c : ℕ} {s₀ s : List ℕ} → hi < n → c ≡ getD s (4 * n + hi) 0 → left < c → Opening n lo hi left s₀ s → Emptied n lo hi s₀ s
+pub open-stop : {n lo hi left c : ℕ} {s₀ s : List ℕ} → hi < n → c ≡ getD s (headsFrom n + hi) 0 → left < c → Opening n lo hi left s₀ s → Emptied n lo hi s₀ s
 open-stop {n} {lo} {hi} {left} {c} {s₀} {s} h ec hc m = record {
   kept = m .kept;
   least = m .least;
@@ -157,12 +158,12 @@ open-stop {n} {lo} {hi} {left} {c} {s₀} {s} h ec hc m = record {
   some = λ a b. go b (ℕ-discrete lo hi);
 }
   where
-    go : getD s₀ (4 * n + lo) 0 ≤ n → Dec (lo ≡ hi) → lo < hi
+    go : getD s₀ (headsFrom n + lo) 0 ≤ n → Dec (lo ≡ hi) → lo < hi
     go b (no q) = omega (arith, m .least)
     go b (yes q) =
         let d : hi - lo ≡ 0 = omega arith in
         let t : left + sum 0 (headAt n s₀ lo) ≡ n = rw d at (m .total) in
-        let v : c ≡ getD s₀ (4 * n + lo) 0 = rw q (ec ∙ m .kept .slots (4 * n + hi) (λ g. omega arith) (λ g. omega arith)) in
+        let v : c ≡ getD s₀ (headsFrom n + lo) 0 = rw q (ec ∙ m .kept .slots (headsFrom n + hi) (λ g. omega arith) (λ g. omega arith)) in
         absurd (omega (arith, t, v, sum-none (headAt n s₀ lo)))
 
 pub open-end : {n lo hi left : ℕ} {s₀ s : List ℕ} → n ≤ hi → Opening n lo hi left s₀ s → Emptied n lo hi s₀ s
@@ -183,7 +184,7 @@ bare-chain : (n : ℕ) (s : List ℕ) (j : ℕ) → Chain n s 0 (bare j)
 unfolding bare
 bare-chain n s j = none
 
-pub fill-start : (n lo hi : ℕ) (R : ℕ → List ℕ) (s : List ℕ) → ((j : ℕ) → lo ≤ j → j < hi → getD s (4 * n + j) 0 ≡ 0) → Filling n lo hi 0 R s s 0
+pub fill-start : (n lo hi : ℕ) (R : ℕ → List ℕ) (s : List ℕ) → ((j : ℕ) → lo ≤ j → j < hi → getD s (headsFrom n + j) 0 ≡ 0) → Filling n lo hi 0 R s s 0
 unfolding held column
 fill-start n lo hi R s z = record {
   kept = same s;
@@ -243,16 +244,16 @@ window-made n k hi end R Q q h g few r m f′ =
         least = l;
         most = e;
         lists = f .lists;
-        counts = record { slot = λ j a b. w .slots (4 * n + j) (λ v. omega arith) (λ v. omega arith) ∙ r .counts .slot j (omega arith) b };
+        counts = record { slot = λ j a b. w .slots (headsFrom n + j) (λ v. omega arith) (λ v. omega arith) ∙ r .counts .slot j (omega arith) b };
       };
     }
 
 -- ---- the column of place k
 
-pub window-list : {n k hi h : ℕ} {R : ℕ → List ℕ} {s₀ s : List ℕ} → Windowed n k hi R s₀ s → h ≡ getD s (4 * n + k) 0 → Chain n s h (column R n k)
+pub window-list : {n k hi h : ℕ} {R : ℕ → List ℕ} {s₀ s : List ℕ} → Windowed n k hi R s₀ s → h ≡ getD s (headsFrom n + k) 0 → Chain n s h (column R n k)
 window-list {k = k} w e = rw e (w .ready .lists .chain k (omega arith) (w .has))
 
-pub window-head : {n k hi h : ℕ} {R : ℕ → List ℕ} {s₀ s : List ℕ} → Windowed n k hi R s₀ s → h ≡ getD s (4 * n + k) 0 → HasChain n s h
+pub window-head : {n k hi h : ℕ} {R : ℕ → List ℕ} {s₀ s : List ℕ} → Windowed n k hi R s₀ s → h ≡ getD s (headsFrom n + k) 0 → HasChain n s h
 window-head {n} {k} {hi} {h} {R} w e = record { room = omega (arith, w .ready .lists .heads k (omega arith) (w .has)); list = column R n k; chain = window-list w e }
 
 -- columns can be handed out as before where their heads and the nodes are the same

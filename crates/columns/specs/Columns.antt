@@ -10,6 +10,7 @@ use lib.ListN.{length, getD, take, drop, set}
 use lib.Dec.{eqb}
 use Rattle.base.specs.Lists.{sum, rowOf}
 use Rattle.marks.specs.Marks.{Below, Room, stamped}
+use Rattle.base.specs.Scratch.{blocksFrom, upperCuts, headsFrom, listFrom, nodesFrom, regionsEnd}
 
 -- ---- scratch
 
@@ -24,23 +25,23 @@ pub record Outside (a b c d : ℕ) (s₀ s : List ℕ) : Type 0 where
 
 -- only heads of columns lo to hi, and nodes, are written
 abbrev pub Kept : ℕ → ℕ → ℕ → List ℕ → List ℕ → Type 0
-Kept n lo hi s₀ s = Outside (4 * n + lo) (4 * n + hi) (6 * n) (8 * n) s₀ s
+Kept n lo hi s₀ s = Outside (headsFrom n + lo) (headsFrom n + hi) (nodesFrom n) (regionsEnd n) s₀ s
 
 -- only marks and block stamps are written
 abbrev pub Unmarked : ℕ → List ℕ → List ℕ → Type 0
-Unmarked n s₀ s = Outside 0 n (2 * n) (3 * n) s₀ s
+Unmarked n s₀ s = Outside 0 n (blocksFrom n) (upperCuts n) s₀ s
 
 -- what others keep in scratch is the same: the order, cuts and heads up to column k, the list
 pub record Untouched (n k : ℕ) (s₀ s : List ℕ) : Type 0 where
   pub size : length s ≡ length s₀
   pub order : orderOf n s ≡ orderOf n s₀
-  pub cuts : (x : ℕ) → 3 * n ≤ x → x < 4 * n + k → getD s x 0 ≡ getD s₀ x 0
-  pub list : (x : ℕ) → 5 * n ≤ x → x < 6 * n → getD s x 0 ≡ getD s₀ x 0
+  pub cuts : (x : ℕ) → upperCuts n ≤ x → x < headsFrom n + k → getD s x 0 ≡ getD s₀ x 0
+  pub list : (x : ℕ) → listFrom n ≤ x → x < nodesFrom n → getD s x 0 ≡ getD s₀ x 0
 
 -- the heads of the columns from k on, and the nodes, are the same
 pub record Steady (n k : ℕ) (s₀ s : List ℕ) : Type 0 where
-  pub heads : (j : ℕ) → k ≤ j → j < n → getD s (4 * n + j) 0 ≡ getD s₀ (4 * n + j) 0
-  pub nodes : (x : ℕ) → 6 * n ≤ x → x < 8 * n → getD s x 0 ≡ getD s₀ x 0
+  pub heads : (j : ℕ) → k ≤ j → j < n → getD s (headsFrom n + j) 0 ≡ getD s₀ (headsFrom n + j) 0
+  pub nodes : (x : ℕ) → nodesFrom n ≤ x → x < regionsEnd n → getD s x 0 ≡ getD s₀ x 0
 
 -- ---- rows and columns of M'
 
@@ -98,7 +99,7 @@ pub record Given (n : ℕ) (columns starts r s : List ℕ) : Type 0 where
 
 -- the heads from column lo on count the entries of the lists f
 pub record Counts (n lo : ℕ) (s : List ℕ) (f : ℕ → List ℕ) : Type 0 where
-  pub slot : (j : ℕ) → lo ≤ j → j < n → getD s (4 * n + j) 0 ≡ length (f j)
+  pub slot : (j : ℕ) → lo ≤ j → j < n → getD s (headsFrom n + j) 0 ≡ length (f j)
 
 -- the heads count some lists, which the places xs of some row leave at most n long
 pub record Countable (n : ℕ) (xs s : List ℕ) : Type 0 where
@@ -122,7 +123,7 @@ pub record Tally (n : ℕ) (f : ℕ → List ℕ) (s₀ s : List ℕ) : Type 0 w
 -- from the head h, nodes hold the list l; each node's rest stands lower
 pub data Chain (n : ℕ) (s : List ℕ) : ℕ → List ℕ → Type 0 where
   none : Chain n s 0 []
-  node : {q h i : ℕ} {l : List ℕ} → i < n → h ≤ q → getD s (6 * n + (q + q)) 0 ≡ i → getD s (6 * n + (q + q) + 1) 0 ≡ h → Chain n s h l → Chain n s (suc q) (i ∷ l)
+  node : {q h i : ℕ} {l : List ℕ} → i < n → h ≤ q → getD s (nodesFrom n + (q + q)) 0 ≡ i → getD s (nodesFrom n + (q + q) + 1) 0 ≡ h → Chain n s h l → Chain n s (suc q) (i ∷ l)
 
 -- some list stands at the head h
 pub record HasChain (n : ℕ) (s : List ℕ) (h : ℕ) : Type 0 where
@@ -132,8 +133,8 @@ pub record HasChain (n : ℕ) (s : List ℕ) (h : ℕ) : Type 0 where
 
 -- the heads of columns lo to hi lead to the lists f, in the first p nodes
 pub record Lists (n lo hi : ℕ) (s : List ℕ) (p : ℕ) (f : ℕ → List ℕ) : Type 0 where
-  pub chain : (j : ℕ) → lo ≤ j → j < hi → Chain n s (getD s (4 * n + j) 0) (f j)
-  pub heads : (j : ℕ) → lo ≤ j → j < hi → getD s (4 * n + j) 0 ≤ p
+  pub chain : (j : ℕ) → lo ≤ j → j < hi → Chain n s (getD s (headsFrom n + j) 0) (f j)
+  pub heads : (j : ℕ) → lo ≤ j → j < hi → getD s (headsFrom n + j) 0 ≤ p
 
 unfoldable pub lengthAt : (ℕ → List ℕ) → ℕ → ℕ → ℕ
 lengthAt f lo m = length (f (lo + m))
@@ -155,7 +156,7 @@ pub record Roomy (n lo hi i : ℕ) (xs s : List ℕ) (p : ℕ) : Type 0 where
 
 -- the buffer with node p, row i and column j's list behind it, in front of column j's list
 abbrev pub pushAt : ℕ → ℕ → ℕ → ℕ → List ℕ → List ℕ
-pushAt n p i j s = set (set (set s (6 * n + (p + p)) i) (6 * n + (p + p) + 1) (getD s (4 * n + j) 0)) (4 * n + j) (p + 1)
+pushAt n p i j s = set (set (set s (nodesFrom n + (p + p)) i) (nodesFrom n + (p + p) + 1) (getD s (headsFrom n + j) 0)) (headsFrom n + j) (p + 1)
 
 -- the places xs of row i went into the lists of lo to hi
 pub record Offered (n lo hi i : ℕ) (xs s₀ s : List ℕ) (p₀ p : ℕ) : Type 0 where
@@ -165,16 +166,16 @@ pub record Offered (n lo hi i : ℕ) (xs s₀ s : List ℕ) (p₀ p : ℕ) : Typ
 -- ---- windows
 
 unfoldable pub headAt : ℕ → List ℕ → ℕ → ℕ → ℕ
-headAt n s lo m = getD s (4 * n + (lo + m)) 0
+headAt n s lo m = getD s (headsFrom n + (lo + m)) 0
 
 -- the heads of columns lo to hi are zero, what they counted is at most n, and column lo is among them if its count is
 pub record Emptied (n lo hi : ℕ) (s₀ s : List ℕ) : Type 0 where
   pub kept : Kept n lo hi s₀ s
   pub least : lo ≤ hi
   pub most : hi ≤ n
-  pub zero : (j : ℕ) → lo ≤ j → j < hi → getD s (4 * n + j) 0 ≡ 0
+  pub zero : (j : ℕ) → lo ≤ j → j < hi → getD s (headsFrom n + j) 0 ≡ 0
   pub total : sum (hi - lo) (headAt n s₀ lo) ≤ n
-  pub some : lo < n → getD s₀ (4 * n + lo) 0 ≤ n → lo < hi
+  pub some : lo < n → getD s₀ (headsFrom n + lo) 0 ≤ n → lo < hi
 
 -- the lists f of the columns lo to hi were made
 pub record Filled (n lo hi : ℕ) (f : ℕ → List ℕ) (s₀ s : List ℕ) : Type 0 where

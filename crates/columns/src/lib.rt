@@ -9,13 +9,17 @@ ghost use Rattle.matrix.specs.Input.{placeAt};
 ghost use Rattle.marks.specs.Marks.{Room, Below, markAt, stamped};
 ghost use Rattle.columns.specs.Columns.{orderOf, Order, RowIn, Given, placed, rowsOf, bare, column, Countable, Counted, Counts, Tally, Started, Emptied, Roomy, Offered, pushAt, held, Filled, Ready, Windowed, Chain, HasChain, Loaded};
 ghost use Rattle.columns.specs.Sides.{SideReady, SideLoaded};
+ghost use Rattle.base.specs.Scratch.{headsFrom};
+ghost use Rattle.base.specs.Limits.{maxRows};
+ghost use Rattle.base.specs.Index.{indexBound};
 use base::Index;
 use base::OwnNumber;
 use base::Place;
 use base::Side;
+use base::scratch;
 
 fn wide16(x: Index) -> usize
-    ensures { λ r. ⌜ (r ≡ x) × (r < 65536) ⌝ }
+    ensures { λ r. ⌜ (r ≡ x) × (r < indexBound) ⌝ }
 {
     x as usize
 }
@@ -62,7 +66,7 @@ fn clear_heads(s: &mut [u32], n: usize)
 {
     let mut j = 0;
     while j < n {
-        s[4 * n + j] = 0;
+        s[scratch::HEADS * n + j] = 0;
         j += 1;
     }
 }
@@ -70,11 +74,11 @@ fn clear_heads(s: &mut [u32], n: usize)
 // Counts one entry of column j.
 fn count_one(s: &mut [u32], n: usize, j: usize)
     requires { ⌜ Room n (now s) ⌝ }
-    requires { ⌜ (j < n) × (getD (now s) (4 * n + j) 0 < 65536) ⌝ }
-    ensures { λ _. ⌜ now (s .exit) ≡ set (now (s .entry)) (4 * n + j) (getD (now (s .entry)) (4 * n + j) 0 + 1) ⌝ }
+    requires { ⌜ (j < n) × (getD (now s) (headsFrom n + j) 0 < maxRows) ⌝ }
+    ensures { λ _. ⌜ now (s .exit) ≡ set (now (s .entry)) (headsFrom n + j) (getD (now (s .entry)) (headsFrom n + j) 0 + 1) ⌝ }
 {
-    let count = s[4 * n + j];
-    s[4 * n + j] = count + 1;
+    let count = s[scratch::HEADS * n + j];
+    s[scratch::HEADS * n + j] = count + 1;
 }
 
 // Counts the entries of a row by column.
@@ -127,12 +131,12 @@ fn open_window(s: &mut [u32], n: usize, lo: usize) -> usize
     let mut left = n;
     let mut hi = lo;
     while hi < n {
-        let count = marks::wide32(s[4 * n + hi]);
+        let count = marks::wide32(s[scratch::HEADS * n + hi]);
         if left < count {
             return hi;
         }
         left = left - count;
-        s[4 * n + hi] = 0;
+        s[scratch::HEADS * n + hi] = 0;
         hi += 1;
     }
     hi
@@ -144,11 +148,11 @@ fn push_node(s: &mut [u32], n: usize, p: usize, i: usize, j: usize)
     requires { ⌜ (p < n) × (i < n) × (j < n) ⌝ }
     ensures { λ _. ⌜ now (s .exit) ≡ pushAt n p i j (now (s .entry)) ⌝ }
 {
-    let rest = s[4 * n + j];
-    let b = 6 * n + (p + p);
+    let rest = s[scratch::HEADS * n + j];
+    let b = scratch::NODES * n + (p + p);
     s[b] = i as u32;
     s[b + 1] = rest;
-    s[4 * n + j] = (p + 1) as u32;
+    s[scratch::HEADS * n + j] = (p + 1) as u32;
 }
 
 // Entry (i, j) goes into the lists of lo to hi; answers how many nodes are used.
@@ -206,7 +210,7 @@ fn fill_window(
 )
     requires { ⌜ Given n (now columns) (now starts) (now r) (now s) ⌝ }
     requires { ⌜ (hi ≤ n) × (held lo hi (column (rowsOf (orderOf n (now s)) (now columns) (now starts) (now r)) n) ≤ n) ⌝ }
-    requires { ⌜ ((j : ℕ) → lo ≤ j → j < hi → getD (now s) (4 * n + j) 0 ≡ 0) ⌝ }
+    requires { ⌜ ((j : ℕ) → lo ≤ j → j < hi → getD (now s) (headsFrom n + j) 0 ≡ 0) ⌝ }
     ensures { λ _. ⌜ Filled n lo hi (column (rowsOf (orderOf n (now (s .entry))) (now (columns .entry)) (now (starts .entry)) (now (r .entry))) n) (now (s .entry)) (now (s .exit)) ⌝ }
 {
     let mut p = 0;
@@ -251,7 +255,7 @@ fn stamp_list(s: &mut [u32], n: usize, stamp: u32, head: usize)
 {
     let mut h = head;
     while 0 < h {
-        let b = 6 * n + (h - 1 + (h - 1));
+        let b = scratch::NODES * n + (h - 1 + (h - 1));
         let i = marks::wide32(s[b]);
         let rest = marks::wide32(s[b + 1]);
         marks::mark(s, n, stamp, i);
@@ -276,7 +280,7 @@ pub fn load_column(
     ensures { λ end. ⌜ Loaded n stamp k end (rowsOf (orderOf n (now (s .entry))) (now (columns .entry)) (now (starts .entry)) (now (r .entry))) (now (s .entry)) (now (s .exit)) ⌝ }
 {
     let end = window_at(s, n, k, hi, columns, starts, r);
-    let head = marks::wide32(s[4 * n + k]);
+    let head = marks::wide32(s[scratch::HEADS * n + k]);
     stamp_list(s, n, stamp, head);
     end
 }

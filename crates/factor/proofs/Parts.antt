@@ -12,6 +12,7 @@ use Rattle.base.specs.Lists.{listAt, rowOf}
 use Rattle.marks.specs.Marks.{ListIn}
 use Rattle.numeric.specs.Stores.{Below}
 use Rattle.factor.specs.Factoring.{OwnRow, lowerIn, LowerAt, Keepable}
+use Rattle.base.specs.Scratch.{listFrom}
 
 module _ (l s : List ℕ) (at p : ℕ) where
   pub copy-start : sets s (at + 0) (drop 0 l) ≡ sets s at l
@@ -46,6 +47,6 @@ part-from s from m = let e : from + m - from ≡ m = omega arith in rw e
 pub keep-ready : (n k below : ℕ) (starts : List ℕ) (slots : ℕ) (work : List Float) (marks : List ℕ) (from : ℕ) (lower : List ℕ) → from ≡ getD starts k 0 → lower ≡ lowerIn n below marks
     → LowerAt n below (length marks) → Keepable n k below starts slots (length work) (lowerIn n below marks) → (from + length lower ≤ slots) × Below (length (take n work)) lower
 keep-ready n k below starts slots work marks from lower ef el A K = (
-  omega (arith, K .room, ap length el, length-take-le below (drop (5 * n) marks) (simp length-drop (omega (arith, A .room)))),
+  omega (arith, K .room, ap length el, length-take-le below (drop (listFrom n) marks) (simp length-drop (omega (arith, A .room)))),
   rw (el, length-take-le n work (K .row)) (K .places),
 )

@@ -36,6 +36,7 @@ use Rattle.factor.specs.TurnLaws.{Sizes, none-left, same-given}
 use Rattle.factor.specs.ColumnLaws.{shared-side, shared-fits, column-is}
 use Rattle.factor.specs.declared.Factored.{Factored}
 use Rattle.factor.specs.declared.Factored.the-variants.{Solved, Zero, Overflow}
+use Rattle.base.specs.Scratch.{cursorsFrom, regionsEnd, zFrom}
 
 -- ---- before the first row
 
@@ -43,13 +44,13 @@ pub cleared : (x y : List Float) → length x ≡ length y → x ≡ blank nough
 unfolding blank
 cleared x y l e = e ∙ rw l
 
-pub inverse-start : (i : Input) (m s : List ℕ) → i .n + i .n ≤ length s → m ≡ invertedAt (i .c) (i .n) s → Inverse i m
+pub inverse-start : (i : Input) (m s : List ℕ) → zFrom (i .n) ≤ length s → m ≡ invertedAt (i .c) (i .n) s → Inverse i m
 inverse-start i m s h e j b =
     rw e (sym (getD-drop (i .n) (invertedAt (i .c) (i .n) s) j 0) ∙ sym (getD-take (i .n) (drop (i .n) (invertedAt (i .c) (i .n) s)) j 0 b)
     ∙ ap (λ (l : List ℕ). getD l j 0) (placed-inverse (i .c) (i .n) s (omega arith)) ∙ getD-table (ic (i .c) (i .n)) (i .n) 0 j b)
 
 pub going-start : {f : Form} {i : Input} {L : Lists} {w : Written} → Factorable f i L w → w .upper ≡ replicate (length (w .upper)) nought → w .work ≡ replicate (length (w .work)) nought
-    → LowerHeld f (system i) [] 0 (L .lower-starts) (drop (4 * i .n) (w .marks)) (w .lower) → Inverse i (w .marks) → Finding f i L 0 (w .marks) → Going f i L 0 w
+    → LowerHeld f (system i) [] 0 (L .lower-starts) (drop (cursorsFrom (i .n)) (w .marks)) (w .lower) → Inverse i (w .marks) → Finding f i L 0 (w .marks) → Going f i L 0 w
 unfolding system
 going-start {f} {i} {L} {w} F eu ew lower inv find = record {
   given = F;
@@ -64,7 +65,7 @@ going-start {f} {i} {L} {w} F eu ew lower inv find = record {
 }
 
 -- w as it was lent, and x once all is cleared and the inverse order written
-module _ (i : Input) (L : Lists) {w : Written} (x : Written) (s : Sizes w x) (slots : 8 * i .n ≤ length (w .marks)) (el : x .lower ≡ blank nought (w .lower))
+module _ (i : Input) (L : Lists) {w : Written} (x : Written) (s : Sizes w x) (slots : regionsEnd (i .n) ≤ length (w .marks)) (el : x .lower ≡ blank nought (w .lower))
     (em : x .marks ≡ invertedAt (i .c) (i .n) (blank 0 (w .marks))) where
   long : length (blank 0 (w .marks)) ≡ length (w .marks)
   unfolding blank
@@ -76,13 +77,13 @@ module _ (i : Input) (L : Lists) {w : Written} (x : Written) (s : Sizes w x) (sl
       rw em (sym (getD-take (i .n) (invertedAt (i .c) (i .n) (blank 0 (w .marks))) j 0 b) ∙ ap (λ (l : List ℕ). getD l j 0) (placed-front (i .c) (i .n) (blank 0 (w .marks)) (omega (arith, long)))
       ∙ getD-take (i .n) (blank 0 (w .marks)) j 0 b ∙ getD-replicate (length (w .marks)) j 0 0 (omega arith))
 
-  cursor-at : (j : ℕ) → j < i .n → getD (drop (4 * i .n) (x .marks)) j 0 ≡ 0
+  cursor-at : (j : ℕ) → j < i .n → getD (drop (cursorsFrom (i .n)) (x .marks)) j 0 ≡ 0
   unfolding blank
   cursor-at j b =
-      let e : 4 * i .n + j ≡ i .n + i .n + (i .n + i .n + j) = omega arith in
-      getD-drop (4 * i .n) (x .marks) j 0 ∙ rw (em, e) (sym (getD-drop (i .n + i .n) (invertedAt (i .c) (i .n) (blank 0 (w .marks))) (i .n + i .n + j) 0)
-      ∙ ap (λ (l : List ℕ). getD l (i .n + i .n + j) 0) (placed-rest (i .c) (i .n) (blank 0 (w .marks)) (omega (arith, long)))
-      ∙ getD-drop (i .n + i .n) (blank 0 (w .marks)) (i .n + i .n + j) 0 ∙ getD-replicate (length (w .marks)) (i .n + i .n + (i .n + i .n + j)) 0 0 (omega arith))
+      let e : cursorsFrom (i .n) + j ≡ zFrom (i .n) + (zFrom (i .n) + j) = omega arith in
+      getD-drop (cursorsFrom (i .n)) (x .marks) j 0 ∙ rw (em, e) (sym (getD-drop (zFrom (i .n)) (invertedAt (i .c) (i .n) (blank 0 (w .marks))) (zFrom (i .n) + j) 0)
+      ∙ ap (λ (l : List ℕ). getD l (zFrom (i .n) + j) 0) (placed-rest (i .c) (i .n) (blank 0 (w .marks)) (omega (arith, long)))
+      ∙ getD-drop (zFrom (i .n)) (blank 0 (w .marks)) (zFrom (i .n) + j) 0 ∙ getD-replicate (length (w .marks)) (zFrom (i .n) + (zFrom (i .n) + j)) 0 0 (omega arith))
 
   -- no mark and no cut yet
   found-start : Finding ByRow i L 0 (x .marks)
@@ -93,13 +94,13 @@ module _ (i : Input) (L : Lists) {w : Written} (x : Written) (s : Sizes w x) (sl
   finding-start Shared = found-start
   finding-start ByRow = found-start
 
-  lower-start : (f : Form) → LowerPlaced f (stored i) (i .n) L (x .lower) → LowerHeld f (system i) [] 0 (L .lower-starts) (drop (4 * i .n) (x .marks)) (x .lower)
+  lower-start : (f : Form) → LowerPlaced f (stored i) (i .n) L (x .lower) → LowerHeld f (system i) [] 0 (L .lower-starts) (drop (cursorsFrom (i .n)) (x .marks)) (x .lower)
   unfolding system
   lower-start Plain S = stacked-none nought (lOf []) (L .lower-starts) (x .lower) (cleared (x .lower) (w .lower) (s .lower-size) el)
   lower-start Shared S =
       columns-start (system i) (L .lower-starts)
       (λ j b. omega (arith, size-at Shared Lower (stored i) (i .n) (L .lower-starts) _ _ (length (x .lower)) (shared-side (stored i) (i .n) (L .lower-starts) (length (x .lower)) S) j b))
-      (shared-fits i (L .lower-starts) (length (x .lower)) S) [] (drop (4 * i .n) (x .marks)) (x .lower) cursor-at (cleared (x .lower) (w .lower) (s .lower-size) el)
+      (shared-fits i (L .lower-starts) (length (x .lower)) S) [] (drop (cursorsFrom (i .n)) (x .marks)) (x .lower) cursor-at (cleared (x .lower) (w .lower) (s .lower-size) el)
   lower-start ByRow S = S
 
 pub form-start : (f : Form) {i : Input} {L : Lists} {w : Written} (x : Written) → Factorable f i L w → Sizes w x → x .lower ≡ blank nought (w .lower) → x .upper ≡ blank nought (w .upper)
@@ -216,7 +217,7 @@ module _ {f : Form} {i : Input} {L : Lists} {w : Written} (G : Going f i L (i .n
   factors z =
       let S = G .given .upper-side in
       record {
-        lower-values = lower-kept f i L (G .rows) (drop (4 * i .n) (w .marks)) (w .lower) (G .given .lower-side) (G .lower);
+        lower-values = lower-kept f i L (G .rows) (drop (cursorsFrom (i .n)) (w .marks)) (w .lower) (G .given .lower-side) (G .lower);
         upper-values = stacked-all nought (uOf (G .rows)) (i .n) (L .upper-starts) (w .upper)
             (start-zero f (stored i) (i .n) (L .upper-starts) (L .upper-runs) (L .upper-index) (length (w .upper)) S)
             (λ j b. omega (arith, size-at f Upper (stored i) (i .n) (L .upper-starts) (L .upper-runs) (L .upper-index) (length (w .upper)) S j b))
@@ -226,7 +227,7 @@ module _ {f : Form} {i : Input} {L : Lists} {w : Written} (G : Going f i L (i .n
         solution = refl;
       }
 
-  pub going-end : (z : List Float) (r : Factored) → backAs z r ≡ back (storeGiven (i .n) (w .work) (L .upper-index) (L .upper-runs) (L .upper-starts) (w .upper)) (i .n) (drop (i .n + i .n) (w .work))
+  pub going-end : (z : List Float) (r : Factored) → backAs z r ≡ back (storeGiven (i .n) (w .work) (L .upper-index) (L .upper-runs) (L .upper-starts) (w .upper)) (i .n) (drop (zFrom (i .n)) (w .work))
       → FactoredAs f i r (w .lower) (w .upper) (w .d) z
   unfolding listed FactoredAs
   going-end z Solved e = (record { rows = G .rows; z = z }, held-solved (G .held) z Complete e refl, factors z)

@@ -25,6 +25,8 @@ use Rattle.numeric.specs.Stores.{Below, Ascending, Shape, gathered, columns, ke
 use Rattle.numeric.specs.Rows.{Held, Stacked, lOf, columnOf, InColumns}
 use Rattle.factor.specs.declared.Factored.{Factored}
 use Rattle.factor.specs.declared.Factored.the-variants.{Solved, Zero, Overflow}
+use Rattle.base.specs.Scratch.{cursorsFrom, listFrom, regionsEnd}
+use Rattle.base.specs.Limits.{maxRows}
 
 -- ---- the answer
 
@@ -82,8 +84,8 @@ pub record Factorable (f : Form) (i : Input) (L : Lists) (w : Written) : Type 0 
   pub lower-side : LowerPlaced f (stored i) (i .n) L (w .lower)
   pub upper-side : PlacedSide f Upper (stored i) (i .n) (L .upper-starts) (L .upper-runs) (L .upper-index) (length (w .upper))
   pub reciprocals : length (w .d) ≡ i .n
-  pub scratch : length (w .work) ≡ i .n + i .n + i .n
-  pub slots : 8 * i .n ≤ length (w .marks)
+  pub scratch : length (w .work) ≡ 3 * i .n
+  pub slots : regionsEnd (i .n) ≤ length (w .marks)
 
 -- ---- between two rows. Scratch has the inverse column order from slot n on, the cuts from 3n, the cursors of L from 4n, lower row k from 5n.
 
@@ -109,7 +111,7 @@ pub record Going (f : Form) (i : Input) (L : Lists) (k : ℕ) (w : Written) : Ty
   pub rows : List Row
   pub held : Held (system i) rows (i .n) k (w .work) (L .upper-index) (L .upper-runs) (L .upper-starts) (w .upper)
   pub pivots : (j : ℕ) → j < k → getD (w .d) j nan ≡ getD rows j none .d
-  pub lower : LowerHeld f (system i) rows k (L .lower-starts) (drop (4 * i .n) (w .marks)) (w .lower)
+  pub lower : LowerHeld f (system i) rows k (L .lower-starts) (drop (cursorsFrom (i .n)) (w .marks)) (w .lower)
   pub inverse : Inverse i (w .marks)
   pub finding : Finding f i L k (w .marks)
 
@@ -134,11 +136,11 @@ pub record OwnRow (starts r : List ℕ) (entries k : ℕ) : Type 0 where
 
 -- its lower row, so long, in the marks
 abbrev pub lowerIn : ℕ → ℕ → List ℕ → List ℕ
-lowerIn n below marks = take below (drop (5 * n) marks)
+lowerIn n below marks = take below (drop (listFrom n) marks)
 
 pub record LowerAt (n below slots : ℕ) : Type 0 where
-  pub few : n ≤ 65536
-  pub room : 5 * n + below ≤ slots
+  pub few : n ≤ maxRows
+  pub room : listFrom n + below ≤ slots
 
 -- M' of what is lent to find it
 abbrev pub patternOf : ℕ → List ℕ → List ℕ → List ℕ → List ℕ → Pattern
@@ -162,7 +164,7 @@ pub record Found (P : Pattern) (n k below : ℕ) (index runs ustarts s₀ s : Li
   pub size : below ≡ length (lowerRow P k)
   pub lower : lowerIn n below s ≡ lowerRow P k
   pub inverse : (j : ℕ) → j < n → getD s (n + j) 0 ≡ getD s₀ (n + j) 0
-  pub cursors : (j : ℕ) → j < n → getD s (4 * n + j) 0 ≡ getD s₀ (4 * n + j) 0
+  pub cursors : (j : ℕ) → j < n → getD s (cursorsFrom n + j) 0 ≡ getD s₀ (cursorsFrom n + j) 0
 
 -- the plain form reads it, the others find it anew: what that asks, and what it leaves
 abbrev pub readsLower : Form → Bool
@@ -177,7 +179,7 @@ LowerAsked false n k starts columns r c L s = Findable (patternOf n starts colum
 
 unfoldable pub LowerGiven : Bool → ℕ → ℕ → ℕ → List ℕ → List ℕ → List ℕ → List ℕ → Lists → List ℕ → List ℕ → Type 0
 LowerGiven true n k below starts columns r c L s₀ s =
-    (below ≡ length (rowOf (L .lower-starts) (L .lower-index) k)) × (s ≡ sets s₀ (5 * n) (rowOf (L .lower-starts) (L .lower-index) k))
+    (below ≡ length (rowOf (L .lower-starts) (L .lower-index) k)) × (s ≡ sets s₀ (listFrom n) (rowOf (L .lower-starts) (L .lower-index) k))
 LowerGiven false n k below starts columns r c L s₀ s = Found (patternOf n starts columns r c) n k below (L .upper-index) (L .upper-runs) (L .upper-starts) s₀ s
 
 -- what its steps find
@@ -186,8 +188,8 @@ pub record RowAt (i : Input) (k below : ℕ) (starts runs index marks : List ℕ
   pub lent : SolveLent i (length marks)
   pub settled : Settled i
   pub shape : Shape (i .n) index runs starts upper
-  pub scratch : work ≡ i .n + i .n + i .n
-  pub slots : 8 * i .n ≤ length marks
+  pub scratch : work ≡ 3 * i .n
+  pub slots : regionsEnd (i .n) ≤ length marks
   pub columns : OwnRow (i .starts) (i .r) (length (i .columns)) k
   pub values : OwnRow (i .starts) (i .r) (length (i .values)) k
   pub right : getD (i .r) k 0 < length (i .b)
@@ -214,8 +216,8 @@ pub record Spread (n below : ℕ) (starts : List ℕ) (slots : ℕ) (marks : Lis
   pub start : n ≤ length starts
   pub ascending : Ascending (lowerIn n below marks)
   pub places : Below n (lowerIn n below marks)
-  pub room : (p : ℕ) → p < below → getD starts (getD (lowerIn n below marks) p 0) 0 + getD marks (4 * n + getD (lowerIn n below marks) p 0) 0 < slots
-  pub few : (p : ℕ) → p < below → getD marks (4 * n + getD (lowerIn n below marks) p 0) 0 < 65536
+  pub room : (p : ℕ) → p < below → getD starts (getD (lowerIn n below marks) p 0) 0 + getD marks (cursorsFrom n + getD (lowerIn n below marks) p 0) 0 < slots
+  pub few : (p : ℕ) → p < below → getD marks (cursorsFrom n + getD (lowerIn n below marks) p 0) 0 < maxRows
 
 unfoldable pub KeepAsked : Form → ℕ → ℕ → ℕ → List ℕ → ℕ → ℕ → List ℕ → Type 0
 KeepAsked Plain n k below starts slots work s = LowerAt n below (length s) × Keepable n k below starts slots work (lowerIn n below s)
@@ -225,19 +227,19 @@ KeepAsked ByRow n k below starts slots work s = Unit {0}
 -- its L where the form keeps it; of the marks the cursors alone are written
 unfoldable pub LowerKept : Form → ℕ → ℕ → ℕ → List ℕ → List Float → List Float → List Float → List ℕ → List ℕ → Type 0
 LowerKept Plain n k below starts w l₀ l s₀ s = l ≡ sets l₀ (getD starts k 0) (gathered (lowerIn n below s₀) w)
-LowerKept Shared n k below starts w l₀ l s₀ s = columns (drop (4 * n) s) l ≡ keepColumns starts w (lowerIn n below s₀) (columns (drop (4 * n) s₀) l₀)
+LowerKept Shared n k below starts w l₀ l s₀ s = columns (drop (cursorsFrom n) s) l ≡ keepColumns starts w (lowerIn n below s₀) (columns (drop (cursorsFrom n) s₀) l₀)
 LowerKept ByRow n k below starts w l₀ l s₀ s = l ≡ l₀
 
 pub record KeepGiven (f : Form) (n k below : ℕ) (starts : List ℕ) (w l₀ l : List Float) (s₀ s : List ℕ) : Type 0 where
   pub values : LowerKept f n k below starts w l₀ l s₀ s
-  pub same : found.But (4 * n) (5 * n) s₀ s
+  pub same : found.But (cursorsFrom n) (listFrom n) s₀ s
 
 -- ---- the back steps
 
 -- what they ask: every y is finite
 pub record BackReady (n : ℕ) (index runs starts : List ℕ) (upper : ℕ) (work : List Float) : Type 0 where
-  pub few : n ≤ 65536
-  pub scratch : length work ≡ n + n + n
+  pub few : n ≤ maxRows
+  pub scratch : length work ≡ 3 * n
   pub shape : Shape n index runs starts upper
   pub sums : (k : ℕ) → k < n → finite (getD work (n + k) nan) ≡ true
 

@@ -21,6 +21,7 @@ use Rattle.rows.specs.FillLaws.{held-parts}
 use Rattle.rows.specs.ListLaws.{lower-members, lower-marks, lower-read, lower-but, lower-le}
 use Rattle.rows.specs.Turn.{loaded-cuts, closed-marks, place-turn}
 use Rattle.factor.specs.Factoring.{Lists, Written, Going, patternOf, Findable, Found, lowerIn}
+use Rattle.base.specs.Scratch.{cursorsFrom, listFrom, zFrom}
 
 -- ---- one finding, from what its calls leave
 
@@ -34,7 +35,7 @@ module _ {P : Pattern} {n k : ℕ} {starts columns r index runs ustarts s₀ : L
 
     pub close-parts : Parts n k s₁ (3 * n) index runs
     close-parts = held-parts P n k index runs ustarts (F .held .store) (3 * n) s₁
-        (loaded-cuts P n k (k + 1) (3 * n) (5 * n) (F .place) (base-at n) (omega arith) index runs ustarts s₀ s₁ s₁ (F .held) (loaded .same) marked-row) (omega (arith, F .place))
+        (loaded-cuts P n k (k + 1) (3 * n) (listFrom n) (F .place) (base-at n) (omega arith) index runs ustarts s₀ s₁ s₁ (F .held) (loaded .same) marked-row) (omega (arith, F .place))
 
     pub close-blocks : Blocks n (k + 1) s₁
     close-blocks = marked-row .blocks
@@ -44,27 +45,27 @@ module _ {P : Pattern} {n k : ℕ} {starts columns r index runs ustarts s₀ : L
       s₂ = closing .mid
 
       filled-row : Holds n (k + 1) s₂ (filled P k)
-      filled-row = closed-marks P n k (k + 1) (3 * n) (5 * n) (F .place) (base-at n) (omega arith) index runs ustarts s₀ s₁ s₂ (F .held) (loaded .same) marked-row (closing .closed)
+      filled-row = closed-marks P n k (k + 1) (3 * n) (listFrom n) (F .place) (base-at n) (omega arith) index runs ustarts s₀ s₁ s₂ (F .held) (loaded .same) marked-row (closing .closed)
 
       listed : LowerListed P n k s₂ s₃ below
       listed = closing .lower P filled-row
 
-      fits : 5 * n + n ≤ length s₂
+      fits : 5 * zFrom n ≤ length s₂
       fits = omega (arith, F .room .long, closing .size)
 
-      written : But (5 * n) (5 * n + below) s₂ s₃
+      written : But (listFrom n) (listFrom n + below) s₂ s₃
       written = lower-but P n k s₂ s₃ below listed fits (F .place)
 
       kept-marks : Holds n (k + 1) s₃ (filled P k)
       kept-marks = lower-marks P n (k + 1) k s₂ s₃ below listed filled-row
 
       -- what cutting walks along
-      pub cut-members : take below (drop (5 * n) s₃) ≡ members (k + 1) s₃ 0 k
+      pub cut-members : take below (drop (listFrom n) s₃) ≡ members (k + 1) s₃ 0 k
       cut-members = lower-read P n k s₂ s₃ below listed fits (F .place) ∙ sym (lower-members P n (k + 1) k s₃ (F .place) kept-marks)
 
       module _ {s₄ : List ℕ} (renewed : Renewed n (k + 1) k (3 * n) index runs ustarts s₃ s₄) (l₄ : length s₄ ≡ length s₃) where
         -- a slot that no step writes
-        same : (q : ℕ) → n ≤ q → (n + n ≤ q → 4 * n ≤ q) → q < 5 * n → getD s₄ q 0 ≡ getD s₀ q 0
+        same : (q : ℕ) → n ≤ q → (zFrom n ≤ q → cursorsFrom n ≤ q) → q < listFrom n → getD s₄ q 0 ≡ getD s₀ q 0
         same q a b c =
             renewed .kept q (λ e. omega (arith, b (omega arith), F .place))
             ∙ written q (λ e. absurd (omega arith))
@@ -75,21 +76,21 @@ module _ {P : Pattern} {n k : ℕ} {starts columns r index runs ustarts s₀ : L
 
         lower-same : lowerIn n below s₄ ≡ lowerIn n below s₃
         lower-same =
-            let a : length (lowerIn n below s₄) ≡ below = length-take-le below (drop (5 * n) s₄) (simp length-drop (omega (arith, short, F .room .long))) in
-            let b : length (lowerIn n below s₃) ≡ below = length-take-le below (drop (5 * n) s₃) (simp length-drop (omega (arith, short, F .room .long))) in
+            let a : length (lowerIn n below s₄) ≡ below = length-take-le below (drop (listFrom n) s₄) (simp length-drop (omega (arith, short, F .room .long))) in
+            let b : length (lowerIn n below s₃) ≡ below = length-take-le below (drop (listFrom n) s₃) (simp length-drop (omega (arith, short, F .room .long))) in
             ext-getD 0 (lowerIn n below s₄) (lowerIn n below s₃) (a ∙ sym b)
             (λ p h. let g : p < below = rw a at h in
-            getD-take below (drop (5 * n) s₄) p 0 g ∙ getD-drop (5 * n) s₄ p 0 ∙ renewed .kept (5 * n + p) (λ e. omega (arith, F .place))
-            ∙ sym (getD-drop (5 * n) s₃ p 0) ∙ sym (getD-take below (drop (5 * n) s₃) p 0 g))
+            getD-take below (drop (listFrom n) s₄) p 0 g ∙ getD-drop (listFrom n) s₄ p 0 ∙ renewed .kept (listFrom n + p) (λ e. omega (arith, F .place))
+            ∙ sym (getD-drop (listFrom n) s₃ p 0) ∙ sym (getD-take below (drop (listFrom n) s₃) p 0 g))
 
         pub found : Found P n k below index runs ustarts s₀ s₄
         found = record {
-          next = place-turn P n k (k + 1) (3 * n) (5 * n) (F .place) (base-at n) (omega arith) index runs ustarts s₀ s₁ s₂ (F .held) (loaded .same) marked-row (closing .closed) s₃ (5 * n + below) written
+          next = place-turn P n k (k + 1) (3 * n) (listFrom n) (F .place) (base-at n) (omega arith) index runs ustarts s₀ s₁ s₂ (F .held) (loaded .same) marked-row (closing .closed) s₃ (listFrom n + below) written
               s₄ index runs ustarts (F .store) renewed (k + 1 + 1) (omega arith);
           size = listed .lower;
           lower = lower-same ∙ lower-read P n k s₂ s₃ below listed fits (F .place);
           inverse = λ j h. same (n + j) (omega arith) (λ e. absurd (omega arith)) (omega arith);
-          cursors = λ j h. same (4 * n + j) (omega arith) (λ e. omega arith) (omega arith);
+          cursors = λ j h. same (cursorsFrom n + j) (omega arith) (λ e. omega arith) (omega arith);
         }
 
 -- ---- between two rows

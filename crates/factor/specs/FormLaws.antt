@@ -36,6 +36,8 @@ use Rattle.factor.specs.SystemLaws.{lower-ascends, system-closed}
 use Rattle.factor.specs.ColumnLaws.{shared-side, shared-fits}
 use Rattle.factor.specs.FindLaws.{findable, as-stored}
 use Rattle.factor.specs.TurnLaws.{Sizes, row-at, row-room, lower-in, row-closable, going-more}
+use Rattle.base.specs.Scratch.{cursorsFrom, listFrom}
+use Rattle.base.specs.Limits.{maxRows}
 
 -- ---- lower row k in the marks
 
@@ -75,8 +77,8 @@ module _ {i : Input} {L : Lists} {k : ℕ} {w : Written} (G : Going Plain i L k 
   unfolding LowerGiven LowerAsked
   plain-given {m} {below} e = record {
     size = e .0 ∙ ap length lower-read;
-    lower = rw (e .1) (sets-part (w .marks) (rowOf (L .lower-starts) (L .lower-index) k) (5 * i .n) below (sym (e .0)) (omega (arith, e .0, plain-asked .1 .room)) ∙ lower-read);
-    inverse = λ j b. rw (e .1) (sets-below (w .marks) (5 * i .n) (rowOf (L .lower-starts) (L .lower-index) k) (i .n + j) (omega arith) ∙ G .inverse j b);
+    lower = rw (e .1) (sets-part (w .marks) (rowOf (L .lower-starts) (L .lower-index) k) (listFrom (i .n)) below (sym (e .0)) (omega (arith, e .0, plain-asked .1 .room)) ∙ lower-read);
+    inverse = λ j b. rw (e .1) (sets-below (w .marks) (listFrom (i .n)) (rowOf (L .lower-starts) (L .lower-index) k) (i .n + j) (omega arith) ∙ G .inverse j b);
     finding = tt;
   }
 
@@ -134,15 +136,15 @@ module _ {i : Input} {L : Lists} {k : ℕ} {w : Written} (G : Going Shared i L k
   whole = omega (arith, start-at Shared Lower (stored i) (i .n) (L .lower-starts) _ _ (length (w .lower)) column-side (i .n) (omega arith), G .given .lower-side .values-in)
 
   -- the cursors are as they were
-  in-columns : InColumns (system i .n) (L .lower-starts) (drop (4 * i .n) m) (w .lower) (columnOf (system i .lower) (G .rows) k)
+  in-columns : InColumns (system i .n) (L .lower-starts) (drop (cursorsFrom (i .n)) m) (w .lower) (columnOf (system i .lower) (G .rows) k)
   unfolding system
   in-columns = record {
-    used = λ j b. getD-drop (4 * i .n) m j 0 ∙ F .cursors j b ∙ sym (getD-drop (4 * i .n) (w .marks) j 0) ∙ G .lower .used j b;
+    used = λ j b. getD-drop (cursorsFrom (i .n)) m j 0 ∙ F .cursors j b ∙ sym (getD-drop (cursorsFrom (i .n)) (w .marks) j 0) ∙ G .lower .used j b;
     held = G .lower .held;
     behind = G .lower .behind;
   }
 
-  enough : system i .n ≤ length (drop (4 * i .n) m)
+  enough : system i .n ≤ length (drop (cursorsFrom (i .n)) m)
   unfolding system
   enough = simp length-drop (omega (arith, G .given .slots))
 
@@ -151,23 +153,23 @@ module _ {i : Input} {L : Lists} {k : ℕ} {w : Written} (G : Going Shared i L k
     unfolding system
     lower-of = sym el
 
-    shared-room : (j : ℕ) → has lower j ≡ true → (getD (L .lower-starts) j 0 + getD m (4 * i .n + j) 0 < length (w .lower)) × (getD m (4 * i .n + j) 0 < 65536)
+    shared-room : (j : ℕ) → has lower j ≡ true → (getD (L .lower-starts) j 0 + getD m (cursorsFrom (i .n) + j) 0 < length (w .lower)) × (getD m (cursorsFrom (i .n) + j) 0 < maxRows)
     unfolding system
     shared-room j q =
-        let b = column-below (system i) (L .lower-starts) rising (shared-fits i (L .lower-starts) (length (w .lower)) (G .given .lower-side)) (G .rows) k lower (drop (4 * i .n) m) (w .lower)
+        let b = column-below (system i) (L .lower-starts) rising (shared-fits i (L .lower-starts) (length (w .lower)) (G .given .lower-side)) (G .rows) k lower (drop (cursorsFrom (i .n)) m) (w .lower)
         h (system-closed i k h) lower-of whole enough in-columns j q in
-        let r = column-room (system i) (L .lower-starts) rising (shared-fits i (L .lower-starts) (length (w .lower)) (G .given .lower-side)) (G .rows) k lower (drop (4 * i .n) m) (w .lower)
+        let r = column-room (system i) (L .lower-starts) rising (shared-fits i (L .lower-starts) (length (w .lower)) (G .given .lower-side)) (G .rows) k lower (drop (cursorsFrom (i .n)) m) (w .lower)
         h (system-closed i k h) lower-of whole enough in-columns j b in
-        let u = sym (getD-drop (4 * i .n) m j 0) ∙ in-columns .used j b in (
+        let u = sym (getD-drop (cursorsFrom (i .n)) m j 0) ∙ in-columns .used j b in (
           omega (arith, u, rw q at r, rises-to (L .lower-starts) (j + 1) (i .n) (i .n) rising (omega arith) (omega arith), whole),
           omega (arith, u, column-length (system i .lower) (G .rows) k j, count-le (λ q. has (system i .lower q) j) k, G .given .lent .lent .orders .few),
         )
 
-    shared-kept : (next : Row) (g l : List Float) (c : List ℕ) → next .l ≡ gathered lower g → columns c l ≡ keepColumns (L .lower-starts) g lower (columns (drop (4 * i .n) m) (w .lower))
+    shared-kept : (next : Row) (g l : List Float) (c : List ℕ) → next .l ≡ gathered lower g → columns c l ≡ keepColumns (L .lower-starts) g lower (columns (drop (cursorsFrom (i .n)) m) (w .lower))
         → InColumns (system i .n) (L .lower-starts) c l (columnOf (system i .lower) (G .rows ++ (next ∷ [])) (k + 1))
     unfolding system
     shared-kept next g l c en q =
-        columns-more (system i) (L .lower-starts) rising (shared-fits i (L .lower-starts) (length (w .lower)) (G .given .lower-side)) (G .rows) k lower (drop (4 * i .n) m) (w .lower)
+        columns-more (system i) (L .lower-starts) rising (shared-fits i (L .lower-starts) (length (w .lower)) (G .given .lower-side)) (G .rows) k lower (drop (cursorsFrom (i .n)) m) (w .lower)
         h (system-closed i k h) lower-of whole enough in-columns next g c l (forward-length (system i) k (G .rows) (G .held .done)) en q
 
   -- a slot left in each column
@@ -197,35 +199,35 @@ keep-asked ByRow G h m below e em g lg = tt
 kept-held : {i : Input} {L : Lists} {k : ℕ} {w : Written} (f : Form) (G : Going f i L k w) (h : k < i .n) (m : List ℕ) (below : ℕ)
     → LowerGiven (readsLower f) (i .n) k below (i .starts) (i .columns) (i .r) (i .c) L (w .marks) m → length m ≡ length (w .marks)
     → (next : Row) (g l : List Float) (x : List ℕ) → next .l ≡ gathered (lowerRow (stored i) k) g → LowerKept f (i .n) k below (L .lower-starts) g (w .lower) l m x
-    → LowerHeld f (system i) (G .rows ++ (next ∷ [])) (k + 1) (L .lower-starts) (drop (4 * i .n) x) l
+    → LowerHeld f (system i) (G .rows ++ (next ∷ [])) (k + 1) (L .lower-starts) (drop (cursorsFrom (i .n)) x) l
 unfolding LowerKept LowerGiven
 kept-held {i = i} Plain G h m below e em next g l x en K =
     let D = lower-given Plain G h m below e in
     rw K (plain-kept G h next (lowerIn (i .n) below m) g (D .lower) (en ∙ ap (λ (q : List ℕ). gathered q g) (sym (D .lower))))
 kept-held {i = i} Shared G h m below e em next g l x en K =
     let D = lower-given Shared G h m below e in
-    shared-kept G h (as-stored G h (G .finding) e) em (D .lower) next g l (drop (4 * i .n) x) (en ∙ ap (λ (q : List ℕ). gathered q g) (sym (D .lower))) K
+    shared-kept G h (as-stored G h (G .finding) e) em (D .lower) next g l (drop (cursorsFrom (i .n)) x) (en ∙ ap (λ (q : List ℕ). gathered q g) (sym (D .lower))) K
 kept-held {i = i} ByRow G h m below e em next g l x en K = K ∙ G .lower
 
 -- ---- keeping L writes the cursors alone
 
-held-stays : (i : Input) (L : Lists) (k : ℕ) (m x : List ℕ) → k < i .n → found.But (4 * i .n) (5 * i .n) m x → Finding ByRow i L (k + 1) m → Finding ByRow i L (k + 1) x
+held-stays : (i : Input) (L : Lists) (k : ℕ) (m x : List ℕ) → k < i .n → found.But (cursorsFrom (i .n)) (listFrom (i .n)) m x → Finding ByRow i L (k + 1) m → Finding ByRow i L (k + 1) x
 held-stays i L k m x h same F =
     held-kept (stored i) (i .n) (k + 1) (k + 1 + 1) (k + 1 + 1) (3 * i .n) m x (L .upper-index) (L .upper-runs) (L .upper-starts)
     (λ j b. same (3 * i .n + j) (λ e. absurd (omega arith))) (λ j b. rw (same j (λ e. absurd (omega arith))) (F .fresh j b)) F
 
-finding-stays : (f : Form) (i : Input) (L : Lists) (k : ℕ) (m x : List ℕ) → k < i .n → found.But (4 * i .n) (5 * i .n) m x → Finding f i L (k + 1) m → Finding f i L (k + 1) x
+finding-stays : (f : Form) (i : Input) (L : Lists) (k : ℕ) (m x : List ℕ) → k < i .n → found.But (cursorsFrom (i .n)) (listFrom (i .n)) m x → Finding f i L (k + 1) m → Finding f i L (k + 1) x
 finding-stays Plain i L k m x h same F = tt
 finding-stays Shared i L k m x h same F = held-stays i L k m x h same F
 finding-stays ByRow i L k m x h same F = held-stays i L k m x h same F
 
-lower-stays : (n below : ℕ) (m x : List ℕ) → 5 * n + below ≤ length m → length x ≡ length m → found.But (4 * n) (5 * n) m x → lowerIn n below x ≡ lowerIn n below m
+lower-stays : (n below : ℕ) (m x : List ℕ) → listFrom n + below ≤ length m → length x ≡ length m → found.But (cursorsFrom n) (listFrom n) m x → lowerIn n below x ≡ lowerIn n below m
 lower-stays n below m x r ex same =
-    let a : length (lowerIn n below x) ≡ below = length-take-le below (drop (5 * n) x) (simp length-drop (omega arith)) in
-    let b : length (lowerIn n below m) ≡ below = length-take-le below (drop (5 * n) m) (simp length-drop (omega arith)) in
+    let a : length (lowerIn n below x) ≡ below = length-take-le below (drop (listFrom n) x) (simp length-drop (omega arith)) in
+    let b : length (lowerIn n below m) ≡ below = length-take-le below (drop (listFrom n) m) (simp length-drop (omega arith)) in
     ext-getD 0 (lowerIn n below x) (lowerIn n below m) (a ∙ sym b)
     (λ p q. let g : p < below = rw a at q in
-    getD-take below (drop (5 * n) x) p 0 g ∙ getD-drop (5 * n) x p 0 ∙ same (5 * n + p) (λ e. omega arith) ∙ sym (getD-drop (5 * n) m p 0) ∙ sym (getD-take below (drop (5 * n) m) p 0 g))
+    getD-take below (drop (listFrom n) x) p 0 g ∙ getD-drop (listFrom n) x p 0 ∙ same (listFrom n + p) (λ e. omega arith) ∙ sym (getD-drop (listFrom n) m p 0) ∙ sym (getD-take below (drop (listFrom n) m) p 0 g))
 
 -- ---- row k, from what its calls leave
 

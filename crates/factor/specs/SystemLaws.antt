@@ -30,6 +30,7 @@ use Rattle.numeric.specs.Stores.{Below, Ascending, Shape, Reducible, placesOf}
 use Rattle.numeric.specs.Rows.{filledRow, Closed, Lent}
 use Rattle.numeric.specs.RowLaws.{has-at}
 use Rattle.factor.specs.Factoring.{Inverse, RowAt}
+use Rattle.base.specs.Scratch.{listFrom, zFrom}
 
 -- ---- the fill
 
@@ -105,7 +106,7 @@ placed-shape f P n starts runs index size h = record {
 -- ---- a row of M
 
 -- the inverse order, as a slice
-pub inverse-is : (i : Input) (s : List ℕ) → i .n + i .n ≤ length s → Inverse i s → take (i .n) (drop (i .n) s) ≡ table (ic (i .c) (i .n)) (i .n)
+pub inverse-is : (i : Input) (s : List ℕ) → zFrom (i .n) ≤ length s → Inverse i s → take (i .n) (drop (i .n) s) ≡ table (ic (i .c) (i .n)) (i .n)
 inverse-is i s h e =
     let l : length (take (i .n) (drop (i .n) s)) ≡ i .n = length-take-le (i .n) (drop (i .n) s) (simp length-drop (omega arith)) in
     ext-getD 0 (take (i .n) (drop (i .n) s)) (table (ic (i .c) (i .n)) (i .n)) (l ∙ sym (length-table (ic (i .c) (i .n)) (i .n)))
@@ -123,7 +124,7 @@ module _ (i : Input) (k below : ℕ) (us ur ui marks : List ℕ) (upper work : �
   -- what the code reads: the row's columns and values, the inverse order, b(r(k)) and lower row k
   module _ (columns inverse lower : List ℕ) (values : List Float) (b : Float) (ec : columns ≡ rowOf (i .starts) (i .columns) own)
       (ev : values ≡ rowOf (i .starts) (i .values) own) (ei : inverse ≡ take (i .n) (drop (i .n) marks)) (eb : b ≡ getD (i .b) own nan)
-      (el : lower ≡ take below (drop (5 * i .n) marks)) where
+      (el : lower ≡ take below (drop (listFrom (i .n)) marks)) where
     order-is : inverse ≡ table (ic (i .c) (i .n)) (i .n)
     order-is = ei ∙ inverse-is i marks (omega (arith, R .slots)) (R .inverse)
 

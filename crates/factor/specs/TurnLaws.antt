@@ -28,6 +28,7 @@ use Rattle.factor.specs.declared.Factored.the-variants.{Solved}
 use Rattle.factor.specs.declared.Factored.the-variants as done
 use Rattle.factor.specs.Factoring.{FactoredAs, CameTo, isFault, Lists, Written, written, LowerPlaced, Factorable, LowerHeld, Inverse, Finding, Going, RowAt, lowerIn, LowerAt}
 use Rattle.factor.specs.SystemLaws.{lower-below, system-closed, placed-shape}
+use Rattle.base.specs.Scratch.{cursorsFrom}
 
 -- ---- what is lent stays so: it depends on what is written by lengths alone
 
@@ -165,7 +166,7 @@ module _ {f : Form} {i : Input} {L : Lists} {k : ℕ} {w : Written} (G : Going f
           rw e (getD-set-same (w .d) k (t .reciprocal) nan (omega (arith, G .given .reciprocals)) ∙ ap (λ (r : Row). r .d) (sym (getD-at (G .rows) next [] none k many))))
     ])
 
-    pub going-more : LowerHeld f (system i) (G .rows ++ (next ∷ [])) (k + 1) (L .lower-starts) (drop (4 * i .n) (x .marks)) (x .lower) → Inverse i (x .marks)
+    pub going-more : LowerHeld f (system i) (G .rows ++ (next ∷ [])) (k + 1) (L .lower-starts) (drop (cursorsFrom (i .n)) (x .marks)) (x .lower) → Inverse i (x .marks)
         → Finding f i L (k + 1) (x .marks) → Going f i L (k + 1) x
     going-more kept inv find = record {
       given = same-given s (G .given);

@@ -6,6 +6,7 @@ use base::Index;
 use base::OwnNumber;
 use base::Place;
 use base::RowSums;
+use base::scratch;
 use numeric::Back;
 use numeric::Pivot;
 ghost use mathlib.Core.Path.{_≡_};
@@ -24,6 +25,8 @@ ghost use Rattle.outcome.specs.Solve.{system};
 ghost use Rattle.numeric.specs.Stores.{Closable, gathered, storeGiven};
 ghost use Rattle.numeric.specs.Rows.{Held, Reduced, Shut};
 ghost use Rattle.factor.specs.Factoring.{FactoredAs, lists, written, Factorable, Going, CameTo, isFault, OwnRow, RowAt, lowerIn, LowerAt, patternOf, Findable, Found, readsLower, LowerAsked, LowerGiven, RowReady, Keepable, Spread, KeepAsked, KeepGiven, BackReady, backAs};
+ghost use Rattle.base.specs.Scratch.{listFrom, zFrom};
+ghost use Rattle.base.specs.Limits.{maxRows};
 
 // Every row is done and z is found, or what the arithmetic meets first.
 pub enum Factored {
@@ -91,10 +94,10 @@ fn own_right(b: &[f64], r: &[Index], k: Place) -> f64
 }
 
 fn inverse_part(marks: &[u32], n: usize) -> &[u32]
-    requires { ⌜ (n ≤ 65536) × (n + n ≤ length (now marks)) ⌝ }
+    requires { ⌜ (n ≤ maxRows) × (zFrom n ≤ length (now marks)) ⌝ }
     ensures { λ p. ⌜ now p ≡ take n (drop n (now (marks .entry))) ⌝ }
 {
-    let end = n + n;
+    let end = scratch::BLOCKS * n;
     &marks[n..end]
 }
 
@@ -102,7 +105,7 @@ fn lower_part(marks: &[u32], n: usize, below: usize) -> &[u32]
     requires { ⌜ LowerAt n below (length (now marks)) ⌝ }
     ensures { λ p. ⌜ now p ≡ lowerIn n below (now (marks .entry)) ⌝ }
 {
-    let from = 5 * n;
+    let from = scratch::LIST * n;
     let end = from + below;
     &marks[from..end]
 }
@@ -187,8 +190,8 @@ fn solve_back(
     work: &mut [f64],
 ) -> Factored
     requires { ⌜ BackReady n (now uindex) (now uruns) (now ustarts) (length (now uvalues)) (now work) ⌝ }
-    ensures { λ a. ⌜ backAs (drop (n + n) (now (work .exit))) a
-        ≡ back (storeGiven n (now (work .entry)) (now (uindex .entry)) (now (uruns .entry)) (now (ustarts .entry)) (now (uvalues .entry))) n (drop (n + n) (now (work .entry))) ⌝ }
+    ensures { λ a. ⌜ backAs (drop (zFrom n) (now (work .exit))) a
+        ≡ back (storeGiven n (now (work .entry)) (now (uindex .entry)) (now (uruns .entry)) (now (ustarts .entry)) (now (uvalues .entry))) n (drop (zFrom n) (now (work .entry))) ⌝ }
 {
     let z = numeric::back_steps(work, n, uindex, uruns, ustarts, uvalues);
     match z {
@@ -203,11 +206,11 @@ fn solve_back(
 fn lower_plain(n: usize, k: Place, lstarts: &[u32], lindex: &[Index], marks: &mut [u32]) -> usize
     requires { ⌜ ListIn (now lindex) (now lstarts) (now lstarts) (k .0) × LowerAt n (length (rowOf (now lstarts) (now lindex) (k .0))) (length (now marks)) ⌝ }
     ensures { λ below. ⌜ (below ≡ length (rowOf (now (lstarts .entry)) (now (lindex .entry)) (k .0)))
-        × (now (marks .exit) ≡ sets (now (marks .entry)) (5 * n) (rowOf (now (lstarts .entry)) (now (lindex .entry)) (k .0))) ⌝ }
+        × (now (marks .exit) ≡ sets (now (marks .entry)) (listFrom n) (rowOf (now (lstarts .entry)) (now (lindex .entry)) (k .0))) ⌝ }
 {
     let place = k.0 as usize;
     let list = marks::list_part(lindex, lstarts, lstarts, place);
-    copy_list(list, marks, 5 * n);
+    copy_list(list, marks, scratch::LIST * n);
     list.len()
 }
 
@@ -229,7 +232,7 @@ fn find_lower(
         (now (uindex .entry)) (now (uruns .entry)) (now (ustarts .entry)) (now (marks .entry)) (now (marks .exit)) ⌝ }
 {
     let stamp = k.0 + 1;
-    let cuts = 3 * n;
+    let cuts = scratch::UPPER_CUTS * n;
     rows::load_row_place(marks, n, stamp, k, columns, starts, r);
     let below = rows::close_place(marks, n, stamp, k, cuts, uindex, uruns);
     rows::renew_cuts(marks, n, stamp, k, below, cuts, uindex, uruns, ustarts);
@@ -306,8 +309,8 @@ fn keep_shared(
     requires { ⌜ (length (now w) ≡ n) × Spread n below (now lstarts) (length (now lvalues)) (now marks) ⌝ }
     ensures { λ _. ⌜ KeepGiven Shared n 0 below (now (lstarts .entry)) (now (w .entry)) (now (lvalues .entry)) (now (lvalues .exit)) (now (marks .entry)) (now (marks .exit)) ⌝ }
 {
-    let cursors = 4 * n;
-    let lower = 5 * n;
+    let cursors = scratch::CURSORS * n;
+    let lower = scratch::LIST * n;
     let mut p = 0;
     while p < below {
         let i = marks::wide32(marks[lower + p]);
@@ -569,7 +572,7 @@ fn factor_in(
 ) -> Factored
     requires { ⌜ Factorable form (inputOf n (now starts) (now columns) (now values) (now r) (now c) (now b)) (lists (now lstarts) (now lindex) (now ustarts) (now uruns) (now uindex)) (written (now lvalues) (now uvalues) (now d) (now work) (now marks)) ⌝ }
     ensures { λ a. ⌜ FactoredAs form (inputOf n (now (starts .entry)) (now (columns .entry)) (now (values .entry)) (now (r .entry)) (now (c .entry)) (now (b .entry))) a
-        (now (lvalues .exit)) (now (uvalues .exit)) (now (d .exit)) (drop (n + n) (now (work .exit))) ⌝ }
+        (now (lvalues .exit)) (now (uvalues .exit)) (now (d .exit)) (drop (zFrom n) (now (work .exit))) ⌝ }
 {
     begin(n, c, lvalues, uvalues, work, marks);
     let a = do_rows(
@@ -621,7 +624,7 @@ pub fn factor_plain(
     requires { ⌜ Factorable Plain (inputOf n (now starts) (now columns) (now values) (now r) (now c) (now b)) (lists (now lstarts) (now lindex) (now ustarts) (now ustarts) (now uindex))
         (written (now lvalues) (now uvalues) (now d) (now work) (now marks)) ⌝ }
     ensures { λ a. ⌜ FactoredAs Plain (inputOf n (now (starts .entry)) (now (columns .entry)) (now (values .entry)) (now (r .entry)) (now (c .entry)) (now (b .entry))) a
-        (now (lvalues .exit)) (now (uvalues .exit)) (now (d .exit)) (drop (n + n) (now (work .exit))) ⌝ }
+        (now (lvalues .exit)) (now (uvalues .exit)) (now (d .exit)) (drop (zFrom n) (now (work .exit))) ⌝ }
 {
     factor_in(
         Form::Plain,
@@ -666,7 +669,7 @@ pub fn factor_shared(
     requires { ⌜ Factorable Shared (inputOf n (now starts) (now columns) (now values) (now r) (now c) (now b)) (lists (now lstarts) [] (now ustarts) (now uruns) (now uindex))
         (written (now lvalues) (now uvalues) (now d) (now work) (now marks)) ⌝ }
     ensures { λ a. ⌜ FactoredAs Shared (inputOf n (now (starts .entry)) (now (columns .entry)) (now (values .entry)) (now (r .entry)) (now (c .entry)) (now (b .entry))) a
-        (now (lvalues .exit)) (now (uvalues .exit)) (now (d .exit)) (drop (n + n) (now (work .exit))) ⌝ }
+        (now (lvalues .exit)) (now (uvalues .exit)) (now (d .exit)) (drop (zFrom n) (now (work .exit))) ⌝ }
 {
     factor_in(
         Form::Shared,
@@ -709,7 +712,7 @@ pub fn factor_row(
     requires { ⌜ Factorable ByRow (inputOf n (now starts) (now columns) (now values) (now r) (now c) (now b)) (lists [] [] (now ustarts) (now uruns) (now uindex))
         (written [] (now uvalues) (now d) (now work) (now marks)) ⌝ }
     ensures { λ a. ⌜ FactoredAs ByRow (inputOf n (now (starts .entry)) (now (columns .entry)) (now (values .entry)) (now (r .entry)) (now (c .entry)) (now (b .entry))) a
-        [] (now (uvalues .exit)) (now (d .exit)) (drop (n + n) (now (work .exit))) ⌝ }
+        [] (now (uvalues .exit)) (now (d .exit)) (drop (zFrom n) (now (work .exit))) ⌝ }
 {
     // The row form keeps no L.
     let mut none = [0.0; 1];

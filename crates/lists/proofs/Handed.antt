@@ -26,7 +26,7 @@ use Rattle.base.specs.declared.Answer.{Answer}
 use Rattle.base.specs.declared.Answer.the-variants.{Done, Refused}
 use Rattle.fill.specs.Fill.{Pattern}
 use Rattle.fill.specs.ListLaws.{lower-is-upper}
-use Rattle.matrix.specs.Limits.{rowsWithin, maxSlots}
+use Rattle.base.specs.Limits.{rowsWithin, maxSlots}
 use Rattle.matrix.specs.Input.{Input, stored}
 use Rattle.matrix.specs.Questions.{askStructure, askSolve}
 use Rattle.arithmetic.specs.Arith.{Out, ok, met, Result}

@@ -8,7 +8,7 @@ use lib.Dec.{leb, ltb, eqb}
 use Rattle.base.specs.declared.Place.{Place}
 use Rattle.base.specs.declared.Side.{Side}
 use Rattle.base.specs.declared.Side.the-variants.{Lower, Upper}
-use Rattle.matrix.specs.Limits.{rowsWithin, maxSlots}
+use Rattle.base.specs.Limits.{rowsWithin, maxSlots}
 use Rattle.lookup.specs.declared.Span.{Span}
 
 -- what is lent of one side; the plain form's runs start where its lists do

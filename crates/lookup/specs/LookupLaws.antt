@@ -13,7 +13,7 @@ use Rattle.base.specs.Lists.{listAt}
 use Rattle.base.specs.declared.Place.{Place}
 use Rattle.base.specs.declared.Side.{Side}
 use Rattle.base.specs.declared.Side.the-variants.{Lower, Upper}
-use Rattle.matrix.specs.Limits.{rowsWithin, maxRows, maxSlots}
+use Rattle.base.specs.Limits.{rowsWithin, maxRows, maxSlots}
 use Rattle.lookup.specs.declared.Span.{Span}
 use Rattle.lookup.specs.Lookup.{SideLent, Lists, listsOf, sized, bothFit, spanFrom, runSpan, spanOf, ofSide, spanIn, Inside, within, lookup}
 

@@ -13,6 +13,7 @@ use Rattle.base.specs.Lists.{asc, keep}
 use Rattle.base.specs.AscLaws.{asc-ext}
 use Rattle.marks.specs.Marks.{marked, chosen, members, Blocks, Bare}
 use Rattle.marks.specs.MarkLaws.{blocks-same, marks-sets, members-none, members-empty, sets-below}
+use Rattle.base.specs.Scratch.{upperCuts}
 
 -- ---- the members by parts
 
@@ -105,7 +106,7 @@ module _ (t : ℕ) (s₀ : List ℕ) (from at had : ℕ) (s : List ℕ) (count j
   filled-miss u r h out eu er = filled-none u r (j + 1) (omega arith) (omega arith) (λ i a b. let q : i ≡ j = omega arith in rw q out) eu er
 
   -- blocks without the stamp have no member
-  pub filled-skip : (n e stop : ℕ) → Blocks n t s₀ → n + n + n ≤ at → e ≤ n → Bare n t s j e stop → Filled t s₀ from at had s count stop
+  pub filled-skip : (n e stop : ℕ) → Blocks n t s₀ → upperCuts n ≤ at → e ≤ n → Bare n t s j e stop → Filled t s₀ from at had s count stop
   filled-skip n e stop b low h k =
       let bs = blocks-same n t s₀ s (marks-sets n s₀ s (at + had) (members t s₀ from j) (omega arith) (f .written)) b in
       let w = k .above in

@@ -17,6 +17,7 @@ use Rattle.marks.specs.MarkLaws.{members-none}
 use Rattle.marks.specs.BlockLaws.{members-more, members-same, members-split, members-le}
 use Rattle.marks.specs.VisitLaws.{visited-keeps}
 use Rattle.marks.specs.CutLaws.{cut-other, cut-length}
+use Rattle.base.specs.Scratch.{listFrom}
 
 -- the places of a list are visited in turn
 unfoldable pub along : (ℕ → List ℕ → List ℕ) → List ℕ → List ℕ → List ℕ
@@ -46,7 +47,7 @@ module _ (t : ℕ) (f : ℕ → List ℕ → List ℕ) (e : ℕ) (keeps : (i : �
 
 pub record Listed (n t k cuts : ℕ) (T : ℕ → List ℕ) (s₀ s : List ℕ) (p : ℕ) : Type 0 where
   pub long : length s ≡ length s₀
-  pub list : drop (5 * n) s ≡ drop (5 * n) s₀
+  pub list : drop (listFrom n) s ≡ drop (listFrom n) s₀
   pub left : along (cutOne cuts k T) (drop p (members t s₀ 0 k)) s ≡ visited t (cutOne cuts k T) 0 k s₀
 
 cut-drop : (cuts k : ℕ) (T : ℕ → List ℕ) (i : ℕ) (s : List ℕ) (m : ℕ) → cuts + i < m → drop m (cutOne cuts k T i s) ≡ drop m s
@@ -69,15 +70,15 @@ along-end : (f : ℕ → List ℕ → List ℕ) (s l : List ℕ) → along f (dr
 unfolding along
 along-end f s l = rw drop-length
 
-module _ (n t k : ℕ) (s₀ : List ℕ) (small : k < n) (room : Room n s₀) (below : ℕ) (stands : take below (drop (5 * n) s₀) ≡ members t s₀ 0 k) where
+module _ (n t k : ℕ) (s₀ : List ℕ) (small : k < n) (room : Room n s₀) (below : ℕ) (stands : take below (drop (listFrom n) s₀) ≡ members t s₀ 0 k) where
   -- the members are fewer than the region has slots
   listed-size : length (members t s₀ 0 k) ≡ below
   listed-size =
-      let d = length-drop (5 * n) s₀ in
+      let d = length-drop (listFrom n) s₀ in
       let few = members-le t s₀ 0 k (omega arith) in
-      elim (decLt (length (drop (5 * n) s₀)) below) [
-        | yes q ↦ absurd (omega (arith, room .long, ap length (sym (take-all below (drop (5 * n) s₀) (omega arith)) ∙ stands)))
-        | no q ↦ ap length (sym stands) ∙ length-take-le below (drop (5 * n) s₀) (omega arith)
+      elim (decLt (length (drop (listFrom n) s₀)) below) [
+        | yes q ↦ absurd (omega (arith, room .long, ap length (sym (take-all below (drop (listFrom n) s₀) (omega arith)) ∙ stands)))
+        | no q ↦ ap length (sym stands) ∙ length-take-le below (drop (listFrom n) s₀) (omega arith)
       ]
 
   pub listed-fit : below ≤ n
@@ -90,16 +91,16 @@ module _ (n t k : ℕ) (s₀ : List ℕ) (small : k < n) (room : Room n s₀) (b
         record { long = refl; list = refl; left = sym (visited-along t (cutOne cuts k T) k keeps s₀) }
 
     module _ (s : List ℕ) (p : ℕ) (g : Listed n t k cuts T s₀ s p) where
-      listed-read : p < below → getD s (5 * n + p) 0 ≡ getD (members t s₀ 0 k) p 0
-      listed-read h = sym (getD-drop (5 * n) s p 0) ∙ rw (g .list, ← stands) (sym (getD-take below (drop (5 * n) s₀) p 0 h))
+      listed-read : p < below → getD s (listFrom n + p) 0 ≡ getD (members t s₀ 0 k) p 0
+      listed-read h = sym (getD-drop (listFrom n) s p 0) ∙ rw (g .list, ← stands) (sym (getD-take below (drop (listFrom n) s₀) p 0 h))
 
-      pub listed-below : (i : ℕ) → p < below → i ≡ getD s (5 * n + p) 0 → i < k
+      pub listed-below : (i : ℕ) → p < below → i ≡ getD s (listFrom n + p) 0 → i < k
       listed-below i h e = omega (arith, listed-read h, members-below t s₀ k p (omega (arith, listed-size)))
 
-      pub listed-more : (u : List ℕ) (i : ℕ) → p < below → i ≡ getD s (5 * n + p) 0 → u ≡ cutOne cuts k T i s → Listed n t k cuts T s₀ u (p + 1)
+      pub listed-more : (u : List ℕ) (i : ℕ) → p < below → i ≡ getD s (listFrom n + p) 0 → u ≡ cutOne cuts k T i s → Listed n t k cuts T s₀ u (p + 1)
       listed-more u i h e c = record {
         long = rw c (cut-length cuts k T i s ∙ g .long);
-        list = rw c (cut-drop cuts k T i s (5 * n) (omega (arith, base .high, listed-below i h e)) ∙ g .list);
+        list = rw c (cut-drop cuts k T i s (listFrom n) (omega (arith, base .high, listed-below i h e)) ∙ g .list);
         left = rw (c, e, listed-read h) (sym (along-next (cutOne cuts k T) s (members t s₀ 0 k) p (omega (arith, listed-size))) ∙ g .left);
       }
 

@@ -14,11 +14,12 @@ use borrow.Author.Tests.{eq-eqb, ne-eqb, lt-leb}
 use Rattle.base.specs.Lists.{asc, has}
 use Rattle.base.specs.AscLaws.{asc-no, asc-none}
 use Rattle.marks.specs.Marks.{Below, Room, markAt, stamped, Blocks, Fresh, Holds, Free, Same, chosen, members, through}
+use Rattle.base.specs.Scratch.{blocksFrom, upperCuts}
 
 -- ---- one mark
 
 pub markAt-length : (n t : ℕ) (s : List ℕ) (j : ℕ) → length (markAt n t s j) ≡ length s
-markAt-length n t s j = length-set (set s j t) (n + n + j / 64) t ∙ length-set s j t
+markAt-length n t s j = length-set (set s j t) (blocksFrom n + j / 64) t ∙ length-set s j t
 
 pub room-kept : (n : ℕ) (s u : List ℕ) → length u ≡ length s → Room n s → Room n u
 room-kept n s u e r = record { small = omega arith; long = omega arith }
@@ -27,30 +28,30 @@ room-mark : (n t : ℕ) (s : List ℕ) (j : ℕ) → Room n s → Room n (markAt
 room-mark n t s j r = room-kept n s (markAt n t s j) (markAt-length n t s j) r
 
 pub mark-other : (n t : ℕ) (s : List ℕ) (j i : ℕ) → i < n → (i ≡ j → ⊥) → getD (markAt n t s j) i 0 ≡ getD s i 0
-mark-other n t s j i h d = getD-set-other (set s j t) (n + n + j / 64) i t 0 (omega arith) ∙ getD-set-other s j i t 0 d
+mark-other n t s j i h d = getD-set-other (set s j t) (blocksFrom n + j / 64) i t 0 (omega arith) ∙ getD-set-other s j i t 0 d
 
 mark-here : (n t : ℕ) (s : List ℕ) (j : ℕ) → j < n → Room n s → getD (markAt n t s j) j 0 ≡ t
-mark-here n t s j h r = getD-set-other (set s j t) (n + n + j / 64) j t 0 (omega arith) ∙ getD-set-same s j t 0 (omega arith)
+mark-here n t s j h r = getD-set-other (set s j t) (blocksFrom n + j / 64) j t 0 (omega arith) ∙ getD-set-same s j t 0 (omega arith)
 
 mark-free : (n t : ℕ) (s : List ℕ) (j q : ℕ) → j < n → Free n q → getD (markAt n t s j) q 0 ≡ getD s q 0
 mark-free n t s j q h f =
-    getD-set-other (set s j t) (n + n + j / 64) q t 0 (λ e. let a = f .away (omega arith) in omega arith)
+    getD-set-other (set s j t) (blocksFrom n + j / 64) q t 0 (λ e. let a = f .away (omega arith) in omega arith)
     ∙ getD-set-other s j q t 0 (λ e. let a = f .past in omega arith)
 
 -- a stamped block stays so
-mark-block : (n t : ℕ) (s : List ℕ) (j b : ℕ) → j < n → Room n s → n + n ≤ b → getD s b 0 ≡ t → getD (markAt n t s j) b 0 ≡ t
-mark-block n t s j b h r a e = go (ℕ-discrete b (n + n + j / 64))
+mark-block : (n t : ℕ) (s : List ℕ) (j b : ℕ) → j < n → Room n s → blocksFrom n ≤ b → getD s b 0 ≡ t → getD (markAt n t s j) b 0 ≡ t
+mark-block n t s j b h r a e = go (ℕ-discrete b (blocksFrom n + j / 64))
   where
-    go : Dec (b ≡ n + n + j / 64) → getD (markAt n t s j) b 0 ≡ t
-    go (yes q) = rw q (getD-set-same (set s j t) (n + n + j / 64) t 0 (simp length-set (omega arith)))
-    go (no q) = getD-set-other (set s j t) (n + n + j / 64) b t 0 q ∙ getD-set-other s j b t 0 (omega arith) ∙ e
+    go : Dec (b ≡ blocksFrom n + j / 64) → getD (markAt n t s j) b 0 ≡ t
+    go (yes q) = rw q (getD-set-same (set s j t) (blocksFrom n + j / 64) t 0 (simp length-set (omega arith)))
+    go (no q) = getD-set-other (set s j t) (blocksFrom n + j / 64) b t 0 q ∙ getD-set-other s j b t 0 (omega arith) ∙ e
 
 blocks-mark : (n t : ℕ) (s : List ℕ) (j : ℕ) → j < n → Room n s → Blocks n t s → Blocks n t (markAt n t s j)
 blocks-mark n t s j h r bs i hi e = go (ℕ-discrete i j)
   where
-    go : Dec (i ≡ j) → getD (markAt n t s j) (n + n + i / 64) 0 ≡ t
-    go (yes q) = rw q (getD-set-same (set s j t) (n + n + j / 64) t 0 (simp length-set (omega arith)))
-    go (no q) = mark-block n t s j (n + n + i / 64) h r (omega arith) (bs i hi (sym (mark-other n t s j i (omega arith) q) ∙ e))
+    go : Dec (i ≡ j) → getD (markAt n t s j) (blocksFrom n + i / 64) 0 ≡ t
+    go (yes q) = rw q (getD-set-same (set s j t) (blocksFrom n + j / 64) t 0 (simp length-set (omega arith)))
+    go (no q) = mark-block n t s j (blocksFrom n + i / 64) h r (omega arith) (bs i hi (sym (mark-other n t s j i (omega arith) q) ∙ e))
 
 holds-mark : (n t : ℕ) (s : List ℕ) (j : ℕ) (p : ℕ → Bool) → j < n → Room n s → Holds n t s p → Holds n t (markAt n t s j) (λ i. p i || eqb j i)
 holds-mark n t s j p h r k = record {
@@ -201,13 +202,13 @@ sets-above s at (y ∷ l) q h = sets-above (set s at y) (suc at) l q (omega arit
 
 -- the marks and block stamps are as they were
 abbrev pub Marks : ℕ → List ℕ → List ℕ → Type 0
-Marks n s₀ s = (q : ℕ) → q < n + n + n → getD s q 0 ≡ getD s₀ q 0
+Marks n s₀ s = (q : ℕ) → q < upperCuts n → getD s q 0 ≡ getD s₀ q 0
 
-pub marks-sets : (n : ℕ) (s u : List ℕ) (at : ℕ) (l : List ℕ) → n + n + n ≤ at → u ≡ sets s at l → Marks n s u
+pub marks-sets : (n : ℕ) (s u : List ℕ) (at : ℕ) (l : List ℕ) → upperCuts n ≤ at → u ≡ sets s at l → Marks n s u
 marks-sets n s u at l h e q k = rw e (sets-below s at l q (omega arith))
 
 pub blocks-same : (n t : ℕ) (s u : List ℕ) → Marks n s u → Blocks n t s → Blocks n t u
-blocks-same n t s u k b j l e = k (n + n + j / 64) (omega arith) ∙ b j l (sym (k j (omega arith)) ∙ e)
+blocks-same n t s u k b j l e = k (blocksFrom n + j / 64) (omega arith) ∙ b j l (sym (k j (omega arith)) ∙ e)
 
 pub holds-kept : (n t : ℕ) (s u : List ℕ) (p : ℕ → Bool) → Marks n s u → Holds n t s p → Holds n t u p
 holds-kept n t s u p k h = record {

@@ -9,6 +9,8 @@ use lib.ListN.{length, getD, take, drop, set}
 use lib.Seq.{sets}
 use lib.Dec.{eqb, leb}
 use Rattle.base.specs.Lists.{asc}
+use Rattle.base.specs.Scratch.{blocksFrom, upperCuts, lowerCuts, listFrom, regionsEnd}
+use Rattle.base.specs.Limits.{maxRows}
 
 -- each entry of the list l is below n
 abbrev pub Below : ℕ → List ℕ → Type 0
@@ -20,14 +22,14 @@ Above i l = (p : ℕ) → p < length l → i < getD l p 0
 
 -- scratch has its eight regions
 pub record Room (n : ℕ) (s : List ℕ) : Type 0 where
-  pub small : n ≤ 65536
-  pub long : 8 * n ≤ length s
+  pub small : n ≤ maxRows
+  pub long : regionsEnd n ≤ length s
 
 -- ---- marks
 
 -- scratch with the stamp t at place j and at its block
 abbrev pub markAt : ℕ → ℕ → List ℕ → ℕ → List ℕ
-markAt n t s j = set (set s j t) (n + n + j / 64) t
+markAt n t s j = set (set s j t) (blocksFrom n + j / 64) t
 
 -- scratch with the stamp t at each place of the list
 unfoldable pub stamped : ℕ → ℕ → List ℕ → List ℕ → List ℕ
@@ -40,13 +42,13 @@ marked t s j = eqb (getD s j 0) t
 
 -- every member's block is stamped
 abbrev pub Blocks : ℕ → ℕ → List ℕ → Type 0
-Blocks n t s = (j : ℕ) → j < n → getD s j 0 ≡ t → getD s (n + n + j / 64) 0 ≡ t
+Blocks n t s = (j : ℕ) → j < n → getD s j 0 ≡ t → getD s (blocksFrom n + j / 64) 0 ≡ t
 
 -- r is above j and at most e, and no block of a place from j up to r is stamped
 pub record Bare (n t : ℕ) (s : List ℕ) (j e r : ℕ) : Type 0 where
   pub above : j < r
   pub within : r ≤ e
-  pub none : (i : ℕ) → j ≤ i → i < r → getD s (n + n + i / 64) 0 ≡ t → ⊥
+  pub none : (i : ℕ) → j ≤ i → i < r → getD s (blocksFrom n + i / 64) 0 ≡ t → ⊥
 
 -- every mark is older than t
 abbrev pub Fresh : ℕ → ℕ → List ℕ → Type 0
@@ -61,7 +63,7 @@ pub record Holds (n t : ℕ) (s : List ℕ) (p : ℕ → Bool) : Type 0 where
 -- slot q is neither a mark nor a block stamp
 pub record Free (n q : ℕ) : Type 0 where
   pub past : n ≤ q
-  pub away : n + n ≤ q → n + n + n ≤ q
+  pub away : blocksFrom n ≤ q → upperCuts n ≤ q
 
 -- all slots but marks and block stamps are as they were
 abbrev pub Same : ℕ → List ℕ → List ℕ → Type 0
@@ -98,7 +100,7 @@ unite n t T i s = stamped n t s (T i)
 -- the lists of the members below k are united with the set; these members, r of them, stand in the list region
 pub record Merged (n t k : ℕ) (T : ℕ → List ℕ) (s₀ s : List ℕ) (r : ℕ) : Type 0 where
   pub size : r ≡ length (members t (visited t (unite n t T) 0 k s₀) 0 k)
-  pub slots : s ≡ sets (visited t (unite n t T) 0 k s₀) (5 * n) (members t (visited t (unite n t T) 0 k s₀) 0 k)
+  pub slots : s ≡ sets (visited t (unite n t T) 0 k s₀) (listFrom n) (members t (visited t (unite n t T) 0 k s₀) 0 k)
 
 -- ---- lists in a store, and their cuts
 
@@ -111,8 +113,8 @@ pub record ListIn (index runs starts : List ℕ) (i : ℕ) : Type 0 where
 
 -- where a side's cuts stand: in one of the two regions behind the block stamps
 pub record Base (n cuts : ℕ) : Type 0 where
-  pub low : n + n + n ≤ cuts
-  pub high : cuts ≤ n + n + n + n
+  pub low : upperCuts n ≤ cuts
+  pub high : cuts ≤ lowerCuts n
 
 -- the entries of list i that a later place merges, its first ones: slot cuts + i says how many
 unfoldable pub partAt : List ℕ → ℕ → List ℕ → List ℕ → ℕ → List ℕ

@@ -12,6 +12,7 @@ use Rattle.base.specs.AscLaws.{asc-yes, asc-no}
 use Rattle.marks.specs.Marks.{Below, Above, Room, markAt, stamped, pick, marked, Blocks, Bare, chosen, members, visited, unite, Merged, Base, partAt, Parts}
 use Rattle.marks.specs.MarkLaws.{mark-other, room-kept, stamped-length, blocks-after, same-after, not-chosen, members-none, sets-snoc, sets-below, blocks-same}
 use Rattle.marks.specs.BlockLaws.{members-same}
+use Rattle.base.specs.Scratch.{blocksFrom, upperCuts, listFrom}
 
 -- ---- marks below a list
 
@@ -23,13 +24,13 @@ set-sets s q x at [] h = refl
 set-sets s q x at (y ∷ l) h = set-sets (set s at y) q x (suc at) l (omega arith) ∙ ap (λ u. sets u (suc at) l) (set-comm s at q y x (omega arith))
 
 -- marks and a list behind the block stamps can be written in either order
-stamped-sets : (n t : ℕ) (s : List ℕ) (at : ℕ) (m l : List ℕ) → n + n + n ≤ at → Below n l → stamped n t (sets s at m) l ≡ sets (stamped n t s l) at m
+stamped-sets : (n t : ℕ) (s : List ℕ) (at : ℕ) (m l : List ℕ) → upperCuts n ≤ at → Below n l → stamped n t (sets s at m) l ≡ sets (stamped n t s l) at m
 unfolding stamped
 stamped-sets n t s at m [] h b = refl
 stamped-sets n t s at m (j ∷ l) h b =
     let k = b 0 (omega arith) in
     let e : markAt n t (sets s at m) j ≡ sets (markAt n t s j) at m
-    = ap (λ u. set u (n + n + j / 64) t) (set-sets s j t at m (omega arith)) ∙ set-sets (set s j t) (n + n + j / 64) t at m (omega arith) in
+    = ap (λ u. set u (blocksFrom n + j / 64) t) (set-sets s j t at m (omega arith)) ∙ set-sets (set s j t) (blocksFrom n + j / 64) t at m (omega arith) in
     ap (λ u. stamped n t u l) e ∙ stamped-sets n t (markAt n t s j) at m l h (λ p q. b (suc p) (omega arith))
 
 -- places above i leave the marks up to i
@@ -66,14 +67,14 @@ members-miss t s i h = asc-no (chosen t s 0) i (not-chosen t s 0 i h)
 
 -- the cuts of both sides are as they were
 abbrev pub Cuts : ℕ → List ℕ → List ℕ → Type 0
-Cuts n s₀ s = (q : ℕ) → n + n + n ≤ q → q < 5 * n → getD s q 0 ≡ getD s₀ q 0
+Cuts n s₀ s = (q : ℕ) → upperCuts n ≤ q → q < listFrom n → getD s q 0 ≡ getD s₀ q 0
 
-pub cuts-set : (n : ℕ) (s : List ℕ) (c x : ℕ) → Cuts n s (set s (5 * n + c) x)
-cuts-set n s c x q a b = getD-set-other s (5 * n + c) q x 0 (omega arith)
+pub cuts-set : (n : ℕ) (s : List ℕ) (c x : ℕ) → Cuts n s (set s (listFrom n + c) x)
+cuts-set n s c x q a b = getD-set-other s (listFrom n + c) q x 0 (omega arith)
 
-pub cuts-turn : (n t : ℕ) (s₀ s u l : List ℕ) (c x : ℕ) → u ≡ stamped n t (set s (5 * n + c) x) l → Below n l → Cuts n s₀ s → Cuts n s₀ u
+pub cuts-turn : (n t : ℕ) (s₀ s u l : List ℕ) (c x : ℕ) → u ≡ stamped n t (set s (listFrom n + c) x) l → Below n l → Cuts n s₀ s → Cuts n s₀ u
 cuts-turn n t s₀ s u l c x e b h q lo hi =
-    same-after n t (set s (5 * n + c) x) (set s (5 * n + c) x) u l e b (λ r f. refl) q (record { past = omega arith; away = λ _. lo })
+    same-after n t (set s (listFrom n + c) x) (set s (listFrom n + c) x) u l e b (λ r f. refl) q (record { past = omega arith; away = λ _. lo })
     ∙ cuts-set n s c x q lo hi ∙ h q lo hi
 
 module _ (n k cuts : ℕ) (index runs s₀ s : List ℕ) (base : Base n cuts) (small : k ≤ n) (kept : Cuts n s₀ s) where
@@ -99,7 +100,7 @@ pub record Going (n t : ℕ) (T : ℕ → List ℕ) (s₀ s : List ℕ) (i c : �
   pub plain : List ℕ
   pub done : plain ≡ visited t (unite n t T) 0 i s₀
   pub size : c ≡ length (members t plain 0 i)
-  pub slots : s ≡ sets plain (5 * n) (members t plain 0 i)
+  pub slots : s ≡ sets plain (listFrom n) (members t plain 0 i)
   pub long : length s ≡ length s₀
   pub within : c ≤ i
   pub blocks : Blocks n t s
@@ -127,7 +128,7 @@ going-end n t T s₀ s i k c e g = rw (← e) (record { size = rw (← g .done) 
 
 module _ (n t : ℕ) (T : ℕ → List ℕ) (s₀ s : List ℕ) (i c : ℕ) (h : i < n) (g : Going n t T s₀ s i c) where
   plain-at : getD s i 0 ≡ getD (g .plain) i 0
-  plain-at = rw (g .slots) (sets-below (g .plain) (5 * n) (members t (g .plain) 0 i) i (omega arith))
+  plain-at = rw (g .slots) (sets-below (g .plain) (listFrom n) (members t (g .plain) 0 i) i (omega arith))
 
   pub going-miss : (getD s i 0 ≡ t → ⊥) → Going n t T s₀ s (i + 1) c
   going-miss m =
@@ -145,16 +146,16 @@ module _ (n t : ℕ) (T : ℕ → List ℕ) (s₀ s : List ℕ) (i c : ℕ) (h :
       }
 
   -- member i is written behind those before, then its list l is merged
-  module _ (room : Room n s) (l u : List ℕ) (b : Below n l) (e : u ≡ stamped n t (set s (5 * n + c) i) l) where
+  module _ (room : Room n s) (l u : List ℕ) (b : Below n l) (e : u ≡ stamped n t (set s (listFrom n + c) i) l) where
     hit-blocks : Blocks n t u
     hit-blocks =
-        blocks-after n t (set s (5 * n + c) i) u l e b (room-set n s (5 * n + c) i room)
-        (blocks-same n t s (set s (5 * n + c) i) (λ q k. getD-set-other s (5 * n + c) q i 0 (omega arith)) (g .blocks))
+        blocks-after n t (set s (listFrom n + c) i) u l e b (room-set n s (listFrom n + c) i room)
+        (blocks-same n t s (set s (listFrom n + c) i) (λ q k. getD-set-other s (listFrom n + c) q i 0 (omega arith)) (g .blocks))
 
-    hit-slots : u ≡ sets (stamped n t (g .plain) l) (5 * n) (members t (g .plain) 0 i ++ i ∷ [])
+    hit-slots : u ≡ sets (stamped n t (g .plain) l) (listFrom n) (members t (g .plain) 0 i ++ i ∷ [])
     hit-slots =
-        let w : set s (5 * n + c) i ≡ sets (g .plain) (5 * n) (members t (g .plain) 0 i ++ i ∷ []) = rw (sets-snoc (g .plain) (5 * n) (members t (g .plain) 0 i) i, ← g .size, ← g .slots) in
-        e ∙ ap (λ v. stamped n t v l) w ∙ stamped-sets n t (g .plain) (5 * n) (members t (g .plain) 0 i ++ i ∷ []) l (omega arith) b
+        let w : set s (listFrom n + c) i ≡ sets (g .plain) (listFrom n) (members t (g .plain) 0 i ++ i ∷ []) = rw (sets-snoc (g .plain) (listFrom n) (members t (g .plain) 0 i) i, ← g .size, ← g .slots) in
+        e ∙ ap (λ v. stamped n t v l) w ∙ stamped-sets n t (g .plain) (listFrom n) (members t (g .plain) 0 i ++ i ∷ []) l (omega arith) b
 
     hit-members : Above i l → getD s i 0 ≡ t → members t (stamped n t (g .plain) l) 0 (i + 1) ≡ members t (g .plain) 0 i ++ i ∷ []
     hit-members a m =
@@ -170,7 +171,7 @@ module _ (n t : ℕ) (T : ℕ → List ℕ) (s₀ s : List ℕ) (i c : ℕ) (h :
           done = rw q (visited-hit t (unite n t T) s₀ (g .plain) i (g .done) (sym plain-at ∙ m));
           size = rw (w, length-append (members t (g .plain) 0 i) (i ∷ [])) (omega (arith, g .size));
           slots = rw w hit-slots;
-          long = rw e (stamped-length n t (set s (5 * n + c) i) l ∙ length-set s (5 * n + c) i ∙ g .long);
+          long = rw e (stamped-length n t (set s (listFrom n + c) i) l ∙ length-set s (listFrom n + c) i ∙ g .long);
           within = omega (arith, g .within);
           blocks = hit-blocks;
           cuts = cuts-turn n t s₀ s u l c i e b (g .cuts);
@@ -214,24 +215,24 @@ module _ (n t cuts : ℕ) (index runs s₀ : List ℕ) (from had e : ℕ) (small
   })
 
   module _ (base : Base n cuts) where
-    pub listed-parts : Parts n e (set s (5 * n + c) i) cuts index runs
-    listed-parts = parts-kept n e cuts index runs s (set s (5 * n + c) i) base small (cuts-set n s c i) e (omega arith) (g .parts)
+    pub listed-parts : Parts n e (set s (listFrom n + c) i) cuts index runs
+    listed-parts = parts-kept n e cuts index runs s (set s (listFrom n + c) i) base small (cuts-set n s c i) e (omega arith) (g .parts)
 
-    pub along-hit : (u : List ℕ) (d : ℕ) → u ≡ stamped n t (set s (5 * n + c) i) (partAt (set s (5 * n + c) i) cuts index runs i) → d ≡ c + 1 → getD s i 0 ≡ t
+    pub along-hit : (u : List ℕ) (d : ℕ) → u ≡ stamped n t (set s (listFrom n + c) i) (partAt (set s (listFrom n + c) i) cuts index runs i) → d ≡ c + 1 → getD s i 0 ≡ t
         → Along n t cuts index runs s₀ from had e u (i + 1) d
     along-hit u d q r m =
         let p = listed-parts in
-        let k : length u ≡ length s = rw q (stamped-length n t (set s (5 * n + c) i) (partAt (set s (5 * n + c) i) cuts index runs i) ∙ length-set s (5 * n + c) i) in
+        let k : length u ≡ length s = rw q (stamped-length n t (set s (listFrom n + c) i) (partAt (set s (listFrom n + c) i) cuts index runs i) ∙ length-set s (listFrom n + c) i) in
         rw r (record {
           within = omega (arith, g .within);
           most = omega arith;
           long = k ∙ g .long;
           room = room-kept n s u k (g .room);
-          parts = parts-kept n e cuts index runs s u base small (cuts-turn n t s s u (partAt (set s (5 * n + c) i) cuts index runs i) c i q (p .below i h) (λ x lo hi. refl)) e (omega arith) (g .parts);
+          parts = parts-kept n e cuts index runs s u base small (cuts-turn n t s s u (partAt (set s (listFrom n + c) i) cuts index runs i) c i q (p .below i h) (λ x lo hi. refl)) e (omega arith) (g .parts);
           goes = λ z y.
               let o = g .goes z y in
-              let x = part-same n e cuts index runs z (set s (5 * n + c) i) base small (λ v lo hi. cuts-set n s c i v lo hi ∙ o .cuts v lo hi) i h in
-              going-hit n t (partAt z cuts index runs) z s i c (omega arith) o (g .room) (partAt (set s (5 * n + c) i) cuts index runs i) u (p .below i h) q (p .above i h) x m;
+              let x = part-same n e cuts index runs z (set s (listFrom n + c) i) base small (λ v lo hi. cuts-set n s c i v lo hi ∙ o .cuts v lo hi) i h in
+              going-hit n t (partAt z cuts index runs) z s i c (omega arith) o (g .room) (partAt (set s (listFrom n + c) i) cuts index runs i) u (p .below i h) q (p .above i h) x m;
         })
 
 pub along-end : (n t cuts : ℕ) (index runs s₀ : List ℕ) (from had e : ℕ) (s : List ℕ) (i c : ℕ) → e ≤ i → Along n t cuts index runs s₀ from had e s i c

@@ -6,9 +6,12 @@ ghost use lib.Seq.{sets};
 ghost use Rattle.base.specs.Lists.{listAt};
 ghost use Rattle.marks.specs.Marks.{Below, Room, markAt, stamped, Blocks, Bare, members, through, visited, Merged, ListIn, Base, partAt, PartIn, Parts, upto, cutOne, newCuts};
 ghost use Rattle.marks.specs.MergeLaws.{GoesOn};
+ghost use Rattle.base.specs.Scratch.{blocksFrom, upperCuts, listFrom};
+ghost use Rattle.base.specs.Limits.{maxRows};
 use base::Index;
 use base::OwnNumber;
 use base::Place;
+use base::scratch;
 
 fn wide16(x: Index) -> usize
     ensures { λ r. ⌜ r ≡ x ⌝ }
@@ -28,7 +31,7 @@ pub fn mark(s: &mut [u32], n: usize, stamp: u32, j: usize)
     ensures { λ r. ⌜ now (s .exit) ≡ markAt n stamp (now (s .entry)) j ⌝ }
 {
     s[j] = stamp;
-    s[n + n + j / 64] = stamp;
+    s[scratch::BLOCKS * n + j / 64] = stamp;
 }
 
 // Unites the set with a list of places.
@@ -47,7 +50,7 @@ pub fn merge_list(s: &mut [u32], n: usize, stamp: u32, list: &[Index])
 
 // Where the block of j ends, or `end` if that is before.
 fn block_end(j: usize, end: usize) -> usize
-    requires { ⌜ (j < end) × (end ≤ 65536) ⌝ }
+    requires { ⌜ (j < end) × (end ≤ maxRows) ⌝ }
     ensures { λ r. ⌜ (j < r) × (r ≤ end) × (r ≤ (j / 64 + 1) * 64) ⌝ }
 {
     let stop = (j / 64 + 1) * 64;
@@ -60,12 +63,12 @@ fn block_end(j: usize, end: usize) -> usize
 // Where the next stamped block behind that of j begins, or `end` if that is before. The block of j is not stamped.
 fn next_block(s: &[u32], n: usize, stamp: u32, j: usize, end: usize) -> usize
     requires { ⌜ (j < end) × (end ≤ n) × Room n (now s) ⌝ }
-    requires { ⌜ (getD (now s) (n + n + j / 64) 0 ≡ stamp → ⊥) ⌝ }
+    requires { ⌜ (getD (now s) (blocksFrom n + j / 64) 0 ≡ stamp → ⊥) ⌝ }
     ensures { λ r. ⌜ Bare n stamp (now (s .entry)) j end r ⌝ }
 {
     let mut b = j / 64 + 1;
     while b * 64 < end {
-        if s[n + n + b] == stamp {
+        if s[scratch::BLOCKS * n + b] == stamp {
             return b * 64;
         }
         b += 1;
@@ -75,7 +78,7 @@ fn next_block(s: &[u32], n: usize, stamp: u32, j: usize, end: usize) -> usize
 
 // Writes the members of one block, from `from` up to `end`, behind the `had` written before, and answers how many are written then.
 fn gather_block(s: &mut [u32], stamp: u32, from: usize, end: usize, at: usize, had: usize) -> usize
-    requires { ⌜ (from ≤ end) × (end ≤ at) × (end ≤ 65536) × (at + had + (end - from) ≤ length (now s)) ⌝ }
+    requires { ⌜ (from ≤ end) × (end ≤ at) × (end ≤ maxRows) × (at + had + (end - from) ≤ length (now s)) ⌝ }
     ensures { λ r. ⌜ (r ≡ had + length (members stamp (now (s .entry)) from end)) × (now (s .exit) ≡ sets (now (s .entry)) (at + had) (members stamp (now (s .entry)) from end)) ⌝ }
 {
     let mut count = had;
@@ -93,14 +96,14 @@ fn gather_block(s: &mut [u32], stamp: u32, from: usize, end: usize, at: usize, h
 // Writes the members from `from` up to `end`, ascending, from slot `at` on and answers how many they are.
 pub fn gather(s: &mut [u32], n: usize, stamp: u32, from: usize, end: usize, at: usize) -> usize
     requires { ⌜ (from ≤ end) × (end ≤ n) × Room n (now s) ⌝ }
-    requires { ⌜ (n + n + n ≤ at) × (at + (end - from) ≤ length (now s)) ⌝ }
+    requires { ⌜ (upperCuts n ≤ at) × (at + (end - from) ≤ length (now s)) ⌝ }
     requires { ⌜ Blocks n stamp (now s) ⌝ }
     ensures { λ r. ⌜ (r ≡ length (members stamp (now (s .entry)) from end)) × (now (s .exit) ≡ sets (now (s .entry)) at (members stamp (now (s .entry)) from end)) ⌝ }
 {
     let mut count = 0;
     let mut j = from;
     while j < end {
-        if s[n + n + j / 64] == stamp {
+        if s[scratch::BLOCKS * n + j / 64] == stamp {
             let stop = block_end(j, end);
             count = gather_block(s, stamp, j, stop, at, count);
             j = stop;
@@ -209,7 +212,7 @@ fn merge_block(
     let mut i = from;
     while i < end {
         if s[i] == stamp {
-            s[5 * n + count] = i as u32;
+            s[scratch::LIST * n + count] = i as u32;
             count += 1;
             merge_run(s, n, stamp, i, cuts, index, runs);
         }
@@ -237,7 +240,7 @@ pub fn merge_lower(
     let mut count = 0;
     let mut i = 0;
     while i < k {
-        if s[n + n + i / 64] == stamp {
+        if s[scratch::BLOCKS * n + i / 64] == stamp {
             let stop = block_end(i, k);
             count = merge_block(s, n, stamp, i, stop, count, cuts, index, runs);
             i = stop;
@@ -298,12 +301,12 @@ fn close_cuts(
 )
     requires { ⌜ ((i : ℕ) → i < k → ListIn (now index) (now runs) (now starts) i) ⌝ }
     requires { ⌜ (k < n) × Base n cuts × Room n (now s) ⌝ }
-    requires { ⌜ take below (drop (5 * n) (now s)) ≡ members stamp (now s) 0 k ⌝ }
+    requires { ⌜ take below (drop (listFrom n) (now s)) ≡ members stamp (now s) 0 k ⌝ }
     ensures { λ r. ⌜ now (s .exit) ≡ visited stamp (cutOne cuts k (listAt (now (index .entry)) (now (runs .entry)) (now (starts .entry)))) 0 k (now (s .entry)) ⌝ }
 {
     let mut p = 0;
     while p < below {
-        let i = wide32(s[5 * n + p]);
+        let i = wide32(s[scratch::LIST * n + p]);
         cut_list(s, n, k, i, cuts, index, runs, starts);
         p += 1;
     }
@@ -331,7 +334,7 @@ pub fn next_cuts(
 )
     requires { ⌜ ((i : ℕ) → i < k + 1 → ListIn (now index) (now runs) (now starts) i) ⌝ }
     requires { ⌜ (k < n) × Base n cuts × Room n (now s) ⌝ }
-    requires { ⌜ take below (drop (5 * n) (now s)) ≡ members stamp (now s) 0 k ⌝ }
+    requires { ⌜ take below (drop (listFrom n) (now s)) ≡ members stamp (now s) 0 k ⌝ }
     ensures { λ r. ⌜ now (s .exit) ≡ newCuts stamp cuts k (listAt (now (index .entry)) (now (runs .entry)) (now (starts .entry))) (getD (now (starts .entry)) (k + 1) 0 - getD (now (starts .entry)) k 0) (now (s .entry)) ⌝ }
 {
     close_cuts(s, n, stamp, k, below, cuts, index, runs, starts);

@@ -1,4 +1,4 @@
-pub mod Limits
+pub mod Shape
 pub mod Input
 pub mod Questions
 pub mod OrderLaws

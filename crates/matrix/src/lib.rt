@@ -1,6 +1,7 @@
 // The matrix type: its limits, and the shape of a matrix within them.
 ghost use mathlib.Core.Path.{_≡_};
-ghost use Rattle.matrix.specs.Limits.{shapeOf, maxRows, maxEntries, maxSlots};
+ghost use Rattle.base.specs.Limits.{maxRows, maxEntries, maxSlots};
+ghost use Rattle.matrix.specs.Shape.{shapeOf};
 use base::Refusal;
 
 // The shape of a matrix: its rows and its entries.

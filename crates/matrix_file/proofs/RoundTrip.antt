@@ -18,7 +18,7 @@ use Rattle.base.specs.Tests.{by-test}
 use Rattle.base.specs.Answers.{holds, andThen}
 use Rattle.base.specs.declared.Asked.the-variants.{Pass}
 use Rattle.base.specs.declared.Ended.the-variants.{Complete}
-use Rattle.matrix.specs.Limits.{maxRows, maxEntries}
+use Rattle.base.specs.Limits.{maxRows, maxEntries}
 use Rattle.matrix.specs.Input.{Input, inputOf}
 use Rattle.matrix.specs.declared.Matrix.{Matrix}
 use Rattle.matrix.specs.declared.Shaped.the-variants.{Shape}

@@ -4,7 +4,7 @@ ghost use mathlib.Core.List.{_++_};
 ghost use Prim.Native.Nat.{ℕ, _+_, _*_, _≤_, _<_};
 ghost use lib.ListN.{length};
 ghost use Rattle.base.specs.declared.Asked.the-variants.{Pass};
-ghost use Rattle.matrix.specs.Limits.{maxRows, rowsWithin};
+ghost use Rattle.base.specs.Limits.{maxRows, rowsWithin};
 ghost use Rattle.matrix.specs.Input.{inputOf};
 ghost use Rattle.fields.specs.Numbers.{stream};
 ghost use Rattle.fields.specs.Payload.{room, payloads};

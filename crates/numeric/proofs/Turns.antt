@@ -2,7 +2,7 @@
 use mathlib.Core.Path.{_≡_, refl, sym, ap, _∙_}
 use mathlib.Core.Bool.{true, false, _&&_}
 use mathlib.Core.List.{List, [], _∷_, _++_}
-use Prim.Native.Nat.{ℕ, suc, _+_, _-_, _<_, _≤_}
+use Prim.Native.Nat.{ℕ, suc, _+_, _-_, _*_, _<_, _≤_}
 use native.Mathlib.Nat.{add-assoc}
 use native.Mathlib.Numerals.{add-one}
 use native.Mathlib.Omega.{arith}
@@ -17,6 +17,7 @@ use Rattle.arithmetic.specs.RowEnd.{finiteOn, finiteAll, products}
 use Rattle.arithmetic.specs.Sticky.{step-any, rest-at}
 use Rattle.numeric.specs.Rows.{Shut}
 use Rattle.numeric.specs.Stores.{Below, Ascending, storeGiven, placesOf, work, Stepped, gathered, zeroed, Columns, columns, keepColumns}
+use Rattle.base.specs.Scratch.{zFrom}
 
 -- ---- step 1
 
@@ -47,7 +48,7 @@ module _ (m : Float) (js : List ℕ) (us : List Float) where
 -- one i, from what its calls return
 pub stepped : (n i : ℕ) (f : List Float) (upper runs starts : List ℕ) (u : List Float) (row : RowSums) (js : List ℕ) (us last : List Float)
     → js ≡ listAt upper runs starts i → us ≡ rowOf starts u i
-    → subtract any (getD f i nan) js us (take n f) ≡ ok last → length last ≡ length (take n f) → n + n ≤ length f
+    → subtract any (getD f i nan) js us (take n f) ≡ ok last → length last ≡ length (take n f) → zFrom n ≤ length f
     → Stepped n i (storeGiven n f upper runs starts u) f (last ++ drop n f) row
     (record { sum = sub binary64 (row .sum) (mul binary64 (getD f i nan) (getD f (n + i) nan)); reciprocal = row .reciprocal; y = row .y })
 stepped n i f upper runs starts u row js us last ej eu e le room =
@@ -184,8 +185,8 @@ module _ (js : List ℕ) (us z : List Float) where
 pub tail-is : (f : List Float) (m : ℕ) → take (length f - m) (drop m f) ≡ drop m f
 tail-is f m = take-all (length f - m) (drop m f) (simp length-drop (omega arith))
 
-pub tail-length : (f : List Float) (n : ℕ) → length f ≡ n + n + n → length (take (length f - (n + n)) (drop (n + n) f)) ≡ n
-tail-length f n h = rw (tail-is f (n + n)) (simp length-drop (omega arith))
+pub tail-length : (f : List Float) (n : ℕ) → length f ≡ 3 * n → length (take (length f - (zFrom n)) (drop (zFrom n) f)) ≡ n
+tail-length f n h = rw (tail-is f (zFrom n)) (simp length-drop (omega arith))
 
 pub rest-is : (t r : Float) (js ks : List ℕ) (us vs z x : List Float) → js ≡ ks → us ≡ vs → z ≡ x → rest any t js us z ≡ ok r → rest any t ks vs x ≡ ok r
 rest-is t r js ks us vs z x ej eu ez e = rw (← ej, ← eu, ← ez) e
@@ -205,21 +206,21 @@ unfolding back
 back-end G k z e = rw e
 
 -- y as it was
-pub same-y : (n i : ℕ) (f g : List Float) → i < n → take (n + n) g ≡ take (n + n) f → getD g (n + i) nan ≡ getD f (n + i) nan
+pub same-y : (n i : ℕ) (f g : List Float) → i < n → take (zFrom n) g ≡ take (zFrom n) f → getD g (n + i) nan ≡ getD f (n + i) nan
 same-y n i f g h e =
-    let b : n + i < n + n = omega arith in
-    sym (getD-take (n + n) g (n + i) nan b) ∙ ap (λ (l : List Float). getD l (n + i) nan) e ∙ getD-take (n + n) f (n + i) nan b
+    let b : n + i < zFrom n = omega arith in
+    sym (getD-take (zFrom n) g (n + i) nan b) ∙ ap (λ (l : List Float). getD l (n + i) nan) e ∙ getD-take (zFrom n) f (n + i) nan b
 
 -- the same on the scratch, where y stands from n on and z from 2n on
 module _ (n k i : ℕ) (upper runs starts : List ℕ) (u f₀ f : List Float) (t : Float) (e : k ≡ suc i) (h : i < n)
-    (kept : take (n + n) f ≡ take (n + n) f₀) (fy : finite (getD f₀ (n + i) nan) ≡ true)
-    (r : rest any (getD f (n + i) nan) (listAt upper runs starts i) (rowOf starts u i) (drop (n + n) f) ≡ ok t) where
-  r₀ : rest any (getD f₀ (n + i) nan) (listAt upper runs starts i) (rowOf starts u i) (drop (n + n) f) ≡ ok t
+    (kept : take (zFrom n) f ≡ take (zFrom n) f₀) (fy : finite (getD f₀ (n + i) nan) ≡ true)
+    (r : rest any (getD f (n + i) nan) (listAt upper runs starts i) (rowOf starts u i) (drop (zFrom n) f) ≡ ok t) where
+  r₀ : rest any (getD f₀ (n + i) nan) (listAt upper runs starts i) (rowOf starts u i) (drop (zFrom n) f) ≡ ok t
   r₀ = rw (← same-y n i f₀ f h kept) r
 
   pub scratch-turn : finite t ≡ true
-      → back (storeGiven n f₀ upper runs starts u) i (drop (n + n) (set f (n + n + i) t)) ≡ back (storeGiven n f₀ upper runs starts u) k (drop (n + n) f)
-  scratch-turn ft = rw (drop-set-add (n + n) f i t) (sym (back-turn (storeGiven n f₀ upper runs starts u) k i (drop (n + n) f) t e fy r₀ ft))
+      → back (storeGiven n f₀ upper runs starts u) i (drop (zFrom n) (set f (zFrom n + i) t)) ≡ back (storeGiven n f₀ upper runs starts u) k (drop (zFrom n) f)
+  scratch-turn ft = rw (drop-set-add (zFrom n) f i t) (sym (back-turn (storeGiven n f₀ upper runs starts u) k i (drop (zFrom n) f) t e fy r₀ ft))
 
-  pub scratch-stop : finite t ≡ false → back (storeGiven n f₀ upper runs starts u) k (drop (n + n) f) ≡ met (overflow i)
-  scratch-stop ft = back-stop (storeGiven n f₀ upper runs starts u) k i (drop (n + n) f) t e fy r₀ ft
+  pub scratch-stop : finite t ≡ false → back (storeGiven n f₀ upper runs starts u) k (drop (zFrom n) f) ≡ met (overflow i)
+  scratch-stop ft = back-stop (storeGiven n f₀ upper runs starts u) k i (drop (zFrom n) f) t e fy r₀ ft

@@ -3,7 +3,7 @@ use mathlib.Core.Path.{_≡_, refl, sym, ap, _∙_, subst}
 use mathlib.Core.Bool.{Bool, true, false, cond}
 use mathlib.Core.Logic.{⊎-elim}
 use mathlib.Core.List.{List, [], _∷_, _++_, append-nil, append-assoc, map, map-append, List·Memᴰ}
-use Prim.Native.Nat.{ℕ, zero, suc, _+_, _-_, _<_, _≤_}
+use Prim.Native.Nat.{ℕ, zero, suc, _+_, _-_, _*_, _<_, _≤_}
 use native.Mathlib.Numerals.{add-one}
 use native.Mathlib.Nat.{add-zero}
 use native.Mathlib.Omega.{arith}
@@ -31,6 +31,7 @@ use Rattle.numeric.specs.Rows.{filledRow, Closed, Lent, Stacked, uOf, He
 use Rattle.numeric.specs.StoreLaws.{list-length, sets-part, products-length, stacked-none, zeroed-drop, zeroed-length, zeroed-stays, zeroed-has}
 use Rattle.numeric.specs.KeepLaws.{stacked-row}
 use Rattle.numeric.specs.RowLaws.{Same, bind-same, has-at, filled-cases, row-is, row-outside}
+use Rattle.base.specs.Scratch.{zFrom}
 
 -- ---- the rows of places 0 to k - 1
 
@@ -78,7 +79,7 @@ forward-length S (suc k) rows e =
 -- ---- row k, from what its steps leave
 
 module _ (S : System) (rows : List Row) (n k : ℕ) (f : List Float) (upper runs starts : List ℕ) (u : List Float) (H : Held S rows n k f upper runs starts u)
-    (h : k < n) (lf : length f ≡ n + n + n) where
+    (h : k < n) (lf : length f ≡ 3 * n) where
   many : length rows ≡ k
   many = forward-length S k rows (H .done)
 
@@ -194,18 +195,18 @@ tail-replicate : {A : Type 0} (m k : ℕ) (z : A) → drop m (replicate (m + k) 
 tail-replicate m k z = rw (← replicate-append-replicate m k z) (drop-at (replicate m z) (replicate k z) m (length-replicate m z))
 
 pub held-start : (S : System) (n : ℕ) (f : List Float) (upper runs starts : List ℕ) (u : List Float) → S .n ≡ n → ((i : ℕ) → i < n → S .upper i ≡ listAt upper runs starts i)
-    → f ≡ replicate (n + n + n) nought → u ≡ replicate (length u) nought → Held S [] n 0 f upper runs starts u
+    → f ≡ replicate (3 * n) nought → u ≡ replicate (length u) nought → Held S [] n 0 f upper runs starts u
 unfolding forward
 held-start S n f upper runs starts u en el ef eu =
-    let e : n + n + n ≡ n + (n + n) = omega arith in
+    let e : 3 * n ≡ n + (zFrom n) = omega arith in
     record {
       size = en;
       lists = el;
       done = refl;
       us = stacked-none nought (uOf []) starts u eu;
       ys = refl;
-      clear = rw (ef, e) (take-replicate n (n + n) nought);
-      zs = rw ef (tail-replicate (n + n) n nought);
+      clear = rw (ef, e) (take-replicate n (zFrom n) nought);
+      zs = rw ef (tail-replicate (zFrom n) n nought);
     }
 
 pub solved-met : (S : System) (q : Fault) → forward S (S .n) 0 [] ≡ met q → solved S ≡ met q
@@ -282,17 +283,17 @@ module _ {S : System} {rows : List Row} {n : ℕ} {f : List Float} {upper runs s
   pub held-y : (i : ℕ) → i < n → finite (getD f (n + i) nan) ≡ true
   held-y i l = rw (y-here i l) (forward-y S n rows (H .done) i l)
 
-  solved-is : (o : Out (List Float)) → o ≡ back (storeGiven n f upper runs starts u) n (drop (n + n) f) → solved S ≡ (o >>= λ z. ok (record { rows = rows; z = z }))
+  solved-is : (o : Out (List Float)) → o ≡ back (storeGiven n f upper runs starts u) n (drop (zFrom n) f) → solved S ≡ (o >>= λ z. ok (record { rows = rows; z = z }))
   solved-is o e =
       solved-steps S rows o (ap (λ (m : ℕ). forward S m 0 []) (H .size) ∙ H .done)
       (ap (λ (m : ℕ). back (given S rows) m (replicate m nought)) (H .size)
       ∙ ap (λ (z : List Float). back (given S rows) n z) (sym (H .zs))
-      ∙ sym (back-same (storeGiven n f upper runs starts u) (given S rows) n (drop (n + n) f) (λ i l. (sym (H .lists i l), H .us .each i l, y-here i l))) ∙ sym e)
+      ∙ sym (back-same (storeGiven n f upper runs starts u) (given S rows) n (drop (zFrom n) f) (λ i l. (sym (H .lists i l), H .us .each i l, y-here i l))) ∙ sym e)
 
-  pub held-solved : (z : List Float) (r : Back) → numberedBack z r ≡ back (storeGiven n f upper runs starts u) n (drop (n + n) f) → r ≡ Complete
+  pub held-solved : (z : List Float) (r : Back) → numberedBack z r ≡ back (storeGiven n f upper runs starts u) n (drop (zFrom n) f) → r ≡ Complete
       → solved S ≡ ok (record { rows = rows; z = z })
   held-solved z r e q = solved-is (ok z) (rw q at e)
 
-  pub held-stopped : (k : ℕ) (z : List Float) (r : Back) → numberedBack z r ≡ back (storeGiven n f upper runs starts u) n (drop (n + n) f) → r ≡ Stopped k
+  pub held-stopped : (k : ℕ) (z : List Float) (r : Back) → numberedBack z r ≡ back (storeGiven n f upper runs starts u) n (drop (zFrom n) f) → r ≡ Stopped k
       → solved S ≡ met (overflow k)
   held-stopped k z r e q = solved-is (met (overflow k)) (rw q at e)

@@ -14,6 +14,7 @@ use Rattle.arithmetic.specs.Arith.{Out, ok, System, Row, none, row, forward}
 use Rattle.numeric.specs.Stores.{Ascending, numbered, gathered, zeroed}
 use Rattle.numeric.specs.declared.Pivot.{Pivot}
 use Rattle.numeric.specs.declared.Pivot.the-variants.{Kept}
+use Rattle.base.specs.Scratch.{zFrom}
 
 -- the filled places of row k
 abbrev pub filledRow : System → ℕ → List ℕ
@@ -55,7 +56,7 @@ pub record Held (S : System) (rows : List Row) (n k : ℕ) (f : List Float) (upp
   pub us : Stacked nought (uOf rows) k starts u
   pub ys : take k (drop n f) ≡ map (λ r. r .y) rows
   pub clear : take n f ≡ replicate n nought
-  pub zs : drop (n + n) f ≡ replicate n nought
+  pub zs : drop (zFrom n) f ≡ replicate n nought
 
 -- the working row holds +0 but at the filled places of row k
 abbrev pub Outside : System → ℕ → ℕ → List Float → Type 0

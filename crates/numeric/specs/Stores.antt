@@ -1,7 +1,7 @@
 -- What the steps' contracts say of slices: where lists stand, and what each step leaves. Definitions only.
 use mathlib.Core.Path.{_≡_}
 use mathlib.Core.List.{List, [], _∷_, map}
-use Prim.Native.Nat.{ℕ, _+_, _-_, _<_, _≤_}
+use Prim.Native.Nat.{ℕ, _+_, _-_, _*_, _<_, _≤_}
 use lib.ListN.{length, getD, take, drop, set}
 use lib.Seq.{sets}
 use lib.Ieee.{Float, nan, binary64, sub, mul}
@@ -95,7 +95,7 @@ Ascending l = (p q : ℕ) → p < q → q < length l → getD l p 0 < getD l q 0
 -- what row k's steps ask of lengths and places: size is the scratch's, slots the value store's
 pub record Reducible (n k size : ℕ) (ic columns : List ℕ) (values : List Float) (lower upper runs starts : List ℕ) (slots : ℕ) : Type 0 where
   pub place : k < n
-  pub scratch : size ≡ n + n + n
+  pub scratch : size ≡ 3 * n
   pub row : Loadable n ic columns values
   pub below : Below n lower
   pub lists : Shape n upper runs starts slots
@@ -103,7 +103,7 @@ pub record Reducible (n k size : ℕ) (ic columns : List ℕ) (values : List Flo
 -- and its closing: slots are those of d
 pub record Closable (n k size : ℕ) (lower upper runs starts : List ℕ) (slots : ℕ) : Type 0 where
   pub place : k < n
-  pub scratch : size ≡ n + n + n
+  pub scratch : size ≡ 3 * n
   pub reciprocals : slots ≡ n
   pub below : Below n lower
   pub list : ListIn (length upper) runs starts k

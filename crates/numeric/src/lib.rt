@@ -4,10 +4,11 @@
 use base::Index;
 use base::RowSums;
 use base::is_finite;
+use base::scratch;
 ghost use mathlib.Core.Path.{_≡_};
 ghost use mathlib.Core.Bool.{true, _&&_};
 ghost use mathlib.Core.List.{List, [], _∷_, _++_};
-ghost use Prim.Native.Nat.{ℕ, _+_, _-_, _<_, _≤_};
+ghost use Prim.Native.Nat.{ℕ, _+_, _-_, _*_, _<_, _≤_};
 ghost use lib.ListN.{length, getD, take, drop, set};
 ghost use lib.Seq.{sets};
 ghost use lib.Ieee.{Float, nan};
@@ -17,6 +18,7 @@ ghost use Rattle.arithmetic.specs.Arith.{ok, any, load, subtract, rest, back, S
 ghost use Rattle.arithmetic.specs.RowEnd.{finiteOn, finiteAll, products};
 ghost use Rattle.numeric.specs.Stores.{Below, ListIn, Shape, Loadable, Reducible, Closable, Stepped, Eliminated, Finished, storeGiven, placesOf, gathered, zeroed, numberedBack};
 ghost use Rattle.numeric.specs.Rows.{Held, Lent, Closed, Reduced, Shut};
+ghost use Rattle.base.specs.Scratch.{zFrom};
 
 fn wide16(x: Index) -> usize
     ensures { λ r. ⌜ r ≡ x ⌝ }
@@ -90,7 +92,7 @@ fn step_at(
     u: &[f64],
     row: RowSums,
 ) -> RowSums
-    requires { ⌜ (i < n) × (n + n ≤ length (now f)) × Shape n (now upper) (now runs) (now starts) (length (now u)) ⌝ }
+    requires { ⌜ (i < n) × (zFrom n ≤ length (now f)) × Shape n (now upper) (now runs) (now starts) (length (now u)) ⌝ }
     ensures { λ r. ⌜ Stepped n i (storeGiven n (now (f .entry)) (now (upper .entry)) (now (runs .entry)) (now (starts .entry)) (now (u .entry)))
         (now (f .entry)) (now (f .exit)) row r ⌝ }
 {
@@ -117,7 +119,7 @@ pub fn eliminate(
     u: &[f64],
     row: RowSums,
 ) -> RowSums
-    requires { ⌜ (n + n ≤ length (now f)) × Shape n (now upper) (now runs) (now starts) (length (now u)) × Below n (now lower) ⌝ }
+    requires { ⌜ (zFrom n ≤ length (now f)) × Shape n (now upper) (now runs) (now starts) (length (now u)) × Below n (now lower) ⌝ }
     ensures { λ r. ⌜ Eliminated n (now (lower .entry)) (storeGiven n (now (f .entry)) (now (upper .entry)) (now (runs .entry)) (now (starts .entry)) (now (u .entry)))
         (now (f .entry)) (now (f .exit)) row r ⌝ }
 {
@@ -342,14 +344,14 @@ fn back_at(
     starts: &[u32],
     u: &[f64],
 ) -> f64
-    requires { ⌜ (k < n) × (length (now f) ≡ n + n + n) × Shape n (now upper) (now runs) (now starts) (length (now u)) ⌝ }
+    requires { ⌜ (k < n) × (length (now f) ≡ 3 * n) × Shape n (now upper) (now runs) (now starts) (length (now u)) ⌝ }
     ensures { λ r. ⌜ rest any (getD (now (f .entry)) (n + k) nan) (listAt (now (upper .entry)) (now (runs .entry)) (now (starts .entry)) k)
-        (rowOf (now (starts .entry)) (now (u .entry)) k) (drop (n + n) (now (f .entry))) ≡ ok r ⌝ }
+        (rowOf (now (starts .entry)) (now (u .entry)) k) (drop (zFrom n) (now (f .entry))) ≡ ok r ⌝ }
 {
     let t = f[n + k];
     let above = index_part(upper, runs, starts, k);
     let us = values_part(u, starts, k);
-    let z = n + n;
+    let z = scratch::Z * n;
     less_products(t, above, us, &f[z..])
 }
 
@@ -368,13 +370,13 @@ pub fn back_steps(
     starts: &[u32],
     u: &[f64],
 ) -> Back
-    requires { ⌜ (length (now f) ≡ n + n + n) × Shape n (now upper) (now runs) (now starts) (length (now u))
+    requires { ⌜ (length (now f) ≡ 3 * n) × Shape n (now upper) (now runs) (now starts) (length (now u))
         × ((k : ℕ) → k < n → finite (getD (now f) (n + k) nan) ≡ true) ⌝ }
-    ensures { λ r. ⌜ (numberedBack (drop (n + n) (now (f .exit))) r
-        ≡ back (storeGiven n (now (f .entry)) (now (upper .entry)) (now (runs .entry)) (now (starts .entry)) (now (u .entry))) n (drop (n + n) (now (f .entry))))
-        × (take (n + n) (now (f .exit)) ≡ take (n + n) (now (f .entry))) ⌝ }
+    ensures { λ r. ⌜ (numberedBack (drop (zFrom n) (now (f .exit))) r
+        ≡ back (storeGiven n (now (f .entry)) (now (upper .entry)) (now (runs .entry)) (now (starts .entry)) (now (u .entry))) n (drop (zFrom n) (now (f .entry))))
+        × (take (zFrom n) (now (f .exit)) ≡ take (zFrom n) (now (f .entry))) ⌝ }
 {
-    let z = n + n;
+    let z = scratch::Z * n;
     let mut k = n;
     while 0 < k {
         let i = k - 1;

@@ -30,7 +30,7 @@ use Rattle.base.specs.declared.Form.the-variants.{Plain, Shared, ByRow}
 use Rattle.outcome.specs.Buffers.{Sizes, Buffers, sizes, matrixTests, bufferTests, Outcome, ended, stop, scratchCleared, cleared, askShape}
 use Rattle.base.specs.Answers.{numberOf, placeOf, numberOfAnswer, own, spot, andThen, holds, absent}
 use Rattle.outcome.proofs.Asking.{number-some, Within, within-wide, within-pass, within-holds, within-absent, within-then, all-append}
-use Rattle.matrix.specs.Limits.{rowsWithin}
+use Rattle.base.specs.Limits.{rowsWithin}
 use Rattle.base.specs.declared.Side.the-variants.{Lower, Upper}
 
 -- ---- the answer alone

@@ -15,7 +15,7 @@ use Rattle.outcome.proofs.Asking.{then-pass, holds-pass, stop-pass}
 use Rattle.base.specs.Answers.{holds}
 use Rattle.base.specs.All.{all}
 use Rattle.base.specs.AllLaws.{all-true}
-use Rattle.matrix.specs.Limits.{rowsWithin}
+use Rattle.base.specs.Limits.{rowsWithin}
 use Rattle.outcome.specs.Buffers.{askShape, SideBuffers, Buffers, SideSizes, Sizes, sideSizes, sizes, sideOf, matrixTests, bufferTests, Outcome, stop, scratchCleared, sideCleared, cleared}
 use Rattle.base.specs.ZerosLaws.{padded-length}
 use Rattle.fill.specs.Fill.{Pattern, flip, upperRow, lowerRow, upper}

@@ -9,7 +9,7 @@ use lib.Ieee.{Float}
 use Rattle.base.specs.Lists.{nought}
 use Rattle.base.specs.All.{all}
 use Rattle.base.specs.Answers.{holds, andThen}
-use Rattle.matrix.specs.Limits.{maxEntries, maxSlots, rowsWithin}
+use Rattle.base.specs.Limits.{maxEntries, maxSlots, rowsWithin}
 use Rattle.matrix.specs.Input.{Input}
 use Rattle.base.specs.declared.Form.{Form}
 use Rattle.base.specs.declared.Form.the-variants.{Plain, Shared, ByRow}

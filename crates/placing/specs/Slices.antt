@@ -21,6 +21,7 @@ use Rattle.placing.specs.declared.Put.{Put}
 use Rattle.placing.specs.declared.Put.the-variants.{Done, Full}
 use Rattle.placing.specs.declared.Match.{Match}
 use Rattle.placing.specs.declared.Match.the-variants.{Same, Differs}
+use Rattle.base.specs.Index.{indexBound}
 
 -- place i's starts are in their slices, and its run is in the store
 pub record Readable (slots runs starts : List ℕ) (i : ℕ) : Type 0 where
@@ -79,7 +80,7 @@ pub record Planned (slots list : List ℕ) (p : placement.Plan) (r : Plan) : Typ
 
 -- each entry fits a slot of an index store
 abbrev pub Small : List ℕ → Type 0
-Small list = (j : ℕ) → j < length list → getD list j 0 < 65536
+Small list = (j : ℕ) → j < length list → getD list j 0 < indexBound
 
 -- what the code asks of the slices before it places or compares the list of place k
 pub record Ready (way : Way) (index runs starts : List ℕ) (values : ℕ) (row list : List ℕ) (k : ℕ) (s : Extent) : Type 0 where

@@ -27,6 +27,7 @@ use Rattle.placing.specs.declared.Plan.{Plan}
 use Rattle.placing.specs.declared.Extent.{Extent}
 use Rattle.placing.specs.declared.Put.{Put}
 use Rattle.placing.specs.declared.Put.the-variants.{Done, Full}
+use Rattle.base.specs.Index.{indexBound}
 
 -- ---- the two ways
 
@@ -90,7 +91,7 @@ reads-way Sharing T R n k h l row list e q slots runs starts f g = λ i d.
     }
 
 -- an ascending list of numbers below n fits 16-bit slots
-pub small-asc : (p : ℕ → Bool) (n : ℕ) → n ≤ 65536 → Small (asc p n)
+pub small-asc : (p : ℕ → Bool) (n : ℕ) → n ≤ indexBound → Small (asc p n)
 small-asc p n h j l = omega (arith, mem-asc p n (getD (asc p n) j 0) (mem-at (asc p n) j l) .0)
 
 -- ---- a turn

@@ -12,6 +12,7 @@ ghost use Rattle.placement.specs.Placing.{tails, firstAt, agree, fresh, overlap
 ghost use Rattle.placing.specs.Slices.{Tailed, AllTailed, fullAt, asPlan, TailIn, Planning, planOver, Planned, Small, Ready, lookOf, Writable, WrittenBy, Standing, sameAt};
 ghost use Rattle.placing.specs.Held.{PlaceEnds, PlainEnds, CheckEnds};
 ghost use Rattle.placing.specs.declared.Way.{Way};
+ghost use Rattle.base.specs.Index.{indexBound};
 use base::Found;
 use base::Index;
 use base::Place;
@@ -31,7 +32,7 @@ fn wide(x: u32) -> usize
 
 // A slot of an index store as a 32-bit number.
 fn entry(x: Index) -> u32
-    ensures { λ r. ⌜ (r ≡ x) × (r < 65536) ⌝ }
+    ensures { λ r. ⌜ (r ≡ x) × (r < indexBound) ⌝ }
 {
     x as u32
 }

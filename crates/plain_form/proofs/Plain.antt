@@ -28,6 +28,7 @@ use Rattle.stages.specs.Stages.{solveFactored}
 use Rattle.stages.specs.Shaped.{pattern, SolveDue, FactorDue, faultAsked}
 use Rattle.stages.specs.ShapedLaws.{factor-due}
 use Rattle.stages.specs.StageLaws.{blank-of, found-done, found-pattern, solve-go, factored-done, kept-is}
+use Rattle.base.specs.Scratch.{zFrom}
 
 -- the structure call, once 1 to 8 are passed; t is what they leave of the marks
 pub plain-structured : (i : Input) (ls₀ li₀ us₀ ui₀ m₀ ls li us ui t m m′ : List ℕ) (lv₀ uv₀ w₀ lv uv w w′ : List Float) (o : Asked) (a : Answer)
@@ -84,14 +85,14 @@ plain-go i ls₀ li₀ us₀ ui₀ m₀ ls li us ui t m lv uv d x w₀ w o a k r
 -- factors and x are found
 pub plain-solved : (i : Input) (ls li us ui m₀ m m′ : List ℕ) (lv₀ uv₀ d₀ x₀ w₀ lv uv d x w w′ : List Float) (l : ℕ) (a : Factored) (o : Asked) (k : Counts)
     → FactorDue Plain i (lists ls li us us ui) (written lv₀ uv₀ d₀ w₀ m₀) l k
-    → FactoredAs Plain i a lv uv d (drop (i .n + i .n) w) → o ≡ faultAsked a → o ≡ Pass
+    → FactoredAs Plain i a lv uv d (drop (zFrom (i .n)) w) → o ≡ faultAsked a → o ≡ Pass
     → length lv ≡ length lv₀ → length uv ≡ length uv₀ → length w ≡ length w₀ → length m ≡ length m₀
-    → x ≡ ownOrder (i .c) (i .n) (drop (i .n + i .n) w) → w′ ≡ blank nought w → m′ ≡ blank 0 m
+    → x ≡ ownOrder (i .c) (i .n) (drop (zFrom (i .n)) w) → w′ ≡ blank nought w → m′ ≡ blank 0 m
     → ended (Done k) (plainBuffers ls li lv us ui uv d x w′ m′) ≡ solveFactored Plain i (plainBuffers ls li lv₀ us ui uv₀ d₀ x₀ w₀ m₀)
 unfolding blank
 plain-solved i ls li us ui m₀ m m′ lv₀ uv₀ d₀ x₀ w₀ lv uv d x w w′ l a o k h g e p el eu ew em cx cw cm =
     let z = sizes (plainBuffers ls li lv₀ us ui uv₀ d₀ x₀ w₀ m₀) in
-    factored-done Plain i lv uv d (drop (i .n + i .n) w) (plainBuffers ls li lv₀ us ui uv₀ d₀ x₀ w₀ m₀) _ a o g e k p (h .counts-are)
+    factored-done Plain i lv uv d (drop (zFrom (i .n)) w) (plainBuffers ls li lv₀ us ui uv₀ d₀ x₀ w₀ m₀) _ a o g e k p (h .counts-are)
     (λ r v.
     kept-is Plain i z r _ _ _ _ _ _
     (plain-side Lower (stored i) (i .n) (z .lower) ls [] li lv _ (h .ready .lower-side) refl refl (v .lower-values ∙ ap (λ (j : ℕ). padded nought j (valuesKept Plain Lower (stored i) (i .n) (r .rows))) el))

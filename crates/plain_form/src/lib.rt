@@ -5,7 +5,7 @@ ghost use Prim.Native.Nat.{_≤_};
 ghost use lib.ListN.{length};
 ghost use Rattle.base.specs.All.{all};
 ghost use Rattle.base.specs.declared.Form.{Form};
-ghost use Rattle.matrix.specs.Limits.{maxRows};
+ghost use Rattle.base.specs.Limits.{maxRows};
 ghost use Rattle.matrix.specs.Input.{inputOf};
 ghost use Rattle.outcome.specs.Buffers.{plainBuffers, ended, listTests, structureTests, bufferTests};
 ghost use Rattle.outcome.specs.Structure.{structure};

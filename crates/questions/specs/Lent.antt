@@ -8,7 +8,7 @@ use Rattle.base.specs.Lists.{table}
 use Rattle.base.specs.Answers.{absent}
 use Rattle.base.specs.declared.Asked.{Asked}
 use Rattle.base.specs.declared.Refusal.the-variants.{Order}
-use Rattle.matrix.specs.Limits.{maxRows, maxEntries}
+use Rattle.base.specs.Limits.{maxRows, maxEntries}
 use Rattle.matrix.specs.Input.{Input, ic}
 use Rattle.matrix.specs.Questions.{badIndex, IsOrder}
 use Rattle.questions.specs.Settled.{RowIn, Under}

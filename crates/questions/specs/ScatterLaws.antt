@@ -14,6 +14,7 @@ use Rattle.matrix.specs.Input.{ic, ownOrder}
 use Rattle.matrix.specs.Questions.{IsOrder}
 use Rattle.matrix.specs.OrderLaws.{order-below, order-inj, place-of, place-hits}
 use Rattle.questions.specs.Lent.{inverted, invertedAt}
+use Rattle.base.specs.Scratch.{blocksFrom}
 
 module _ {A : Type 0} where
   pub record Scattered (o : List ℕ) (n : ℕ) (f : ℕ → A) (d : A) (old l : List A) (k : ℕ) : Type 0 where
@@ -100,7 +101,7 @@ module _ (o : List ℕ) (n : ℕ) (s : List ℕ) (room : n ≤ length s) where
   pub placed-inverse : take n (drop n (invertedAt o n s)) ≡ table (ic o n) n
   placed-inverse = ap (take n) placed-back ∙ inverse-front o n (drop n s)
 
-  pub placed-rest : drop (n + n) (invertedAt o n s) ≡ drop (n + n) s
+  pub placed-rest : drop (blocksFrom n) (invertedAt o n s) ≡ drop (blocksFrom n) s
   placed-rest = sym (drop-drop n n (invertedAt o n s)) ∙ ap (drop n) placed-back ∙ inverse-rest o n (drop n s) ∙ drop-drop n n s
 
 -- "x(c(k)) = t": the solution by own column has z(k) at c(k)

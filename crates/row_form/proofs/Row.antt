@@ -29,6 +29,7 @@ use Rattle.stages.specs.StageLaws.{AllZero, blank-of, found-done, counted, solv
 use Rattle.stages.specs.Asking.{Blanked, SolveAsking, solve-goes}
 use Rattle.stages.specs.Ends.{factor-stops}
 use Rattle.row_form.specs.Sizes.{rowSizes}
+use Rattle.base.specs.Scratch.{zFrom}
 
 -- ---- what the stages hand on
 
@@ -86,16 +87,16 @@ module _ (i : Input) (us₀ ur₀ ui₀ m₀ us ur ui : List ℕ) (uv₀ d₀ x�
   pub row-refused : isRefused a ≡ true → ended a (cleared (sizes lent) x₀) ≡ solvePlaced ByRow i lent
   row-refused h = refused-ends a _ _ h (λ q p. solve-refused ByRow i lent _ a found q p (zeros lent))
 
-  module _ (h : isRefused a ≡ false) (uv d w : List Float) (g : Factored) (o : Asked) (y : FactoredAs ByRow i g [] uv d (drop (i .n + i .n) w)) (e : o ≡ faultAsked g) where
+  module _ (h : isRefused a ≡ false) (uv d w : List Float) (g : Factored) (o : Asked) (y : FactoredAs ByRow i g [] uv d (drop (zFrom (i .n)) w)) (e : o ≡ faultAsked g) where
     pub row-fault : (r : Answer) → isStop o ≡ true → r ≡ foundAnswer o noCounts → ended r (cleared (sizes lent) x₀) ≡ solvePlaced ByRow i lent
     row-fault r p q =
         solve-go ByRow i lent lent a found (countsOf a) (done-of a h) _
-        (factor-stops ByRow i [] uv d (drop (i .n + i .n) w) lent _ g o noCounts r y e p q (zeros lent))
+        (factor-stops ByRow i [] uv d (drop (zFrom (i .n)) w) lent _ g o noCounts r y e p q (zeros lent))
 
-    pub row-solved : (x : List Float) → isStop o ≡ false → x ≡ ownOrder (i .c) (i .n) (drop (i .n + i .n) w) → ended a (cleared (sizes lent) x) ≡ solvePlaced ByRow i lent
+    pub row-solved : (x : List Float) → isStop o ≡ false → x ≡ ownOrder (i .c) (i .n) (drop (zFrom (i .n)) w) → ended a (cleared (sizes lent) x) ≡ solvePlaced ByRow i lent
     row-solved x p v =
         solve-go ByRow i lent lent a found (countsOf a) (done-of a h) _
-        (ap (λ (r : Answer). ended r (cleared (sizes lent) x)) (done-of a h) ∙ factored-done ByRow i [] uv d (drop (i .n + i .n) w) lent _ g o y e (countsOf a) (pass-of o p)
+        (ap (λ (r : Answer). ended r (cleared (sizes lent) x)) (done-of a h) ∙ factored-done ByRow i [] uv d (drop (zFrom (i .n)) w) lent _ g o y e (countsOf a) (pass-of o p)
         (counted ByRow i lent lent a found (countsOf a) (done-of a h))
         (λ r k. ap (cleared (sizes lent)) (v ∙ ap (ownOrder (i .c) (i .n)) (k .solution))))
 

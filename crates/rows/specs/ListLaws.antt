@@ -19,6 +19,8 @@ use Rattle.marks.specs.Marks.{Room, Holds, chosen, members, visited, unite, par
 use Rattle.marks.specs.MarkLaws.{sets-below, sets-above, holds-kept, marks-sets}
 use Rattle.rows.specs.Rows.{Stored, LowerListed, Closing, UpperListed, Listed, But, rowSteps, lengthIn, Countable}
 use Rattle.rows.specs.FillLaws.{upper-length, closed-is}
+use Rattle.base.specs.Scratch.{blocksFrom, listFrom}
+use Rattle.base.specs.Limits.{maxRows, maxProducts}
 
 -- ---- the members are the paper's lists
 
@@ -49,27 +51,27 @@ closing-is n t k cuts index runs s u below h r p e m =
     let mid = visited t (unite n t (partAt s cuts index runs)) 0 k s in
     record {
       mid = mid;
-      size = sym (length-sets mid (5 * n) (members t mid 0 k)) ∙ ap length (sym (m .slots)) ∙ e;
+      size = sym (length-sets mid (listFrom n) (members t mid 0 k)) ∙ ap length (sym (m .slots)) ∙ e;
       closed = closed-is n t k cuts index runs s mid (omega arith) r p refl;
-      lower = λ P w. let a = lower-members P n t k mid h w in record { lower = m .size ∙ ap length a; slots = m .slots ∙ ap (sets mid (5 * n)) a };
+      lower = λ P w. let a = lower-members P n t k mid h w in record { lower = m .size ∙ ap length a; slots = m .slots ∙ ap (sets mid (listFrom n)) a };
     }
 
-pub upper-listed : (n t k below : ℕ) (s u : List ℕ) (above : ℕ) → k < n → above ≡ length (members t s (k + 1) n) → u ≡ sets s (5 * n + below) (members t s (k + 1) n)
+pub upper-listed : (n t k below : ℕ) (s u : List ℕ) (above : ℕ) → k < n → above ≡ length (members t s (k + 1) n) → u ≡ sets s (listFrom n + below) (members t s (k + 1) n)
     → (P : Pattern) → Holds n t s (filled P k) → UpperListed P n k below s u above
 upper-listed n t k below s u above h ea eu P m =
     let b = upper-members P n t k s h m in
-    record { upper = ea ∙ ap length b; slots = eu ∙ ap (sets s (5 * n + below)) b }
+    record { upper = ea ∙ ap length b; slots = eu ∙ ap (sets s (listFrom n + below)) b }
 
 module _ (P : Pattern) (n t k : ℕ) (s u : List ℕ) (below : ℕ) (l : LowerListed P n k s u below) where
   -- the marks are as they were
   pub lower-marks : Holds n t s (filled P k) → Holds n t u (filled P k)
-  lower-marks m = holds-kept n t s u (filled P k) (marks-sets n s u (5 * n) (lowerRow P k) (omega arith) (l .slots)) m
+  lower-marks m = holds-kept n t s u (filled P k) (marks-sets n s u (listFrom n) (lowerRow P k) (omega arith) (l .slots)) m
 
-  pub listed-both : (v : List ℕ) (above : ℕ) → UpperListed P n k below u v above → Listed P n k (5 * n) s v below above
+  pub listed-both : (v : List ℕ) (above : ℕ) → UpperListed P n k below u v above → Listed P n k (listFrom n) s v below above
   listed-both v above w = record {
     lower = l .lower;
     upper = w .upper;
-    slots = w .slots ∙ rw (l .slots, l .lower) (sets-append s (5 * n) (lowerRow P k) (upperRow P n k));
+    slots = w .slots ∙ rw (l .slots, l .lower) (sets-append s (listFrom n) (lowerRow P k) (upperRow P n k));
   }
 
 -- ---- how long they are
@@ -107,15 +109,15 @@ module _ (s₀ s : List ℕ) (at : ℕ) (l : List ℕ) (e : s ≡ sets s₀ at l
     | no a ↦ sets-above s₀ at l q (w (omega arith))
   ])
 
-module _ (P : Pattern) (n k : ℕ) (s₀ s : List ℕ) (below : ℕ) (l : LowerListed P n k s₀ s below) (fits : 5 * n + n ≤ length s₀) (h : k < n) where
-  lower-fits : 5 * n + length (lowerRow P k) ≤ length s₀
+module _ (P : Pattern) (n k : ℕ) (s₀ s : List ℕ) (below : ℕ) (l : LowerListed P n k s₀ s below) (fits : 5 * blocksFrom n ≤ length s₀) (h : k < n) where
+  lower-fits : listFrom n + length (lowerRow P k) ≤ length s₀
   lower-fits = omega (arith, lower-le P k)
 
-  pub lower-read : take below (drop (5 * n) s) ≡ lowerRow P k
-  lower-read = ap (take below) (written-from s₀ s (5 * n) (lowerRow P k) (l .slots) lower-fits) ∙ take-at (lowerRow P k) _ below (sym (l .lower))
+  pub lower-read : take below (drop (listFrom n) s) ≡ lowerRow P k
+  lower-read = ap (take below) (written-from s₀ s (listFrom n) (lowerRow P k) (l .slots) lower-fits) ∙ take-at (lowerRow P k) _ below (sym (l .lower))
 
-  pub lower-but : But (5 * n) (5 * n + below) s₀ s
-  lower-but = rw (l .lower) (written-but s₀ s (5 * n) (lowerRow P k) (l .slots) lower-fits)
+  pub lower-but : But (listFrom n) (listFrom n + below) s₀ s
+  lower-but = rw (l .lower) (written-but s₀ s (listFrom n) (lowerRow P k) (l .slots) lower-fits)
 
 module _ (P : Pattern) (n k at : ℕ) (s₀ s : List ℕ) (below above : ℕ) (l : Listed P n k at s₀ s below above) (fits : at + n ≤ length s₀) (h : k < n) where
   abbrev L : List ℕ
@@ -187,7 +189,7 @@ module _ (P : Pattern) (n k : ℕ) (index runs starts : List ℕ) (store : Store
   lower-at p h = asc-at (filled P k) k p (omega (arith, length-asc (filled P k) k)) .below
 
   -- what adding them asks for
-  pub held-countable : k ≤ 65536 → (list : List ℕ) → list ≡ lowerRow P k → Countable list starts
+  pub held-countable : k ≤ maxRows → (list : List ℕ) → list ≡ lowerRow P k → Countable list starts
   held-countable h list e = rw e (record {
     short = omega (arith, lower-le P k);
     inside = λ p l. store .read (getD (lowerRow P k) p 0) (lower-at p l) .has-start;
@@ -204,8 +206,8 @@ unfolding rowSteps steps
 products-rows P n = products-steps P n
 
 -- those of the first k rows fit 64 bits
-pub products-fit : (P : Pattern) (n k : ℕ) → n ≤ 65536 → k ≤ n → sum k (rowSteps P n) ≤ 281474976710656
+pub products-fit : (P : Pattern) (n k : ℕ) → n ≤ maxRows → k ≤ n → sum k (rowSteps P n) ≤ maxProducts
 products-fit P n k h l =
     let a = sum-mono (rowSteps P n) k n l in
-    let b : n * (n * n) ≤ 65536 * (65536 * 65536) = mul-le-mul h (mul-le-mul h h) in
+    let b : n * (n * n) ≤ maxProducts = mul-le-mul h (mul-le-mul h h) in
     omega (arith, products-rows P n, products-le P n)

@@ -9,6 +9,8 @@ use Rattle.base.specs.Lists.{listAt, rowOf, has, total}
 use Rattle.fill.specs.Fill.{Pattern, filled, upperRow, lowerRow}
 use Rattle.fill.specs.Prune.{Pair}
 use Rattle.marks.specs.Marks.{Fresh, Holds, Same, ListIn, upto, through}
+use Rattle.base.specs.Scratch.{listFrom}
+use Rattle.base.specs.Limits.{maxRows}
 
 -- the lists of the first k places stand in the store
 pub record Stored (P : Pattern) (n k : ℕ) (index runs starts : List ℕ) : Type 0 where
@@ -47,7 +49,7 @@ pub record Closed (n t k cuts : ℕ) (index runs s₀ s : List ℕ) : Type 0 whe
 -- lower row k, so long, is written to the list region of scratch
 pub record LowerListed (P : Pattern) (n k : ℕ) (s₀ s : List ℕ) (below : ℕ) : Type 0 where
   pub lower : below ≡ length (lowerRow P k)
-  pub slots : s ≡ sets s₀ (5 * n) (lowerRow P k)
+  pub slots : s ≡ sets s₀ (listFrom n) (lowerRow P k)
 
 -- both: mid is scratch before the list is written
 pub record Closing (n t k cuts : ℕ) (index runs s₀ s : List ℕ) (below : ℕ) : Type 0 where
@@ -59,7 +61,7 @@ pub record Closing (n t k cuts : ℕ) (index runs s₀ s : List ℕ) (below : �
 -- T(k), so long, is written behind lower row k
 pub record UpperListed (P : Pattern) (n k below : ℕ) (s₀ s : List ℕ) (above : ℕ) : Type 0 where
   pub upper : above ≡ length (upperRow P n k)
-  pub slots : s ≡ sets s₀ (5 * n + below) (upperRow P n k)
+  pub slots : s ≡ sets s₀ (listFrom n + below) (upperRow P n k)
 
 -- lower row k and T(k) are written one after the other from slot at on
 pub record Listed (P : Pattern) (n k at : ℕ) (s₀ s : List ℕ) (below above : ℕ) : Type 0 where
@@ -83,6 +85,6 @@ lengthIn starts i = getD starts (i + 1) 0 - getD starts i 0
 
 -- the list starts of the places of a list can be read, and do not fall there
 pub record Countable (list starts : List ℕ) : Type 0 where
-  pub short : length list ≤ 65536
+  pub short : length list ≤ maxRows
   pub inside : (p : ℕ) → p < length list → getD list p 0 + 1 < length starts
   pub rise : (p : ℕ) → p < length list → getD starts (getD list p 0) 0 ≤ getD starts (getD list p 0 + 1) 0

@@ -7,9 +7,11 @@ ghost use Rattle.base.specs.Lists.{rowOf, total};
 ghost use Rattle.fill.specs.Fill.{Pattern, filled};
 ghost use Rattle.marks.specs.Marks.{Below, Room, Blocks, Holds, marked, members, ListIn, Base, Parts};
 ghost use Rattle.rows.specs.Rows.{Loaded, Closing, UpperListed, Renewed, lengthIn, Countable};
+ghost use Rattle.base.specs.Scratch.{listFrom};
 use base::Index;
 use base::OwnNumber;
 use base::Place;
+use base::scratch;
 
 // "place k takes own row r(k)"
 pub fn own_row(order: &[Index], k: Place) -> OwnNumber
@@ -79,7 +81,7 @@ pub fn list_upper(s: &mut [u32], n: usize, stamp: u32, k: Place, below: usize) -
     ensures { λ above. ⌜ ((P : Pattern) → Holds n stamp (now (s .entry)) (filled P (k .0)) → UpperListed P n (k .0) below (now (s .entry)) (now (s .exit)) above) ⌝ }
 {
     let i = k.0 as usize;
-    marks::gather(s, n, stamp, i + 1, n, 5 * n + below)
+    marks::gather(s, n, stamp, i + 1, n, scratch::LIST * n + below)
 }
 
 // The cuts for place k + 1, once T(k) is in the store. Lower row k, with `below` entries, stands in the list region.
@@ -96,7 +98,7 @@ pub fn renew_cuts(
 )
     requires { ⌜ ((i : ℕ) → i < k .0 + 1 → ListIn (now index) (now runs) (now starts) i) ⌝ }
     requires { ⌜ (k .0 < n) × Base n cuts × Room n (now s) ⌝ }
-    requires { ⌜ take below (drop (5 * n) (now s)) ≡ members stamp (now s) 0 (k .0) ⌝ }
+    requires { ⌜ take below (drop (listFrom n) (now s)) ≡ members stamp (now s) 0 (k .0) ⌝ }
     ensures { λ r. ⌜ Renewed n stamp (k .0) cuts (now (index .entry)) (now (runs .entry)) (now (starts .entry)) (now (s .entry)) (now (s .exit)) ⌝ }
 {
     let i = k.0 as usize;

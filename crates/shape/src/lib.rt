@@ -4,7 +4,7 @@ ghost use mathlib.Core.List.{[], _∷_};
 ghost use Prim.Native.Nat.{ℕ, _+_, _*_, _≤_};
 ghost use lib.Dec.{leb, eqb};
 ghost use Rattle.base.specs.All.{all};
-ghost use Rattle.matrix.specs.Limits.{maxRows, maxEntries, maxSlots, rowsWithin};
+ghost use Rattle.base.specs.Limits.{maxRows, maxEntries, maxSlots, rowsWithin};
 use matrix::Matrix;
 
 // Question 1.

@@ -29,6 +29,7 @@ use Rattle.stages.specs.Shaped.{pattern, SolveDue, faultAsked}
 use Rattle.stages.specs.ShapedLaws.{factor-due}
 use Rattle.stages.specs.StageLaws.{blank-of, found-done, found-pattern, solve-go, factored-done, kept-is}
 use Rattle.stages.specs.Sharing.{SharedDue, starts-of}
+use Rattle.base.specs.Scratch.{zFrom}
 
 -- the structure call, once 1 to 8 are passed; t is what they leave of the marks
 pub shared-structured : (i : Input) (ls₀ lr₀ li₀ us₀ ur₀ ui₀ m₀ ls lr li us ur ui t m m′ : List ℕ) (lv₀ uv₀ w₀ lv uv w w′ : List Float) (o : Asked) (a : Answer)
@@ -89,14 +90,14 @@ shared-go i ls₀ lr₀ li₀ us₀ ur₀ ui₀ m₀ ls lr li us ur ui t m lv uv
 -- factors and x are found
 pub shared-solved : (i : Input) (ls lr li us ur ui m₀ m m′ : List ℕ) (lv₀ uv₀ d₀ x₀ w₀ lv uv d x w w′ : List Float) (l : ℕ) (a : Factored) (o : Asked) (k : Counts)
     → SharedDue i ls lr li us ur ui (written lv₀ uv₀ d₀ w₀ m₀) l k
-    → FactoredAs Shared i a lv uv d (drop (i .n + i .n) w) → o ≡ faultAsked a → o ≡ Pass
+    → FactoredAs Shared i a lv uv d (drop (zFrom (i .n)) w) → o ≡ faultAsked a → o ≡ Pass
     → length lv ≡ length lv₀ → length uv ≡ length uv₀ → length w ≡ length w₀ → length m ≡ length m₀
-    → x ≡ ownOrder (i .c) (i .n) (drop (i .n + i .n) w) → w′ ≡ blank nought w → m′ ≡ blank 0 m
+    → x ≡ ownOrder (i .c) (i .n) (drop (zFrom (i .n)) w) → w′ ≡ blank nought w → m′ ≡ blank 0 m
     → ended (Done k) (sharedBuffers ls lr li lv us ur ui uv d x w′ m′) ≡ solveFactored Shared i (sharedBuffers ls lr li lv₀ us ur ui uv₀ d₀ x₀ w₀ m₀)
 unfolding blank
 shared-solved i ls lr li us ur ui m₀ m m′ lv₀ uv₀ d₀ x₀ w₀ lv uv d x w w′ l a o k h g e p el eu ew em cx cw cm =
     let s = sharedBuffers ls lr li lv₀ us ur ui uv₀ d₀ x₀ w₀ m₀ in
-    factored-done Shared i lv uv d (drop (i .n + i .n) w) s _ a o g e k p (h .due .counts-are)
+    factored-done Shared i lv uv d (drop (zFrom (i .n)) w) s _ a o g e k p (h .due .counts-are)
     (λ r v.
     kept-is Shared i (sizes s) r _ _ _ _ _ _
     (shared-side Lower (stored i) (i .n) (sizes s .lower) ls lr li lv _ (h .lower-side) refl (v .lower-values ∙ ap (λ (j : ℕ). padded nought j (valuesKept Shared Lower (stored i) (i .n) (r .rows))) el))

@@ -6,7 +6,7 @@ ghost use lib.ListN.{length};
 ghost use Rattle.base.specs.All.{all};
 ghost use Rattle.base.specs.Lists.{blank};
 ghost use Rattle.base.specs.declared.Form.{Form};
-ghost use Rattle.matrix.specs.Limits.{maxRows};
+ghost use Rattle.base.specs.Limits.{maxRows};
 ghost use Rattle.matrix.specs.Input.{inputOf};
 ghost use Rattle.outcome.specs.Buffers.{sharedBuffers, ended, listTests, structureTests, bufferTests};
 ghost use Rattle.outcome.specs.Structure.{structure};

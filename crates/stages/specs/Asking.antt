@@ -8,7 +8,7 @@ use lib.Ieee.{Float}
 use Rattle.base.specs.All.{all}
 use Rattle.base.specs.Lists.{blank, nought}
 use Rattle.base.specs.Answers.{andThen}
-use Rattle.matrix.specs.Limits.{rowsWithin}
+use Rattle.base.specs.Limits.{rowsWithin}
 use Rattle.matrix.specs.Input.{Input}
 use Rattle.matrix.specs.Questions.{askStructure, askSolve}
 use Rattle.outcome.specs.Buffers.{SideBuffers, Buffers, allBuffers, Sizes, sizes, patternTests, structureTests, matrixTests, bufferTests, askShape, scratchCleared, Outcome, ended, stop}

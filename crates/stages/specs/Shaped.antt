@@ -5,7 +5,7 @@ use mathlib.Core.List.{List, [], _∷_}
 use Prim.Native.Nat.{ℕ, _+_, _*_, _≤_}
 use lib.ListN.{length}
 use lib.Dec.{leb, eqb}
-use Rattle.matrix.specs.Limits.{maxRows, maxEntries, maxSlots}
+use Rattle.base.specs.Limits.{maxRows, maxEntries, maxSlots}
 use Rattle.matrix.specs.Input.{Input, inputOf}
 use Rattle.matrix.specs.Questions.{IsOrder, askStructure, askSolve}
 use Rattle.outcome.specs.Buffers.{SideSizes, Sizes}
@@ -112,7 +112,7 @@ faultAsked (Overflow k) = Stop (refusals.Overflow k)
 -- for x: z stands in scratch
 pub record SolutionDue (n : ℕ) (c : List ℕ) (work x : ℕ) : Type 0 where
   pub few : n ≤ maxRows
-  pub scratch : work ≡ n + n + n
+  pub scratch : work ≡ 3 * n
   pub size : length c ≡ n
   pub to : x ≡ n
   pub order : IsOrder c n

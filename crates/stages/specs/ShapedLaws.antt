@@ -12,7 +12,7 @@ use Rattle.base.specs.AllLaws.{all-true}
 use Rattle.base.specs.Tests.{and-cases}
 use Rattle.base.specs.Answers.{andThen}
 use Rattle.fill.specs.Fill.{Pattern}
-use Rattle.matrix.specs.Limits.{maxRows, rowsWithin}
+use Rattle.base.specs.Limits.{maxRows, rowsWithin}
 use Rattle.matrix.specs.Input.{Input, stored}
 use Rattle.outcome.specs.Buffers.{SideSizes, Sizes, patternTests, matrixTests, listTests, scratchTests, structureTests, bufferTests}
 use Rattle.outcome.specs.Structure.{fits, askPlace, askPlaces, counts}

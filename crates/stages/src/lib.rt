@@ -13,11 +13,13 @@ ghost use Rattle.base.specs.declared.Answer.the-variants.{Refused};
 ghost use Rattle.stages.specs.Shaped.{SolutionDue, faultAsked};
 ghost use Rattle.stages.specs.Branches.{isStop, isRefused, noCounts};
 ghost use Rattle.stages.specs.Asking.{Blanked};
+ghost use Rattle.base.specs.Scratch.{zFrom};
 use base::Answer;
 use base::Asked;
 use base::Counts;
 use base::Index;
 use base::Refusal;
+use base::scratch;
 use factor::Factored;
 
 // The lists and the values of a side without run starts.
@@ -110,9 +112,9 @@ pub fn fault_of(a: Factored) -> Asked
 // z stands in the last n slots of scratch.
 pub fn write_x(n: usize, c: &[Index], work: &[f64], x: &mut [f64])
     requires { ⌜ SolutionDue n (now c) (length (now work)) (length (now x)) ⌝ }
-    ensures { λ _. ⌜ now (x .exit) ≡ ownOrder (now (c .entry)) n (drop (n + n) (now (work .entry))) ⌝ }
+    ensures { λ _. ⌜ now (x .exit) ≡ ownOrder (now (c .entry)) n (drop (zFrom n) (now (work .entry))) ⌝ }
 {
-    let from = n + n;
+    let from = scratch::Z * n;
     questions::write_solution(n, c, &work[from..], x);
 }
 

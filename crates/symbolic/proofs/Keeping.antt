@@ -31,6 +31,8 @@ use Rattle.placing.specs.declared.Put.{Put}
 use Rattle.placing.specs.declared.Put.the-variants.{Done, Full}
 use Rattle.symbolic.specs.Places.{runCount, Keep, Kept, KeepLower, LowerEnds, Adding}
 use Rattle.symbolic.specs.declared.OpenRow.{OpenRow}
+use Rattle.base.specs.Scratch.{listFrom, regionsEnd}
+use Rattle.base.specs.Limits.{maxProducts}
 
 -- what is told of a value is told of the case that it is
 pub told : {A : Type 0} (Q : A → Type 0) {r a : A} → r ≡ a → Q r → Q a
@@ -61,18 +63,18 @@ run-count Sharing n = omega arith
 module _ {way : Way} {P : Pattern} {n k t cuts : ℕ} {store : List ℕ} {values : ℕ} {starts runs index s : List ℕ} {o : OpenRow} {e : Extent}
     (h : Keep way P n k t cuts store values starts runs index s o e) where
   -- both lists lie in scratch
-  pub keep-fits : 5 * n + o .below + o .above < 8 * n
+  pub keep-fits : listFrom n + o .below + o .above < regionsEnd n
   keep-fits = omega (arith, h .below, h .lists .below-is, h .lists .above-is, lower-le P k, upper-le P n k (h .below))
 
   -- they are read from there
-  pub keep-row : take (5 * n + o .below - 5 * n) (drop (5 * n) s) ≡ lowerRow P k
-  keep-row = part-is (5 * n) (o .below) s ∙ h .lists .lower
+  pub keep-row : take (listFrom n + o .below - listFrom n) (drop (listFrom n) s) ≡ lowerRow P k
+  keep-row = part-is (listFrom n) (o .below) s ∙ h .lists .lower
 
-  pub keep-list : take (5 * n + o .below + o .above - (5 * n + o .below)) (drop (5 * n + o .below) s) ≡ upperRow P n k
-  keep-list = part-is (5 * n + o .below) (o .above) s ∙ h .lists .upper
+  pub keep-list : take (listFrom n + o .below + o .above - (listFrom n + o .below)) (drop (listFrom n + o .below) s) ≡ upperRow P n k
+  keep-list = part-is (listFrom n + o .below) (o .above) s ∙ h .lists .upper
 
   -- lower row k is what cutting walks along
-  pub keep-members : take (o .below) (drop (5 * n) s) ≡ members t s 0 k
+  pub keep-members : take (o .below) (drop (listFrom n) s) ≡ members t s 0 k
   keep-members = h .lists .lower ∙ sym (lower-members P n t k s (h .below) (h .lists .marks))
 
   pub keep-turn : (row list : List ℕ) → RowIs way (lowerRow P k) row → list ≡ upperRow P n k
@@ -125,19 +127,19 @@ unfolding lowerRow
 lower-below P k j l = asc-at (filled P k) k j (omega (arith, length-asc (filled P k) k)) .below
 
 module _ {P : Pattern} {n k : ℕ} {store : List ℕ} {values : ℕ} {starts index s : List ℕ} {count : ℕ} {e : Extent} (h : KeepLower P n k store values starts index s count e) where
-  pub lower-fits : 5 * n + count < 8 * n
+  pub lower-fits : listFrom n + count < regionsEnd n
   lower-fits = omega (arith, h .below, h .size, lower-le P k)
 
-  pub lower-turn : (list : List ℕ) → list ≡ take (5 * n + count - 5 * n) (drop (5 * n) s)
+  pub lower-turn : (list : List ℕ) → list ≡ take (listFrom n + count - listFrom n) (drop (listFrom n) s)
       → Turn OneAfterAnother (lowerRow P) (lowerRow (flip P)) n values k (blank 0 store) index starts starts list list e
-  lower-turn list l = record { suited = tt; below = h .below; row-is = tt; list-is = l ∙ part-is (5 * n) count s ∙ h .list; held = h .held }
+  lower-turn list l = record { suited = tt; below = h .below; row-is = tt; list-is = l ∙ part-is (listFrom n) count s ∙ h .list; held = h .held }
 
-  pub lower-ready : (list : List ℕ) → list ≡ take (5 * n + count - 5 * n) (drop (5 * n) s) → Ready OneAfterAnother index starts starts values list list k e
+  pub lower-ready : (list : List ℕ) → list ≡ take (listFrom n + count - listFrom n) (drop (listFrom n) s) → Ready OneAfterAnother index starts starts values list list k e
   lower-ready list l =
       let z = h .stores in
       turn-ready (lower-turn list l) (omega (arith, h .below, z .starts-size)) (omega (arith, h .below, z .starts-size))
       (omega (arith, z .slots-fit, blank-length 0 store)) (omega (arith, z .values-fit))
-      (rw (l, part-is (5 * n) count s, h .list) (λ j b. omega (arith, lower-below P k j b, h .below, h .few)))
+      (rw (l, part-is (listFrom n) count s, h .list) (λ j b. omega (arith, lower-below P k j b, h .below, h .few)))
 
 -- what a step of placing told of it
 pub lower-stepped : (P : Pattern) (values k : ℕ) (store index starts : List ℕ) (r : Put)
@@ -148,17 +150,17 @@ lower-stepped P values k store index starts Full h = rw blank-length at h
 -- ---- products
 
 module _ {P : Pattern} {n k : ℕ} {index runs starts s : List ℕ} {count products : ℕ} (a : Adding P n k index runs starts s count products) where
-  pub adding-fits : 5 * n + count < 8 * n
+  pub adding-fits : listFrom n + count < regionsEnd n
   adding-fits = omega (arith, a .below, a .size, lower-le P k)
 
-  pub adding-countable : (list : List ℕ) → list ≡ take (5 * n + count - 5 * n) (drop (5 * n) s) → Countable list starts
-  adding-countable list e = held-countable P n k index runs starts (a .store) (omega (arith, a .below, a .few)) list (e ∙ part-is (5 * n) count s ∙ a .list)
+  pub adding-countable : (list : List ℕ) → list ≡ take (listFrom n + count - listFrom n) (drop (listFrom n) s) → Countable list starts
+  adding-countable list e = held-countable P n k index runs starts (a .store) (omega (arith, a .below, a .few)) list (e ∙ part-is (listFrom n) count s ∙ a .list)
 
-  pub products-next : (r : ℕ) → r ≡ total (map (lengthIn starts) (take (5 * n + count - 5 * n) (drop (5 * n) s))) → products + r ≡ sum (k + 1) (rowSteps P n)
+  pub products-next : (r : ℕ) → r ≡ total (map (lengthIn starts) (take (listFrom n + count - listFrom n) (drop (listFrom n) s))) → products + r ≡ sum (k + 1) (rowSteps P n)
   unfolding sum
   products-next r e =
-      let q : r ≡ rowSteps P n k = e ∙ ap (λ l. total (map (lengthIn starts) l)) (part-is (5 * n) count s ∙ a .list) ∙ row-products-is P n k index runs starts (a .store) in
+      let q : r ≡ rowSteps P n k = e ∙ ap (λ l. total (map (lengthIn starts) l)) (part-is (listFrom n) count s ∙ a .list) ∙ row-products-is P n k index runs starts (a .store) in
       rw (add-one, q, a .before)
 
-  pub products-small : (r : ℕ) → r ≡ total (map (lengthIn starts) (take (5 * n + count - 5 * n) (drop (5 * n) s))) → products + r ≤ 281474976710656
+  pub products-small : (r : ℕ) → r ≡ total (map (lengthIn starts) (take (listFrom n + count - listFrom n) (drop (listFrom n) s))) → products + r ≤ maxProducts
   products-small r e = rw (products-next r e) (products-fit P n (k + 1) (omega (arith, a .few)) (omega (arith, a .below)))

@@ -24,6 +24,7 @@ use Rattle.columns.proofs.WindowLaws.{ready-steady}
 use Rattle.columns.proofs.SideLaws.{side-marks, side-below, side-untouched}
 use Rattle.columns.proofs.Stored.{given-sound, side-set, side-blocks}
 use Rattle.symbolic.specs.Places.{patternOf, cutsOf, Foreign, Apart, Begun, Open, RowFound}
+use Rattle.base.specs.Scratch.{blocksFrom, upperCuts, lowerCuts, listFrom, nodesFrom, regionsEnd}
 
 -- ---- what is not written
 
@@ -39,7 +40,7 @@ apart-then a b = record {
 }
 
 -- slots written that are neither the order's nor the other side's
-apart-of : (side : Side) (n : ℕ) (s u : List ℕ) → length u ≡ length s → ((q : ℕ) → n ≤ q → (n + n ≤ q → Foreign side n q) → getD u q 0 ≡ getD s q 0) → Apart side n s u
+apart-of : (side : Side) (n : ℕ) (s u : List ℕ) → length u ≡ length s → ((q : ℕ) → n ≤ q → (blocksFrom n ≤ q → Foreign side n q) → getD u q 0 ≡ getD s q 0) → Apart side n s u
 apart-of side n s u e k = record {
   size = e;
   order = λ q h g. k q h (λ w. absurd (omega arith));
@@ -50,21 +51,21 @@ apart-of side n s u e k = record {
     far Upper q f = omega (arith, f .0)
     far Lower q f = omega (arith, f .0)
 
-foreign-free : (side : Side) (n q : ℕ) → n ≤ q → (n + n ≤ q → Foreign side n q) → Free n q
+foreign-free : (side : Side) (n q : ℕ) → n ≤ q → (blocksFrom n ≤ q → Foreign side n q) → Free n q
 foreign-free Upper n q h f = record { past = h; away = λ w. let g = f w in omega (arith, g .0) }
 foreign-free Lower n q h f = record { past = h; away = λ w. let g = f w in omega (arith, g .0) }
 
 pub apart-same : (side : Side) (n : ℕ) (s u : List ℕ) → length u ≡ length s → Same n s u → Apart side n s u
 apart-same side n s u e k = apart-of side n s u e (λ q h f. k q (foreign-free side n q h f))
 
-foreign-list : (side : Side) (n q : ℕ) → (n + n ≤ q → Foreign side n q) → 5 * n ≤ q → 6 * n ≤ q
+foreign-list : (side : Side) (n q : ℕ) → (blocksFrom n ≤ q → Foreign side n q) → listFrom n ≤ q → nodesFrom n ≤ q
 foreign-list Upper n q f w = let g = f (omega arith) in g .1 w
 foreign-list Lower n q f w = let g = f (omega arith) in absurd (omega (arith, g .1))
 
-pub apart-list : (side : Side) (n hi : ℕ) (s u : List ℕ) → length u ≡ length s → hi ≤ 6 * n → But (5 * n) hi s u → Apart side n s u
+pub apart-list : (side : Side) (n hi : ℕ) (s u : List ℕ) → length u ≡ length s → hi ≤ nodesFrom n → But (listFrom n) hi s u → Apart side n s u
 apart-list side n hi s u e l k = apart-of side n s u e (λ q h f. k q (λ w. let g = foreign-list side n q f w in omega arith))
 
-foreign-cuts : (side : Side) (n k q : ℕ) → k < n → n ≤ q → (n + n ≤ q → Foreign side n q) → cutsOf side n ≤ q → cutsOf side n + k + 1 ≤ q
+foreign-cuts : (side : Side) (n k q : ℕ) → k < n → n ≤ q → (blocksFrom n ≤ q → Foreign side n q) → cutsOf side n ≤ q → cutsOf side n + k + 1 ≤ q
 foreign-cuts Upper n k q l h f w = let g = f (omega arith) in omega (arith, g .0)
 foreign-cuts Lower n k q l h f w = let g = f (omega arith) in absurd (omega (arith, g .1))
 
@@ -100,16 +101,16 @@ pub rows-apart : (side : Side) (i : Input) (s u : List ℕ) → Apart side (i .n
 rows-apart side i s u a = rows-same (i .n) (i .columns) (i .starts) (i .r) s u (order-same a)
 
 -- columns can be handed out as before
-pub ready-kept : {n k hi : ℕ} {R : ℕ → List ℕ} {s u : List ℕ} → ((q : ℕ) → 4 * n + k ≤ q → q < 8 * n → (5 * n ≤ q → 6 * n ≤ q) → getD u q 0 ≡ getD s q 0) → Ready n k hi R s → Ready n k hi R u
+pub ready-kept : {n k hi : ℕ} {R : ℕ → List ℕ} {s u : List ℕ} → ((q : ℕ) → lowerCuts n + k ≤ q → q < regionsEnd n → (listFrom n ≤ q → nodesFrom n ≤ q) → getD u q 0 ≡ getD s q 0) → Ready n k hi R s → Ready n k hi R u
 ready-kept {n} {k} e r = ready-steady (record {
-  heads = λ j a b. e (4 * n + j) (omega arith) (omega arith) (λ w. omega arith);
+  heads = λ j a b. e (lowerCuts n + j) (omega arith) (omega arith) (λ w. omega arith);
   nodes = λ x a b. e x (omega arith) b (λ w. a);
 }) r
 
 -- ---- the load
 
 fresh-mark : (n t : ℕ) (s : List ℕ) (j : ℕ) → j < n → Fresh n (suc t) s → Fresh n (suc t) (markAt n t s j)
-fresh-mark n t s j h f x l = rw (getD-set-other (set s j t) (n + n + j / 64) x t 0 (omega arith)) (go (ℕ-discrete x j))
+fresh-mark n t s j h f x l = rw (getD-set-other (set s j t) (blocksFrom n + j / 64) x t 0 (omega arith)) (go (ℕ-discrete x j))
   where
     go : Dec (x ≡ j) → getD (set s j t) x 0 < suc t
     go (yes e) = rw e (elim (decLt j (length s)) [
@@ -157,7 +158,7 @@ module _ (side : Side) (i : Input) (k t window : ℕ) (index runs lists s₀ : L
       last = loaded-fresh;
     }
 
-    cut-slot : (side : Side) (j : ℕ) → j < k → (3 * n ≤ cutsOf side n + j) × (cutsOf side n + j < 4 * n + k)
+    cut-slot : (side : Side) (j : ℕ) → j < k → (upperCuts n ≤ cutsOf side n + j) × (cutsOf side n + j < lowerCuts n + k)
     cut-slot Upper j l = let b = o .below in (omega arith, omega arith)
     cut-slot Lower j l = (omega arith, omega arith)
 
@@ -204,20 +205,20 @@ module _ (side : Side) (i : Input) (k t window : ℕ) (index runs lists s₀ : L
       closed-short = omega (arith, lowered .lower, lower-le P k)
 
       module _ (s₃ : List ℕ) (size₃ : length s₃ ≡ length s₁) (above : ℕ) (upper : UpperListed P n k below u₂ s₃ above) where
-        listed : Listed P n k (5 * n) s₂ s₃ below above
+        listed : Listed P n k (listFrom n) s₂ s₃ below above
         listed = listed-both P n t k s₂ u₂ below lowered s₃ above upper
 
-        fits : 5 * n + n ≤ length s₂
+        fits : 5 * blocksFrom n ≤ length s₂
         fits = omega (arith, loaded-room .long, closing .size)
 
         short : below + above < n
         short = omega (arith, listed .lower, listed .upper, lower-le P k, upper-le P n k (o .below))
 
-        others : But (5 * n) (5 * n + below + above) s₂ s₃
-        others = listed-but P n k (5 * n) s₂ s₃ below above listed fits (o .below)
+        others : But (listFrom n) (listFrom n + below + above) s₂ s₃
+        others = listed-but P n k (listFrom n) s₂ s₃ below above listed fits (o .below)
 
         apart : Apart side n s₀ s₃
-        apart = apart-then loaded-apart (apart-then (apart-same side n s₁ s₂ (closing .size) (closed .same)) (apart-list side n (5 * n + below + above) s₂ s₃ (size₃ ∙ sym (closing .size)) (omega (arith, short)) others))
+        apart = apart-then loaded-apart (apart-then (apart-same side n s₁ s₂ (closing .size) (closed .same)) (apart-list side n (listFrom n + below + above) s₂ s₃ (size₃ ∙ sym (closing .size)) (omega (arith, short)) others))
 
         next-ready : (side : Side) → SideLoaded side n t k window hi (rowsIn i s₀) s₀ s₁ → rowsIn i s₃ ≡ rowsIn i s₀ → SideReady side n (k + 1) hi (rowsIn i s₃) s₃
         next-ready Upper l e = tt
@@ -233,8 +234,8 @@ module _ (side : Side) (i : Input) (k t window : ℕ) (index runs lists s₀ : L
             marks = holds-kept n t s₂ s₃ (filled P k) (λ q l. others q (λ w. absurd (omega arith))) mid-marks;
             below-is = listed .lower;
             above-is = listed .upper;
-            lower = listed-lower P n k (5 * n) s₂ s₃ below above listed fits (o .below);
-            upper = listed-upper P n k (5 * n) s₂ s₃ below above listed fits (o .below);
+            lower = listed-lower P n k (listFrom n) s₂ s₃ below above listed fits (o .below);
+            upper = listed-upper P n k (listFrom n) s₂ s₃ below above listed fits (o .below);
           };
           cut = cuts-kept P n k cuts s₀ s₃ (λ j l. keep-cut j l) (o .held .cut);
           ready = next-ready side loaded (rows-apart side i s₀ s₃ apart);
@@ -249,10 +250,10 @@ module _ (side : Side) (i : Input) (k t window : ℕ) (index runs lists s₀ : L
 
 -- ---- by what the code reads
 
-pub cuts-upper : (side : Side) (n : ℕ) → side ≡ Upper → n + n + n ≡ cutsOf side n
+pub cuts-upper : (side : Side) (n : ℕ) → side ≡ Upper → upperCuts n ≡ cutsOf side n
 cuts-upper side n e = rw e
 
-pub cuts-lower : (side : Side) (n : ℕ) → side ≡ Lower → n + n + n + n ≡ cutsOf side n
+pub cuts-lower : (side : Side) (n : ℕ) → side ≡ Lower → lowerCuts n ≡ cutsOf side n
 cuts-lower side n e = rw e
 
 pub parts-at : (n k : ℕ) (s : List ℕ) (a b : ℕ) (index runs : List ℕ) → a ≡ b → Parts n k s b index runs → Parts n k s a index runs

@@ -30,6 +30,7 @@ use Rattle.symbolic.proofs.Opening.{begun-apart}
 use Rattle.symbolic.proofs.Keeping.{stored-held}
 use Rattle.symbolic.proofs.Sides.{lists-open, room-found, lists-keep, side-apart, side-last}
 use Rattle.symbolic.proofs.Asking.{fits-upper, fits-plain, stop-null, stop-lower, stop-upper, goes-on}
+use Rattle.base.specs.Scratch.{upperCuts}
 
 module _ (i : Input) (low : List ℕ) (lv : ℕ) (up : List ℕ) (uv k : ℕ) (ls li us ui s : List ℕ) (g : Progress) (h : At Plain i low lv up uv k ls ls li us us ui s g) (place : k < i .n) where
   abbrev n : ℕ
@@ -73,7 +74,7 @@ module _ (i : Input) (low : List ℕ) (lv : ℕ) (up : List ℕ) (uv k : ℕ) (l
       before = h .products-are;
     }
 
-    pub plain-keep : Keep OneAfterAnother P n k (k + 1) (n + n + n) up uv us us ui s₁ o (g .upper)
+    pub plain-keep : Keep OneAfterAnother P n k (k + 1) (upperCuts n) up uv us us ui s₁ o (g .upper)
     plain-keep = lists-keep (h .begun) place (h .upper) found
 
     module _ (fits : room plain (lowerRow P) (lowerRow (flip P)) (length low) lv k ≡ true) where
@@ -82,7 +83,7 @@ module _ (i : Input) (low : List ℕ) (lv : ℕ) (up : List ℕ) (uv k : ℕ) (l
           stop-upper Plain P n _ k place (h .passed) (found .diagonal) (fits-plain P n (length low) lv (length up) uv k ∙ fits) (fits-upper P n (length low) lv (length up) uv k Plain ∙ c)
 
       pub plain-next : (ls′ li′ : List ℕ) (e : Extent) → Holding OneAfterAnother (lowerRow P) (lowerRow (flip P)) lv (k + 1) (blank 0 low) li′ ls′ ls′ e → length ls′ ≡ length ls
-          → (p : ℕ) → p ≡ sum (k + 1) (rowSteps P n) → (us′ ui′ s₂ : List ℕ) (u : Extent) → length s₂ ≡ length s₁ → Kept OneAfterAnother P n k (n + n + n) up uv us′ us′ ui′ s₁ s₂ u
+          → (p : ℕ) → p ≡ sum (k + 1) (rowSteps P n) → (us′ ui′ s₂ : List ℕ) (u : Extent) → length s₂ ≡ length s₁ → Kept OneAfterAnother P n k (upperCuts n) up uv us′ us′ ui′ s₁ s₂ u
           → At Plain i low lv up uv (k + 1) ls′ ls′ li′ us′ us′ ui′ s₂ (record { lower = e; upper = u; products = p; window = 0 })
       plain-next ls′ li′ e held size p sums us′ ui′ s₂ u same kept =
           let z = h .lower .1 in

@@ -33,6 +33,8 @@ use Rattle.symbolic.specs.declared.Progress.{Progress}
 use Rattle.symbolic.proofs.Opening.{begun-apart, rows-apart, ready-kept}
 use Rattle.symbolic.proofs.Keeping.{stored-held}
 use Rattle.symbolic.proofs.Asking.{fits-upper, fits-shared, stop-null, stop-lower, stop-upper, goes-on}
+use Rattle.base.specs.Scratch.{upperCuts, lowerCuts}
+use Rattle.base.specs.Limits.{maxRows}
 
 stored-before : {P : Pattern} {n k : ℕ} {index runs starts : List ℕ} → Stored P n (k + 1) index runs starts → Stored P n k index runs starts
 stored-before h = record { list = λ i b. h .list i (omega arith); read = λ i b. h .read i (omega arith) }
@@ -50,7 +52,7 @@ module _ (f : Form) (sharing : placingOf f ≡ Sharing) (i : Input) (low : List 
   pub upper-null : filled P k k ≡ false → askPlaces f P n (slotsOf (length low) lv (length up) uv) n ≡ Stop (NullPivot (spot k))
   upper-null a = stop-null f P n _ k place (h .passed) a
 
-  pub upper-due : (t : ℕ) (s₁ : List ℕ) → Begun i s₁ → Fresh n t s₁ → Cuts P n k (n + n + n) s₁ → SideAt Upper i up uv k t 0 us ur ui s₁ (g .upper)
+  pub upper-due : (t : ℕ) (s₁ : List ℕ) → Begun i s₁ → Fresh n t s₁ → Cuts P n k (upperCuts n) s₁ → SideAt Upper i up uv k t 0 us ur ui s₁ (g .upper)
   upper-due t s₁ begun fresh cut =
       let l = h .upper in
       record { begun = begun; below = place; fresh = fresh; ready = tt; at = rw (← sharing) (record { held = l .held; cut = cut; stores = l .stores }) }
@@ -106,8 +108,8 @@ module _ (i : Input) (low : List ℕ) (lv : ℕ) (up : List ℕ) (uv k : ℕ) (u
     pub row-small : g .lower .entries + below ≤ 4294967296
     row-small =
         let few = h .begun .few in
-        let a = sum-le (k + 1) 65536 (λ j. length (lowerRow (stored i) j)) (λ j l. omega (arith, lower-le (stored i) j)) in
-        let b : (k + 1) * 65536 ≤ 65536 * 65536 = omega arith in
+        let a = sum-le (k + 1) maxRows (λ j. length (lowerRow (stored i) j)) (λ j l. omega (arith, lower-le (stored i) j)) in
+        let b : (k + 1) * maxRows ≤ maxRows * maxRows = omega arith in
         omega (arith, row-counts)
 
 -- ---- the shared form: the lower side goes first
@@ -134,7 +136,7 @@ module _ (i : Input) (low : List ℕ) (lv : ℕ) (up : List ℕ) (uv k : ℕ) (l
     pub shared-due : SideAt Upper i up uv k (k + k + 1 + 1) 0 us ur ui s₁ (g .upper)
     shared-due =
         upper-due Shared refl i low lv up uv k ls lr li us ur ui s g h place (k + k + 1 + 1) s₁ lower-begun (rw add-one (next .last))
-        (cuts-kept (stored i) (i .n) k (i .n + i .n + i .n) s s₁ (λ j l. next .apart .foreign (i .n + i .n + i .n + j) (omega arith, omega arith)) (h .upper .cut))
+        (cuts-kept (stored i) (i .n) k (upperCuts (i .n)) s s₁ (λ j l. next .apart .foreign (upperCuts (i .n) + j) (omega arith, omega arith)) (h .upper .cut))
 
     -- the upper side leaves it as it is
     pub shared-lower : (s₂ : List ℕ) (u : Extent) (products : ℕ) → Apart Upper (i .n) s₁ s₂
@@ -143,7 +145,7 @@ module _ (i : Input) (low : List ℕ) (lv : ℕ) (up : List ℕ) (uv k : ℕ) (l
         let l = next .at in (
           record {
             held = l .held;
-            cut = cuts-kept (flip (stored i)) (i .n) (k + 1) (i .n + i .n + i .n + i .n) s₁ s₂ (λ j b. a .foreign (i .n + i .n + i .n + i .n + j) (omega arith, λ w. absurd (omega arith))) (l .cut);
+            cut = cuts-kept (flip (stored i)) (i .n) (k + 1) (lowerCuts (i .n)) s₁ s₂ (λ j b. a .foreign (lowerCuts (i .n) + j) (omega arith, λ w. absurd (omega arith))) (l .cut);
             stores = l .stores;
           },
           rw (rows-apart Upper i s₁ s₂ a) (ready-kept (λ q b c d. a .foreign q (omega arith, d)) (next .ready)),

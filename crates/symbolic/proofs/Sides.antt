@@ -19,6 +19,7 @@ use Rattle.symbolic.specs.Places.{patternOf, cutsOf, Apart, Begun, Open,
 use Rattle.symbolic.specs.declared.OpenRow.{OpenRow}
 use Rattle.symbolic.proofs.Opening.{apart-then, apart-cuts, base-of, part-kept, rows-apart, ready-kept}
 use Rattle.symbolic.proofs.Keeping.{stored-held}
+use Rattle.base.specs.Scratch.{listFrom}
 
 -- ---- before
 
@@ -57,10 +58,10 @@ module _ (side : Side) (i : Input) (k t : ℕ) (s₀ s₁ s₂ : List ℕ) (o : 
   side-last j l = let b = base-of side (i .n) .low in rw (but j (λ w. absurd (omega arith))) (found .lists .marks .last j l)
 
   -- the lower row still stands in scratch
-  side-lower : take (o .below) (drop (5 * i .n) s₂) ≡ lowerRow (patternOf side i) k
+  side-lower : take (o .below) (drop (listFrom (i .n)) s₂) ≡ lowerRow (patternOf side i) k
   side-lower =
       let b = base-of side (i .n) .high in
-      part-kept (5 * i .n) (o .below) s₁ s₂ size (λ q a c. but q (λ w. omega arith)) ∙ found .lists .lower
+      part-kept (listFrom (i .n)) (o .below) s₁ s₂ size (λ q a c. but q (λ w. omega arith)) ∙ found .lists .lower
 
   side-ready : SideReady side (i .n) (k + 1) (o .window) (rowsIn i s₂) s₂
   side-ready = go side but (found .ready) (rows-apart side i s₁ s₂ (apart-cuts side (i .n) k s₁ s₂ size place but))

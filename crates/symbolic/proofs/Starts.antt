@@ -28,6 +28,7 @@ use Rattle.symbolic.specs.Places.{Apart, Begun, Stores, ListsAt}
 use Rattle.symbolic.specs.declared.Progress.{Progress}
 use Rattle.symbolic.specs.Pass.{nothing, noProgress, slotsOf, LowerAt, At, placingOf, stampAt, MatrixLent, PlainLent, RowLent, SharedLent, ColumnsBegun}
 use Rattle.symbolic.proofs.Opening.{begun-apart, rows-apart}
+use Rattle.base.specs.Scratch.{blocksFrom, upperCuts, lowerCuts, regionsEnd}
 
 -- what the questions settle, as the columns ask for it
 sound-of : (i : Input) (m : ℕ) → MatrixLent i m → Sound i
@@ -48,7 +49,7 @@ sound-of i m l =
 pub inverse-lent : (i : Input) (m : ℕ) → MatrixLent i m → InverseLent (i .n) (i .c) (m - i .n)
 inverse-lent i m l = record { few = l .few; size = l .columns-size; slots = omega (arith, l .scratch); order = l .structured .readable .column-order }
 
-inverted-length : (o : List ℕ) (n : ℕ) (s : List ℕ) → n + n ≤ length s → length (invertedAt o n s) ≡ length s
+inverted-length : (o : List ℕ) (n : ℕ) (s : List ℕ) → blocksFrom n ≤ length s → length (invertedAt o n s) ≡ length s
 unfolding invertedAt inverted
 inverted-length o n s h = simp (length-append, length-take, length-drop, length-table) (omega arith)
 
@@ -56,10 +57,10 @@ pub inverted-after : (o : List ℕ) (n : ℕ) (s u v : List ℕ) → u ≡ blank
 inverted-after o n s u v a b = rw (b, a)
 
 module _ (i : Input) (s₀ s : List ℕ) (l : MatrixLent i (length s₀)) (e : s ≡ invertedAt (i .c) (i .n) (blank 0 s₀)) where
-  long : 8 * i .n ≤ length s₀
+  long : regionsEnd (i .n) ≤ length s₀
   long = omega (arith, l .scratch)
 
-  zeros : i .n + i .n ≤ length (blank 0 s₀)
+  zeros : blocksFrom (i .n) ≤ length (blank 0 s₀)
   zeros = omega (arith, blank-length 0 s₀, long)
 
   pub begun-of : Begun i s
@@ -142,7 +143,7 @@ form-start f i low lv uv ls lr li us us′ ur ui ui′ s begun fresh upper ur′
   begun = begun;
   fresh = fresh-first f (i .n) s fresh;
   lower = lower;
-  upper = cleared-lists (placingOf f) (stored i) (i .n) (i .n + i .n + i .n) uv us us′ ur ur′ ui ui′ s upper a b c;
+  upper = cleared-lists (placingOf f) (stored i) (i .n) (upperCuts (i .n)) uv us us′ ur ur′ ui ui′ s upper a b c;
   products-are = refl;
 })
 
@@ -165,4 +166,4 @@ pub shared-start : (i : Input) (ls ls′ lr li li′ : List ℕ) (lv : ℕ) (us 
     → ls′ ≡ blank 0 ls → li′ ≡ blank 0 li → us′ ≡ blank 0 us → ui′ ≡ blank 0 ui → ColumnsBegun i s → (g : Progress) → g ≡ noProgress → At Shared i li′ lv ui′ uv 0 ls′ lr li′ us′ ur ui′ s g
 shared-start i ls ls′ lr li li′ lv us us′ ur ui ui′ uv m s l a b c d e =
     form-start Shared i li′ lv uv ls′ lr li′ us us′ ur ui ui′ s (e .begun) (e .fresh) (l .upper) ur c refl d
-    (cleared-lists Sharing (flip (stored i)) (i .n) (i .n + i .n + i .n + i .n) lv ls ls′ lr lr li li′ s (l .lower) a refl b, e .ready)
+    (cleared-lists Sharing (flip (stored i)) (i .n) (lowerCuts (i .n)) lv ls ls′ lr lr li li′ s (l .lower) a refl b, e .ready)

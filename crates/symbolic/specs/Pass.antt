@@ -14,7 +14,7 @@ use Rattle.base.specs.declared.Asked.the-variants.{Pass, Stop}
 use Rattle.base.specs.declared.Answer.{Answer}
 use Rattle.base.specs.declared.Answer.the-variants as answers
 use Rattle.fill.specs.Fill.{lowerRow, flip}
-use Rattle.matrix.specs.Limits.{maxRows, maxEntries}
+use Rattle.base.specs.Limits.{maxRows, maxEntries}
 use Rattle.matrix.specs.Input.{Input, inputOf, stored}
 use Rattle.marks.specs.Marks.{Fresh}
 use Rattle.rows.specs.Rows.{rowSteps}
@@ -32,6 +32,7 @@ use Rattle.symbolic.specs.Places.{Begun, Stores, ListsAt}
 use Rattle.symbolic.specs.declared.Progress.{Progress}
 use Rattle.symbolic.specs.declared.Turned.{Turned}
 use Rattle.symbolic.specs.declared.Turned.the-variants.{Next, Stopped}
+use Rattle.base.specs.Scratch.{upperCuts, lowerCuts}
 
 -- ---- what the pass answers and leaves
 
@@ -81,7 +82,7 @@ LowerAt Plain i store values k starts runs index s g =
     Holding OneAfterAnother (lowerRow (stored i)) (lowerRow (flip (stored i))) values k (blank 0 store) index starts starts (g .lower)
     × Stores OneAfterAnother (i .n) store values starts starts
 LowerAt Shared i store values k starts runs index s g =
-    ListsAt Sharing (flip (stored i)) (i .n) k (i .n + i .n + i .n + i .n) store values starts runs index s (g .lower) × Ready (i .n) k (g .window) (rowsIn i s) s
+    ListsAt Sharing (flip (stored i)) (i .n) k (lowerCuts (i .n)) store values starts runs index s (g .lower) × Ready (i .n) k (g .window) (rowsIn i s) s
 LowerAt ByRow i store values k starts runs index s g = g .lower .entries ≡ sum k (λ j. length (lowerRow (stored i) j))
 
 -- low and up are the index stores before the pass
@@ -91,7 +92,7 @@ pub record At (f : Form) (i : Input) (low : List ℕ) (lv : ℕ) (up : List ℕ)
   pub begun : Begun i s
   pub fresh : Fresh (i .n) (stampAt f k) s
   pub lower : LowerAt f i low lv k ls lr li s g
-  pub upper : ListsAt (placingOf f) (stored i) (i .n) k (i .n + i .n + i .n) up uv us ur ui s (g .upper)
+  pub upper : ListsAt (placingOf f) (stored i) (i .n) k (upperCuts (i .n)) up uv us ur ui s (g .upper)
   pub products-are : g .products ≡ sum k (rowSteps (stored i) (i .n))
 
 -- before any place

@@ -8,7 +8,7 @@ use Rattle.base.specs.Lists.{blank, sum}
 use Rattle.base.specs.declared.Side.{Side}
 use Rattle.base.specs.declared.Side.the-variants.{Lower, Upper}
 use Rattle.fill.specs.Fill.{Pattern, filled, upperRow, lowerRow, flip}
-use Rattle.matrix.specs.Limits.{maxRows, maxSlots}
+use Rattle.base.specs.Limits.{maxRows, maxSlots}
 use Rattle.matrix.specs.Input.{Input, inputOf, stored}
 use Rattle.placement.specs.Placing.{plain}
 use Rattle.placement.specs.PlacingLaws.{room}
@@ -28,6 +28,7 @@ use Rattle.symbolic.specs.declared.Opened.the-variants.{Unfilled, Row}
 use Rattle.symbolic.specs.declared.SidePlace.{SidePlace}
 use Rattle.symbolic.specs.declared.SideEnd.{SideEnd}
 use Rattle.symbolic.specs.declared.SideEnd.the-variants.{NoDiagonal, NoRoom, Placed}
+use Rattle.base.specs.Scratch.{blocksFrom, upperCuts, lowerCuts, listFrom, nodesFrom}
 
 -- M' for the upper side, with rows and columns exchanged for the lower one
 abbrev pub patternOf : Side → Input → Pattern
@@ -35,18 +36,18 @@ patternOf side i = sidePattern side (stored i)
 
 -- where the cuts of a side's lists stand in scratch
 abbrev pub cutsOf : Side → ℕ → ℕ
-cutsOf Upper n = n + n + n
-cutsOf Lower n = n + n + n + n
+cutsOf Upper n = upperCuts n
+cutsOf Lower n = lowerCuts n
 
 -- the slots that a side's work leaves to the other side: the lower cuts, the heads and the nodes, or the upper cuts
 abbrev pub Foreign : Side → ℕ → ℕ → Type 0
-Foreign Upper n q = (4 * n ≤ q) × (5 * n ≤ q → 6 * n ≤ q)
-Foreign Lower n q = (3 * n ≤ q) × (q < 4 * n)
+Foreign Upper n q = (lowerCuts n ≤ q) × (listFrom n ≤ q → nodesFrom n ≤ q)
+Foreign Lower n q = (upperCuts n ≤ q) × (q < lowerCuts n)
 
 -- the inverse order and the other side's slots are as they were
 pub record Apart (side : Side) (n : ℕ) (s₀ s : List ℕ) : Type 0 where
   pub size : length s ≡ length s₀
-  pub order : (q : ℕ) → n ≤ q → q < n + n → getD s q 0 ≡ getD s₀ q 0
+  pub order : (q : ℕ) → n ≤ q → q < blocksFrom n → getD s q 0 ≡ getD s₀ q 0
   pub foreign : (q : ℕ) → Foreign side n q → getD s q 0 ≡ getD s₀ q 0
 
 -- what questions 1 to 8 and the inverse order settle for the whole pass
@@ -76,8 +77,8 @@ pub record Listing (P : Pattern) (n k t : ℕ) (s : List ℕ) (below above : ℕ
   pub marks : Holds n t s (filled P k)
   pub below-is : below ≡ length (lowerRow P k)
   pub above-is : above ≡ length (upperRow P n k)
-  pub lower : take below (drop (5 * n) s) ≡ lowerRow P k
-  pub upper : take above (drop (5 * n + below) s) ≡ upperRow P n k
+  pub lower : take below (drop (listFrom n) s) ≡ lowerRow P k
+  pub upper : take above (drop (listFrom n + below) s) ≡ upperRow P n k
 
 -- (k, k) is filled, and its lists are found
 pub record RowFound (side : Side) (i : Input) (k t : ℕ) (s₀ s : List ℕ) (o : OpenRow) : Type 0 where
@@ -141,7 +142,7 @@ pub record KeepLower (P : Pattern) (n k : ℕ) (store : List ℕ) (values : ℕ)
   pub few : n ≤ maxRows
   pub space : Room n s
   pub size : count ≡ length (lowerRow P k)
-  pub list : take count (drop (5 * n) s) ≡ lowerRow P k
+  pub list : take count (drop (listFrom n) s) ≡ lowerRow P k
   pub held : Holding OneAfterAnother (lowerRow P) (lowerRow (flip P)) values k (blank 0 store) index starts starts e
   pub stores : Stores OneAfterAnother n store values starts starts
 
@@ -164,7 +165,7 @@ pub record Adding (P : Pattern) (n k : ℕ) (index runs starts s : List ℕ) (co
   pub few : n ≤ maxRows
   pub space : Room n s
   pub size : count ≡ length (lowerRow P k)
-  pub list : take count (drop (5 * n) s) ≡ lowerRow P k
+  pub list : take count (drop (listFrom n) s) ≡ lowerRow P k
   pub store : Stored P n k index runs starts
   pub before : products ≡ sum k (rowSteps P n)
 
@@ -199,7 +200,7 @@ pub record SideNext (side : Side) (i : Input) (store : List ℕ) (values k t : �
   pub last : Fresh (i .n) (suc t) s
   pub apart : Apart side (i .n) s₀ s
   pub size : p .below ≡ length (lowerRow (patternOf side i) k)
-  pub lower : take (p .below) (drop (5 * i .n) s) ≡ lowerRow (patternOf side i) k
+  pub lower : take (p .below) (drop (listFrom (i .n)) s) ≡ lowerRow (patternOf side i) k
 
 abbrev pub SideEnds : Side → Input → List ℕ → ℕ → ℕ → ℕ → List ℕ → List ℕ → List ℕ → List ℕ → List ℕ → SideEnd → Type 0
 SideEnds side i store values k t starts runs index s₀ s NoDiagonal = filled (patternOf side i) k k ≡ false

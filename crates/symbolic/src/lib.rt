@@ -14,12 +14,15 @@ ghost use Rattle.placing.specs.declared.Way.{Way};
 ghost use Rattle.questions.specs.Lent.{invertedAt, InverseLent};
 ghost use Rattle.symbolic.specs.Pass.{At, Due, TurnEnds, noProgress, countsAt, slotsOf, Found, FoundBoth, MatrixLent, PlainLent, RowLent, SharedLent, ColumnsBegun};
 ghost use Rattle.symbolic.specs.Places.{cutsOf, Open, Opening, OpenEnds, Keep, Keeping, KeepEnds, KeepLower, KeepingLower, LowerEnds, Adding, Addable, SideAt, SideDue, SideEnds};
+ghost use Rattle.base.specs.Scratch.{upperCuts};
+ghost use Rattle.base.specs.Limits.{maxRows};
 use base::Answer;
 use base::Counts;
 use base::Index;
 use base::Place;
 use base::Refusal;
 use base::Side;
+use base::scratch;
 use placing::Extent;
 use placing::Put;
 use placing::Way;
@@ -68,12 +71,12 @@ pub enum Turned {
 
 // Where the cuts of a side's lists stand in scratch.
 fn cuts_of(side: Side, n: usize) -> usize
-    requires { ⌜ n ≤ 65536 ⌝ }
+    requires { ⌜ n ≤ maxRows ⌝ }
     ensures { λ r. ⌜ r ≡ cutsOf side n ⌝ }
 {
     match side {
-        Side::Upper => n + n + n,
-        Side::Lower => n + n + n + n,
+        Side::Upper => scratch::UPPER_CUTS * n,
+        Side::Lower => scratch::LOWER_CUTS * n,
     }
 }
 
@@ -126,7 +129,7 @@ fn keep_shared(
     requires { ⌜ Keeping Way.Sharing n (k .0) stamp cuts values (now starts) (now runs) (now index) (now marks) row e ⌝ }
     ensures { λ o. ⌜ ((P : Pattern) (store : List ℕ) → Keep Way.Sharing P n (k .0) stamp cuts store values (now (starts .entry)) (now (runs .entry)) (now (index .entry)) (now (marks .entry)) row e → KeepEnds Way.Sharing P n (k .0) cuts store values (now (starts .exit)) (now (runs .exit)) (now (index .exit)) (now (marks .entry)) (now (marks .exit)) o) ⌝ }
 {
-    let at = 5 * n;
+    let at = scratch::LIST * n;
     let mid = at + row.below;
     let end = mid + row.above;
     let put = placing::place_list(
@@ -161,10 +164,10 @@ fn keep_plain(
     row: OpenRow,
     e: Extent,
 ) -> Put
-    requires { ⌜ Keeping Way.OneAfterAnother n (k .0) stamp (n + n + n) values (now starts) (now starts) (now index) (now marks) row e ⌝ }
-    ensures { λ o. ⌜ ((P : Pattern) (store : List ℕ) → Keep Way.OneAfterAnother P n (k .0) stamp (n + n + n) store values (now (starts .entry)) (now (starts .entry)) (now (index .entry)) (now (marks .entry)) row e → KeepEnds Way.OneAfterAnother P n (k .0) (n + n + n) store values (now (starts .exit)) (now (starts .exit)) (now (index .exit)) (now (marks .entry)) (now (marks .exit)) o) ⌝ }
+    requires { ⌜ Keeping Way.OneAfterAnother n (k .0) stamp (upperCuts n) values (now starts) (now starts) (now index) (now marks) row e ⌝ }
+    ensures { λ o. ⌜ ((P : Pattern) (store : List ℕ) → Keep Way.OneAfterAnother P n (k .0) stamp (upperCuts n) store values (now (starts .entry)) (now (starts .entry)) (now (index .entry)) (now (marks .entry)) row e → KeepEnds Way.OneAfterAnother P n (k .0) (upperCuts n) store values (now (starts .exit)) (now (starts .exit)) (now (index .exit)) (now (marks .entry)) (now (marks .exit)) o) ⌝ }
 {
-    let mid = 5 * n + row.below;
+    let mid = scratch::LIST * n + row.below;
     let end = mid + row.above;
     let put = placing::place_plain(index, starts, values, &marks[mid..end], k, e);
     match put {
@@ -175,7 +178,7 @@ fn keep_plain(
                 stamp,
                 k,
                 row.below,
-                n + n + n,
+                scratch::UPPER_CUTS * n,
                 index,
                 starts,
                 starts,
@@ -200,7 +203,7 @@ fn keep_lower(
     requires { ⌜ KeepingLower n (k .0) values (now starts) (now index) (now marks) below e ⌝ }
     ensures { λ o. ⌜ ((P : Pattern) (store : List ℕ) → KeepLower P n (k .0) store values (now (starts .entry)) (now (index .entry)) (now (marks .entry)) below e → LowerEnds P (k .0) store values (now (starts .exit)) (now (index .exit)) o) ⌝ }
 {
-    let at = 5 * n;
+    let at = scratch::LIST * n;
     let mid = at + below;
     placing::place_plain(index, starts, values, &marks[at..mid], k, e)
 }
@@ -210,7 +213,7 @@ fn add_products(n: usize, starts: &[u32], marks: &[u32], below: usize, before: u
     requires { ⌜ Addable n (now starts) (now marks) below before ⌝ }
     ensures { λ r. ⌜ ((P : Pattern) (k : ℕ) (index runs : List ℕ) → Adding P n k index runs (now (starts .entry)) (now (marks .entry)) below before → r ≡ sum (k + 1) (rowSteps P n)) ⌝ }
 {
-    let at = 5 * n;
+    let at = scratch::LIST * n;
     let end = at + below;
     before + rows::row_products(&marks[at..end], starts)
 }

@@ -6,9 +6,10 @@ use native.Mathlib.Omega.{arith}
 use borrow.Author.Needs.{needs}
 use Rattle.marks.proofs.next_block.Statement.{statement}
 use Rattle.marks.proofs.next_block.Tie as tie
+use Rattle.base.specs.Scratch.{blocksFrom}
 
 abbrev Inv-loop : tie.InvT-loop
-Inv-loop s n stamp j end b₀ b = (j / 64 < b) × (b * 64 < end + 64) × ((i : ℕ) → j ≤ i → i < b * 64 → getD s (n + n + i / 64) 0 ≡ stamp → ⊥)
+Inv-loop s n stamp j end b₀ b = (j / 64 < b) × (b * 64 < end + 64) × ((i : ℕ) → j ≤ i → i < b * 64 → getD s (blocksFrom n + i / 64) 0 ≡ stamp → ⊥)
 
 abbrev μ-loop : tie.MeasureT-loop
 μ-loop s n stamp j end b₀ b = end - b * 64

@@ -1,5 +1,5 @@
 use borrow.Author.Tests.{le-leb, lt-leb}
-use Rattle.matrix.specs.Limits.{maxEntries}
+use Rattle.base.specs.Limits.{maxEntries}
 use native.Mathlib.Omega.{arith}
 use borrow.Author.Needs.{needs}
 use Rattle.matrix_file.proofs.fits_shape.Statement.{statement}

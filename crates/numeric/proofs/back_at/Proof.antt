@@ -28,8 +28,8 @@ index-part-requires c κs = c .before .before .before .before .before .before .p
 values-part-requires : tie.Need-values-part-requires
 values-part-requires c κs = c .before .before .before .before .before .before .before .pre .2 .values (c .before .before .before .before .before .before .before .args .k) (c .before .before .before .before .before .before .before .pre .0)
 
-add-z : tie.Need-add-z
-add-z c = search needs
+mul-z : tie.Need-mul-z
+mul-z c = search needs
 
 mul-less-products : tie.Need-mul-less-products
 mul-less-products c = search needs
@@ -64,7 +64,7 @@ back-at-spec =
     shared-slice-read-t
     index-part-requires
     values-part-requires
-    add-z
+    mul-z
     mul-less-products
     sub-less-products
     part-less-products-start

@@ -15,17 +15,18 @@ use Rattle.numeric.proofs.back_steps.Reads as reads
 use Rattle.numeric.proofs.back_steps.Lts as lts
 use Rattle.base.proofs.is_finite.Reads as is-finite-reads
 use Rattle.numeric.proofs.back_at.Reads as back-at-reads
+use Rattle.base.specs.Scratch.{zFrom}
 
 abbrev Inv-loop : tie.InvT-loop
 Inv-loop f₀ n upper runs starts u z k₀ f k =
-    (z ≡ n + n) × (k ≤ n) × (length f ≡ length f₀) × (take (n + n) f ≡ take (n + n) f₀)
-    × (back (storeGiven n f₀ upper runs starts u) k (drop (n + n) f) ≡ back (storeGiven n f₀ upper runs starts u) n (drop (n + n) f₀))
+    (z ≡ zFrom n) × (k ≤ n) × (length f ≡ length f₀) × (take (zFrom n) f ≡ take (zFrom n) f₀)
+    × (back (storeGiven n f₀ upper runs starts u) k (drop (zFrom n) f) ≡ back (storeGiven n f₀ upper runs starts u) n (drop (zFrom n) f₀))
 
 abbrev μ-loop : tie.MeasureT-loop
 μ-loop f₀ n upper runs starts u z k₀ f k = k
 
-add-z : tie.Need-add-z Inv-loop μ-loop
-add-z c = search needs
+mul-z : tie.Need-mul-z Inv-loop μ-loop
+mul-z c = search needs
 
 loop-holds : tie.Need-loop-holds Inv-loop μ-loop
 loop-holds c = search needs
@@ -91,7 +92,7 @@ back-steps-spec =
     (tie.spec
     Inv-loop
     μ-loop
-    add-z
+    mul-z
     loop-holds
     sub-i
     back-at-requires

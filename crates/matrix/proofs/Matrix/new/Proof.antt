@@ -1,4 +1,5 @@
-use Rattle.matrix.specs.Limits.{shapeOf, maxEntries}
+use Rattle.base.specs.Limits.{maxEntries}
+use Rattle.matrix.specs.Shape.{shapeOf}
 use borrow.Author.Tests.{le-leb, lt-leb}
 use borrow.Author.Needs.{needs}
 use native.Mathlib.Omega.{arith}
