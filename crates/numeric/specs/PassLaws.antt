@@ -32,6 +32,7 @@ use Rattle.numeric.specs.StoreLaws.{list-length, sets-part, products-len
 use Rattle.numeric.specs.KeepLaws.{stacked-row}
 use Rattle.numeric.specs.RowLaws.{Same, bind-same, has-at, filled-cases, row-is, row-outside}
 use Rattle.base.specs.Scratch.{zFrom}
+use Rattle.base.specs.ScratchLaws.{drop-twice}
 
 -- ---- the rows of places 0 to k - 1
 
@@ -169,7 +170,7 @@ module _ (S : System) (rows : List Row) (n k : ℕ) (f : List Float) (upper runs
       us = us;
       ys = rw (add-one, after, take-suc-set (drop n f) k (t .y) (simp length-drop (omega arith)), H .ys) (sym (map-append (λ (r : Row). r .y) rows (next ∷ [])));
       clear = clear;
-      zs = sym (drop-drop n n h′) ∙ ap (λ (l : List Float). drop n l) after ∙ drop-set-lt n (drop n f) k (t .y) h ∙ drop-drop n n f ∙ H .zs;
+      zs = sym (drop-twice n h′) ∙ ap (λ (l : List Float). drop n l) after ∙ drop-set-lt n (drop n f) k (t .y) h ∙ drop-twice n f ∙ H .zs;
     }
       where
         same-length : length v ≡ length u
@@ -198,7 +199,8 @@ pub held-start : (S : System) (n : ℕ) (f : List Float) (upper runs starts : Li
     → f ≡ replicate (3 * n) nought → u ≡ replicate (length u) nought → Held S [] n 0 f upper runs starts u
 unfolding forward
 held-start S n f upper runs starts u en el ef eu =
-    let e : 3 * n ≡ n + (zFrom n) = omega arith in
+    let e : 3 * n ≡ n + zFrom n = omega arith in
+    let thrice : 3 * n ≡ zFrom n + n = omega arith in
     record {
       size = en;
       lists = el;
@@ -206,7 +208,7 @@ held-start S n f upper runs starts u en el ef eu =
       us = stacked-none nought (uOf []) starts u eu;
       ys = refl;
       clear = rw (ef, e) (take-replicate n (zFrom n) nought);
-      zs = rw ef (tail-replicate (zFrom n) n nought);
+      zs = rw (ef, thrice) (tail-replicate (zFrom n) n nought);
     }
 
 pub solved-met : (S : System) (q : Fault) → forward S (S .n) 0 [] ≡ met q → solved S ≡ met q
