@@ -30,7 +30,8 @@ use Rattle.agreement.specs.Demand.{operations, result, WalkBack, FirstNu
 use Rattle.base.specs.declared.Form.{Form}
 use Rattle.base.specs.declared.Form.the-variants.{Plain, Shared, ByRow}
 use Rattle.base.specs.declared.Side.{Side}
-use Rattle.outcome.specs.Buffers.{Sizes, Buffers, sizes, sideOf, bufferTests, Outcome}
+use Rattle.outcome.specs.Buffers.{Buffers, sizes, sideOf, bufferTests, Outcome}
+use Rattle.base.specs.declared.Sizes.{Sizes}
 use Rattle.base.specs.Answers.{numberOf, placeOf, numberOfAnswer, countsOf, spot, absent, placeOfAnswer}
 use Rattle.base.specs.Tests.{not-true, not-false, by-test}
 use Rattle.outcome.proofs.Asking.{stop-pass, stop-inj, number-some, Within}

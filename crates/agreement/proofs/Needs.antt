@@ -21,7 +21,9 @@ use Rattle.base.specs.declared.Form.{Form}
 use Rattle.base.specs.declared.Form.the-variants.{Plain, Shared, ByRow}
 use Rattle.base.specs.declared.Side.{Side}
 use Rattle.outcome.specs.Forms.{wayOf, listsOf, rowsOf, placedTo, indexNeed, valueNeed}
-use Rattle.outcome.specs.Buffers.{Sizes, SideSizes, Buffers, sizes, sideOf}
+use Rattle.outcome.specs.Buffers.{Buffers, sizes, sideOf}
+use Rattle.base.specs.declared.SideSizes.{SideSizes}
+use Rattle.base.specs.declared.Sizes.{Sizes}
 use Rattle.agreement.specs.Demand.{Short, Lacks}
 
 module _ (way : Way) (T R : ℕ → List ℕ) where
