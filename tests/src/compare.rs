@@ -18,10 +18,12 @@ impl fmt::Display for Difference {
 /// Ok, or the first difference.
 pub type Compared = Result<(), Difference>;
 
+/// A difference, as what was found and what was expected are printed.
 pub fn differ<T>(what: impl Into<String>, found: impl fmt::Debug, expected: impl fmt::Debug) -> Result<T, Difference> {
     Err(Difference { what: what.into(), found: format!("{found:?}"), expected: format!("{expected:?}") })
 }
 
+/// Two equal values.
 pub fn same<T: PartialEq + fmt::Debug>(what: &str, found: &T, expected: &T) -> Compared {
     if found == expected {
         return Ok(());
@@ -29,6 +31,15 @@ pub fn same<T: PartialEq + fmt::Debug>(what: &str, found: &T, expected: &T) -> C
     differ(what, found, expected)
 }
 
+/// A count that must not be too small.
+pub fn at_least(what: &str, found: u64, least: u64) -> Compared {
+    if found >= least {
+        return Ok(());
+    }
+    differ(what, found, format!("at least {least}"))
+}
+
+/// Lists of the same length with equal slots.
 pub fn numbers<T: PartialEq + fmt::Debug>(name: &str, found: &[T], expected: &[T]) -> Compared {
     same(&format!("length of {name}"), &found.len(), &expected.len())?;
     for (slot, (a, b)) in found.iter().zip(expected).enumerate() {

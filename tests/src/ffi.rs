@@ -3,6 +3,7 @@
 use crate::compare::{self, differ, Compared, Difference};
 use crate::model::*;
 use crate::reference::Lists;
+use std::cell::Cell;
 
 /// The functions as the header declares them: `lent` and `out` stand for a pointer and a length.
 pub mod raw {
@@ -77,6 +78,15 @@ macro_rules! call {
 
 const MARGIN: usize = 16;
 
+thread_local! {
+    static NULLS: Cell<bool> = const { Cell::new(false) };
+}
+
+/// From now on a buffer of length 0 is lent as NULL, or else as a place between its margins.
+pub fn lend_nulls(nulls: bool) {
+    NULLS.set(nulls);
+}
+
 /// A copy of a lent buffer with slots on both sides that no call may touch.
 struct Guarded<T> {
     cells: Vec<T>,
@@ -92,6 +102,9 @@ impl<T: Copy + PartialEq> Guarded<T> {
     }
 
     fn pointer(&mut self) -> *mut T {
+        if NULLS.get() && self.length() == 0 {
+            return std::ptr::null_mut();
+        }
         self.cells[MARGIN..].as_mut_ptr()
     }
 

@@ -572,7 +572,7 @@ fn over_limit(random: &mut Random, case: &mut Case) {
 }
 
 /// Takes away what the call is not lent.
-fn only_lent(case: &mut Case) {
+pub fn only_lent(case: &mut Case) {
     let (input, buffers) = (&mut case.input, &mut case.buffers);
     match case.call {
         Call::Structure(_) => {

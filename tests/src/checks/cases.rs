@@ -79,7 +79,7 @@ pub fn reached_all(solver: &dyn Solver, reached: &Reached, tally: &mut Tally) {
     for &call in solver.calls() {
         for number in numbers_of(call) {
             let met = reached.get(&(format!("{call:?}"), number)).copied().unwrap_or(0);
-            let result = if met > 0 { Ok(()) } else { compare::differ("cases that met it", met, "at least one") };
+            let result = compare::at_least("cases that met it", met, 1);
             tally.add(|| format!("{call:?} answer {number} is tried"), result);
         }
     }

@@ -2,7 +2,7 @@
 use super::cases::Range;
 use super::header::repository;
 use super::{known, Solver, Tally};
-use crate::compare::{self, Compared};
+use crate::compare::{self, Compared, Difference};
 use crate::generate;
 use crate::load;
 use crate::model::*;
@@ -10,7 +10,7 @@ use crate::random::Random;
 use crate::reference::matrix_file;
 
 /// Shape and read of a file, into buffers for n rows and e entries, against the reference.
-fn compare_file(solver: &dyn Solver, file: &[u8], into: &Input) -> Compared {
+pub fn compare_file(solver: &dyn Solver, file: &[u8], into: &Input) -> Compared {
     compare::same("shape", &solver.shape(file)?, &matrix_file::shape(file))?;
     let mut expected = into.clone();
     let answer = matrix_file::read(file, &mut expected);
@@ -90,14 +90,20 @@ pub fn heads(solver: &dyn Solver, tally: &mut Tally) {
     }
 }
 
+/// The matrix written over the bytes of `before`, against the reference: the answer and the file.
+pub fn compare_written(solver: &dyn Solver, input: &Input, before: &[u8]) -> Result<(Answer, Vec<u8>), Difference> {
+    let mut expected = before.to_vec();
+    let answer = matrix_file::write(input, &mut expected);
+    let mut file = before.to_vec();
+    compare::same("answer of write", &solver.write(input, &mut file)?, &answer)?;
+    compare::numbers("file", &file, &expected)?;
+    Ok((answer, file))
+}
+
 fn written_and_read(solver: &dyn Solver, random: &mut Random) -> Compared {
     let (input, length) = generate::matrix_to_write(random);
     let before: Vec<u8> = (0..length).map(|_| random.bits() as u8).collect();
-    let mut expected = before.clone();
-    let answer = matrix_file::write(&input, &mut expected);
-    let mut file = before;
-    compare::same("answer of write", &solver.write(&input, &mut file)?, &answer)?;
-    compare::numbers("file", &file, &expected)?;
+    let (answer, file) = compare_written(solver, &input, &before)?;
     if answer.number != 0 {
         return Ok(());
     }
