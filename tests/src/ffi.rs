@@ -339,7 +339,7 @@ impl Loan {
         }
     }
 
-    /// The call itself and nothing else: its number.
+    /// Runs the call itself and nothing else, and returns its number.
     pub fn run(&mut self) -> u32 {
         let (n, lent, given, report) = (self.n, &mut self.lent, &mut self.given, &mut self.report);
         match self.call {
@@ -393,7 +393,7 @@ fn solve(form: Form, n: usize, m: &mut GuardedInput, g: &mut GuardedBuffers, rep
     }
 }
 
-/// Offset and length of a list's part of its index store.
+/// Looks a list up: offset and length of its part of the index store.
 pub fn lookup(lists: &Lists, side: Side, place: usize) -> Result<(usize, usize), Difference> {
     let mut l = GuardedStore::new(&lists.lower);
     let mut u = GuardedStore::new(&lists.upper);
@@ -415,7 +415,7 @@ pub fn lookup(lists: &Lists, side: Side, place: usize) -> Result<(usize, usize),
     Ok((offset as usize, length as usize))
 }
 
-/// n and e of a matrix file, or its refusal.
+/// Finds n and e of a matrix file, or its refusal.
 pub fn shape(file: &[u8]) -> Result<Result<(usize, usize), Refusal>, Difference> {
     let mut lent = guard_u8(file);
     let mut report = Report::new(4, 3);

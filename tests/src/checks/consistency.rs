@@ -212,6 +212,7 @@ fn check(random: &mut Random) -> Compared {
     Ok(())
 }
 
+/// Checks the reference on random matrices.
 pub fn run(range: Range, tally: &mut Tally) {
     for number in range.numbers() {
         let result = check(&mut range.random(number));

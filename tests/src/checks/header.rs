@@ -46,7 +46,7 @@ fn linked() -> Compared {
     result
 }
 
-/// The header by itself, and a C program that uses it with the library.
+/// Checks the header by itself, and with a C program that uses the library.
 pub fn run(tally: &mut Tally) {
     tally.add(|| "C header".to_string(), syntax());
     tally.add(|| "C program over the library".to_string(), linked());

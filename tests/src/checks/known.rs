@@ -118,7 +118,7 @@ fn arrow(solver: &dyn Solver) -> Compared {
     compare::same("one upper plain slot fewer", &answer, &Refusal { number: 11, place: 1 }.into())
 }
 
-/// The same graph with each of the four stores one slot short: T(0) = {1,2}, T(1) = {2}, lower rows {}, {0}, {0,1}.
+/// Solves the arrow with each of the four stores one slot short: T(0) = {1,2}, T(1) = {2}, lower rows {}, {0}, {0,1}.
 fn arrow_lacks(solver: &dyn Solver) -> Compared {
     let rows = [vec![(0, 9.0), (1, 1.0), (2, 1.0)], vec![(0, 1.0), (1, 9.0)], vec![(0, 1.0), (2, 9.0)]];
     let input = load::from_rows(&rows, &[1.0, 1.0, 1.0]);
@@ -223,7 +223,7 @@ pub fn grid_ordered(order: &[u16]) -> Input {
     Input { r: order.to_vec(), c: order.to_vec(), ..load::grid(3) }
 }
 
-/// Every buffer of the three solves against the reference, bit by bit.
+/// Compares every buffer of the three solves with the reference, bit by bit.
 fn solves_as_reference(solver: &dyn Solver, input: &Input, slots: Slots) -> Compared {
     for form in SOLVES {
         let call = Call::Solve(form);
@@ -305,7 +305,7 @@ fn test_load(solver: &dyn Solver, figures: &LoadFigures) -> Compared {
     uses(solver, &input, figures.counts, shared)
 }
 
-/// Other seeds and sizes of the test load, all three solves, against the reference.
+/// Solves the test load of other seeds and sizes in all three forms, against the reference.
 fn loads_against_reference(solver: &dyn Solver) -> Compared {
     for (n, seed) in [(1, 1), (2, 7), (40, 3), (150, 1), (300, 9), (512, 65_535)] {
         solves_as_reference(solver, &load::test_load(n, seed), Slots::all(n * n))?;
@@ -313,7 +313,7 @@ fn loads_against_reference(solver: &dyn Solver) -> Compared {
     Ok(())
 }
 
-/// The whole range of n: a tridiagonal system of 4,096.
+/// Tries the whole range of n: a tridiagonal system of 4,096.
 fn largest_tridiagonal(solver: &dyn Solver) -> Compared {
     let input = load::tridiagonal(4_096);
     solves_as_reference(solver, &input, Slots::all(4_095))?;
@@ -322,6 +322,7 @@ fn largest_tridiagonal(solver: &dyn Solver) -> Compared {
     compare_case(solver, &Case { call, input, buffers, report: 4 }).1
 }
 
+/// Runs every case with known figures on the solver.
 pub fn run(solver: &dyn Solver, tally: &mut Tally) {
     let graphs: [(&str, Compared); 13] = [
         ("the paper's file", solves(solver, &paper_matrix(), counts(1, 1, 1), &[1.0, 2.0])),

@@ -62,13 +62,19 @@ impl Tally {
 
 /// The calls of one solver. An error is a fault of the call itself, as a slot written outside its buffer.
 pub trait Solver {
+    /// What failures call it.
     fn name(&self) -> &'static str;
     /// The calls that it has.
     fn calls(&self) -> &'static [Call];
+    /// Runs a call; `report` is the length of the report lent to it.
     fn run(&self, call: Call, input: &Input, buffers: &mut Buffers, report: usize) -> Result<Answer, Difference>;
+    /// Looks a list up: its offset and length.
     fn lookup(&self, lists: &Lists, side: Side, place: usize) -> Result<(usize, usize), Difference>;
+    /// Finds n and e of a matrix file, or its refusal.
     fn shape(&self, file: &[u8]) -> Result<Result<(usize, usize), Refusal>, Difference>;
+    /// Reads a matrix file into the lent buffers.
     fn read(&self, file: &[u8], matrix: &mut Input) -> Result<Answer, Difference>;
+    /// Writes a matrix file into the lent bytes.
     fn write(&self, matrix: &Input, file: &mut Vec<u8>) -> Result<Answer, Difference>;
 }
 

@@ -126,7 +126,7 @@ const MATRIX_TAKINGS: [fn(&mut Input) -> bool; 6] = [
     |matrix| take(&mut matrix.b),
 ];
 
-/// Writing the matrix, then reading the whole matrix's file into its buffers.
+/// Writes the matrix, then reads the file of the whole matrix into its buffers.
 fn write_and_read(solver: &dyn Solver, matrix: &Input, file: &[u8], number: u32) -> Compared {
     let (answer, _) = compare_written(solver, matrix, &vec![7; file.len()])?;
     compare::same("number of write", &answer.number, &number)?;

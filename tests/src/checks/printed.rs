@@ -42,7 +42,7 @@ fn compare_output(path: &Path, file: &[u8]) -> Compared {
     }
 }
 
-/// The reference's own output for the paper's file, and its other fixed lines.
+/// Checks the reference's own output for the paper's file, and its other fixed lines.
 pub fn known_outputs(tally: &mut Tally) {
     let paper = "n 2 lower 1 upper 1 products 1\nx 0 3FF0000000000000\nx 1 4000000000000000\n";
     let expect = |file: &[u8], text: &str| compare::same("output", &program::output(file), &text.to_string());
@@ -125,7 +125,7 @@ fn random_file(random: &mut Random) -> Vec<u8> {
     file
 }
 
-/// The program on chosen files and on random ones; a missing program is one failure.
+/// Runs the program on chosen files and on random ones; a missing program is one failure.
 pub fn run(path: &Path, range: Range, tally: &mut Tally) {
     if !path.exists() {
         let missing = compare::differ(path.display().to_string(), "no file", "the program");

@@ -119,7 +119,7 @@ fn exports() -> Compared {
     same_signatures(&exported_signatures(&text_of("crates/capi/src/lib.rt")?), &header)
 }
 
-/// Each declared function has a comment right above it.
+/// Checks that each declared function has a comment right above it.
 fn commented() -> Compared {
     let text = text_of("include/lilacpliers.h")?;
     let mut above = "";
@@ -134,7 +134,7 @@ fn commented() -> Compared {
     compare::same("functions", &found, &header_signatures(&text).len())
 }
 
-/// Header, declarations and exports have the same functions with the same arguments.
+/// Checks that header, declarations and exports have the same functions with the same arguments.
 pub fn run(tally: &mut Tally) {
     tally.add(|| "comments of the header".to_string(), commented());
     tally.add(|| "declarations against the header".to_string(), declarations());
