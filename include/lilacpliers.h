@@ -6,8 +6,8 @@
  *
  * The caller's floating-point environment must be the default of IEEE 754: rounding to nearest, no flush to zero, no
  * denormals as zero, no traps. In another one numbers and answers may be others than promised here (n = 1, b = 1 and
- * the value 2^-1023 give x = 2^1023, but LP_ZERO_PIVOT where denormals are zero), and with a trap for overflow or
- * division a refusal LP_OVERFLOW becomes a signal.
+ * the value 2^-1023 give x = 2^1023, but LP_ZERO_PIVOT where denormals are zero), and with a trap for overflow a
+ * refusal LP_OVERFLOW becomes a signal.
  *
  * Matrix, orders, right side:
  *   n        rows, 1 to LP_MAX_ROWS

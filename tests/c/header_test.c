@@ -173,6 +173,7 @@ static void nulls(void)
 enum {
     FLAGS = 0x003F,
     DENORMALS_ARE_ZERO = 0x0040,
+    ZERO_DIVISION_MASKED = 0x0200,
     OVERFLOW_MASKED = 0x0400,
     DEFAULT = 0x1F80,
     ROUND_UP = 0x4000,
@@ -231,6 +232,8 @@ static void environments(void)
     expect(solve_in(DEFAULT, 0x1p-1024, 1.0, &solution) == LP_OVERFLOW, "2^-1024 overflows");
     expect(!traps(DEFAULT, 0x1p-1024), "the default environment does not trap");
     expect(traps(DEFAULT & ~OVERFLOW_MASKED, 0x1p-1024), "with a trap for overflow 2^-1024 ends in a signal");
+    expect(!traps(DEFAULT & ~ZERO_DIVISION_MASKED, 0x1p-1024) && !traps(DEFAULT & ~ZERO_DIVISION_MASKED, 0.0),
+           "nothing is divided by zero");
 }
 
 int main(void)
