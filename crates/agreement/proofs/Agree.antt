@@ -21,12 +21,16 @@ use Rattle.base.specs.declared.Asked.the-variants.{Pass, Stop}
 use Rattle.base.specs.declared.Answer.{Answer}
 use Rattle.base.specs.declared.Answer.the-variants.{Done, Refused}
 use Rattle.matrix.specs.Input.{Input, stored, ownOrder}
+use Rattle.outcome.specs.Calls.{SolvesPlain, SolvesShared, SolvesByRow}
 use Rattle.outcome.specs.Solve.{system, listed, faultOf, earlier, solve, Solves}
 use Rattle.outcome.specs.Structure.{counts, fits, askPlaces}
-use Rattle.agreement.specs.Demand.{operations, result, WalkBack, FirstNull, AllBack, Stated, Short, Roomy, Passed, FormsAgree}
+use Rattle.agreement.specs.Demand.{operations, result, WalkBack, FirstNull, AllBack, Stated, Short, Roomy, Passed, byForm, FormsAgree}
 use Rattle.base.specs.declared.Form.{Form}
+use Rattle.base.specs.declared.Form.the-variants.{Plain, Shared, ByRow}
 use Rattle.base.specs.declared.Side.{Side}
-use Rattle.outcome.specs.Buffers.{Buffers, sizes, Outcome}
+use lib.Ieee.{Float}
+use mathlib.Core.List.{List}
+use Rattle.outcome.specs.Buffers.{plainBuffers, sharedBuffers, rowBuffers, Buffers, sizes, Outcome}
 use Rattle.base.specs.Answers.{numberOf, numberOfAnswer, countsOf, absent, placeOfAnswer}
 use Rattle.base.specs.Tests.{not-true, not-false, by-test}
 use Rattle.outcome.proofs.Asking.{Within}
@@ -281,5 +285,29 @@ solves-agree i s h =
     ones f g a b = a .2 ∙ ap (λ (r : Result). ownOrder (i .c) (i .n) (r .z)) (ok-same (listed i) (a .0) (b .0) (a .1) (b .1)) ∙ sym (b .2)
 
 -- the same of whatever answers and buffers meet the three contracts
-pub calls-agree : (i : Input) (s : Form → Buffers) (a : Form → Answer) (t : Form → Buffers) → ((f : Form) → Stated f i (s f)) → ((f : Form) → Solves f i (s f) (a f) (t f)) → FormsAgree i s a t
+calls-agree : (i : Input) (s : Form → Buffers) (a : Form → Answer) (t : Form → Buffers) → ((f : Form) → Stated f i (s f)) → ((f : Form) → Solves f i (s f) (a f) (t f)) → FormsAgree i s a t
 calls-agree i s a t h e = subst (λ (o : Form → Outcome Answer). FormsAgree i s (λ f. o f .answer) (λ f. o f .buffers)) (sym (fun-ext e)) (solves-agree i s h)
+
+-- ---- the three calls
+
+pub by-form : (P : Form → Type 0) → P Plain → P Shared → P ByRow → (f : Form) → P f
+by-form P p s r Plain = p
+by-form P p s r Shared = s
+by-form P p s r ByRow = r
+
+-- of what `solve_plain`, `solve_shared` and `solve_row` ensure, for one input and any lists of the stated lengths
+pub forms-agree : {i : Input} {a₁ a₂ a₃ : Answer}
+    {ls₁ li₁ us₁ ui₁ m₁ ls₁' li₁' us₁' ui₁' m₁' : List ℕ} {lv₁ uv₁ d₁ x₁ w₁ lv₁' uv₁' d₁' x₁' w₁' : List Float}
+    {ls₂ lr₂ li₂ us₂ ur₂ ui₂ m₂ ls₂' lr₂' li₂' us₂' ur₂' ui₂' m₂' : List ℕ} {lv₂ uv₂ d₂ x₂ w₂ lv₂' uv₂' d₂' x₂' w₂' : List Float}
+    {us₃ ur₃ ui₃ m₃ us₃' ur₃' ui₃' m₃' : List ℕ} {uv₃ d₃ x₃ w₃ uv₃' d₃' x₃' w₃' : List Float}
+    → SolvesPlain i ls₁ li₁ lv₁ us₁ ui₁ uv₁ d₁ x₁ w₁ m₁ a₁ ls₁' li₁' lv₁' us₁' ui₁' uv₁' d₁' x₁' w₁' m₁'
+    → SolvesShared i ls₂ lr₂ li₂ lv₂ us₂ ur₂ ui₂ uv₂ d₂ x₂ w₂ m₂ a₂ ls₂' lr₂' li₂' lv₂' us₂' ur₂' ui₂' uv₂' d₂' x₂' w₂' m₂'
+    → SolvesByRow i us₃ ur₃ ui₃ uv₃ d₃ x₃ w₃ m₃ a₃ us₃' ur₃' ui₃' uv₃' d₃' x₃' w₃' m₃'
+    → Stated Plain i (plainBuffers ls₁ li₁ lv₁ us₁ ui₁ uv₁ d₁ x₁ w₁ m₁)
+    → Stated Shared i (sharedBuffers ls₂ lr₂ li₂ lv₂ us₂ ur₂ ui₂ uv₂ d₂ x₂ w₂ m₂)
+    → Stated ByRow i (rowBuffers us₃ ur₃ ui₃ uv₃ d₃ x₃ w₃ m₃)
+    → FormsAgree i
+    (byForm (plainBuffers ls₁ li₁ lv₁ us₁ ui₁ uv₁ d₁ x₁ w₁ m₁) (sharedBuffers ls₂ lr₂ li₂ lv₂ us₂ ur₂ ui₂ uv₂ d₂ x₂ w₂ m₂) (rowBuffers us₃ ur₃ ui₃ uv₃ d₃ x₃ w₃ m₃))
+    (byForm a₁ a₂ a₃)
+    (byForm (plainBuffers ls₁' li₁' lv₁' us₁' ui₁' uv₁' d₁' x₁' w₁' m₁') (sharedBuffers ls₂' lr₂' li₂' lv₂' us₂' ur₂' ui₂' uv₂' d₂' x₂' w₂' m₂') (rowBuffers us₃' ur₃' ui₃' uv₃' d₃' x₃' w₃' m₃'))
+forms-agree p s r lp ls lr = calls-agree _ _ _ _ (by-form _ lp ls lr) (by-form _ p s r)

@@ -15,6 +15,7 @@ use Rattle.outcome.specs.Buffers.{Buffers, sizes, sideOf, bufferTests}
 use Rattle.outcome.specs.Structure.{counts}
 use Rattle.outcome.specs.Solve.{system, earlier}
 use Rattle.base.specs.declared.Form.{Form}
+use Rattle.base.specs.declared.Form.the-variants.{Plain, Shared, ByRow}
 use Rattle.base.specs.declared.Side.{Side}
 use Rattle.base.specs.declared.Asked.the-variants.{Pass, Stop}
 use Rattle.base.specs.declared.Refusal.{Refusal}
@@ -61,6 +62,12 @@ pub record Short (f : Form) (i : Input) (s : Buffers) : Type 0 where
   pub filled : (j : ℕ) → j ≤ k → WalkBack i j
   pub side : Side
   pub lacks : Lacks f i s side k
+
+-- one thing for each form
+abbrev pub byForm : {A : Type 0} → A → A → A → Form → A
+byForm p s r Plain = p
+byForm p s r Shared = s
+byForm p s r ByRow = r
 
 -- "none of the three short of slots": asked below of the forms at hand only
 abbrev pub Roomy : Form → Input → Buffers → Type 0

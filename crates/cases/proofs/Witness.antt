@@ -14,14 +14,14 @@ use Rattle.outcome.specs.Solve.{earlier, listed, solve}
 use Rattle.outcome.proofs.Asking.{Within}
 use Rattle.outcome.proofs.Answers.{verdict, solve-answer, Early, earlier-early}
 use Rattle.agreement.specs.Demand.{Stated, Short, Roomy, Passed}
-use Rattle.agreement.proofs.Agree.{short-told}
+use Rattle.agreement.proofs.Agree.{short-told, by-form}
 use Rattle.cases.specs.Table.{slots, dirty, Seen, seen, outcomeOf, graph, two, single, swapped, arrow, boundary}
 use Rattle.cases.proofs.Boundary.{holds}
 use Rattle.base.specs.declared.Counts.{Counts}
 use Rattle.base.specs.declared.Asked.{Asked}
 use Rattle.base.specs.declared.Asked.the-variants.{Pass, Stop}
 use Rattle.base.specs.declared.Form.{Form}
-use Rattle.base.specs.declared.Form.the-variants.{Plain, Shared, ByRow}
+use Rattle.base.specs.declared.Form.the-variants.{Plain, Shared}
 
 -- all premises, and what the three answer: m
 pub record Met (i : Input) (s : Form → Buffers) (m : ℕ) : Type 0 where
@@ -48,11 +48,6 @@ met-by i s m h e l a b =
       passed = λ f. passed-of (earlier f i (sizes (s f))) (askPlaces f (stored i) (i .n) (sizes (s f)) (i .n)) (listed i) (counts i) m (earlier-early f i (sizes (s f))) (ap numberOfAnswer (sym (solve-answer f i (s f))) ∙ e f) l;
       number = e;
     }
-
-by-form : (P : Form → Type 0) → P Plain → P Shared → P ByRow → (f : Form) → P f
-by-form P a b c Plain = a
-by-form P a b c Shared = b
-by-form P a b c ByRow = c
 
 -- the number that the table gives at an entry
 abbrev numberAt : ℕ → List Seen → ℕ
