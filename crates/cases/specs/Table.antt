@@ -155,6 +155,7 @@ boundary =
     ∷ arrowSolved Shared (slots 2 3 2 3) (1 ∷ 2 ∷ []) (1 ∷ 2 ∷ [])
     ∷ arrowSolved ByRow (slots 0 0 2 3) [] []
     ∷ arrowRefused Plain (slots 3 3 2 3) 11 1
+    ∷ arrowRefused Plain (slots 3 3 3 2) 11 1
     ∷ arrowRefused Plain (slots 2 3 3 3) 10 2
     ∷ arrowRefused Shared (slots 2 3 1 3) 11 0
     ∷ arrowRefused Shared (slots 3 2 3 3) 10 1
