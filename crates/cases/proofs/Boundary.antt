@@ -1,11 +1,8 @@
 -- The graphs marked P: the table computed, the paper's file, and n = 0, 4,097 and 4,096 in every call.
-use mathlib.Core.Path.{_≡_, refl, sym, ap, _∙_}
-use mathlib.Core.Bool.{Bool, true, false}
-use mathlib.Core.List.{List, [], _∷_, _++_, map}
-use Prim.Native.Nat.{ℕ, zero, suc, _≤_, _<_}
-use native.Mathlib.Omega.{arith}
-use lib.ListN.{length, getD}
-use lib.Ieee.{binary64, ofBits, toBits, sub, mul, div, eq}
+use mathlib.Core.Path.{_≡_, refl}
+use mathlib.Core.List.{[], map}
+use Prim.Native.Nat.{suc}
+use lib.Ieee.{ofBits, toBits, sub, mul, div, eq}
 use Rattle.base.specs.Lists.{sum, count, asc, has, table, joined, listAt, pairs, padded}
 use Rattle.base.specs.Limits.{maxRows}
 use Rattle.base.specs.First.{first}
@@ -14,7 +11,6 @@ use Rattle.matrix_file.specs.Example.{exampleFile}
 use Rattle.matrix_file.proofs.ExampleFile.{example-opens, example-held, example-written}
 use Rattle.cases.specs.Boundary.{Boundary}
 use Rattle.cases.proofs.Limits.{refuses, passes}
-use Rattle.base.specs.TableLaws.{getD-map-lt}
 use Rattle.fill.specs.Fill.{reach, filled, upper, upperRow, lowerRow, lowerColumn, products}
 use Rattle.matrix.specs.Input.{isOf, ic, stored, entries, rightAt, ownOrder}
 use Rattle.matrix.specs.Questions.{badStart, badColumn, badIndex, notFinite, noEntry, emptyRow, seenAt, repeats, repeatRow, ask3, ask4, ask5, askFinite, ask6, ask7, ask8, askPattern, askRows, askSolve}
@@ -24,8 +20,7 @@ use Rattle.outcome.specs.Forms.{placedTo, indexNeed, valueNeed}
 use Rattle.outcome.specs.Buffers.{askShape, scratchCleared, sideCleared, cleared}
 use Rattle.outcome.specs.Structure.{fits, askPlace, askPlaces, counts, sidePlaced}
 use Rattle.outcome.specs.Solve.{system, listed, valuesKept, pivotsKept, kept, shape, solve}
-use Rattle.cases.specs.Table.{Slots, Seen, seen, Case, outcomeOf, floats, graph, two, single, swapped, cornerless, ones, arrow, boundary, refusedAt, slots}
-use Rattle.base.specs.declared.Form.the-variants.{Plain}
+use Rattle.cases.specs.Table.{seen, Case, outcomeOf, floats, graph, two, single, swapped, cornerless, ones, arrow, boundary}
 
 -- one computed test of the whole table
 pub holds : map outcomeOf boundary ≡ map (λ (c : Case). c .expected) boundary

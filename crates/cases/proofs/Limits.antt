@@ -11,7 +11,7 @@ use lib.Ieee.{Float}
 use Rattle.base.specs.All.{all}
 use Rattle.base.specs.First.{first}
 use Rattle.base.specs.Lists.{listAt}
-use Rattle.base.specs.Answers.{numberOf, numberOfAnswer, numberOfEnd, spot, holds, absent, andThen}
+use Rattle.base.specs.Answers.{numberOf, numberOfAnswer, numberOfEnd, spot, holds}
 use Rattle.base.specs.Limits.{maxEntries, rowsWithin}
 use Rattle.matrix.specs.Input.{Input, stored}
 use Rattle.matrix.specs.Shape.{shapeOf}
@@ -27,24 +27,20 @@ use Rattle.outcome.specs.Structure.{askPlaces, structure}
 use Rattle.outcome.specs.Solve.{faultOf, listed, concluded, shape, solve}
 use Rattle.outcome.specs.Refactor.{differs, askPresented, refactored, refactor}
 use Rattle.outcome.specs.Resolve.{badAt, askFactors, factorsOf, resolved, resolve}
-use Rattle.outcome.proofs.Asking.{Within, within-wide, within-pass, within-holds, within-absent, within-then, stop-inj}
+use Rattle.outcome.proofs.Asking.{Within, within-wide, within-holds, within-absent, within-then}
 use Rattle.outcome.proofs.Answers.{structure-within, solve-within, right-within, places-within}
 use Rattle.cases.specs.Boundary.{Refuses, Passes}
 use Rattle.matrix.specs.declared.Matrix.{Matrix}
-use Rattle.matrix.specs.declared.Shaped.{Shaped}
 use Rattle.matrix.specs.declared.Shaped.the-variants.{Shape, Unshaped}
 use Rattle.base.specs.declared.Form.{Form}
 use Rattle.base.specs.declared.Side.{Side}
-use Rattle.base.specs.declared.Side.the-variants.{Lower, Upper}
 use Rattle.base.specs.declared.Place.{Place}
 use Rattle.base.specs.declared.Refusal.{Refusal}
 use Rattle.base.specs.declared.Refusal.the-variants.{Rows, Lengths, FileShape, FileLength, Block, OtherStructure, BadFactors}
 use Rattle.base.specs.declared.Asked.{Asked}
 use Rattle.base.specs.declared.Asked.the-variants.{Pass, Stop}
-use Rattle.base.specs.declared.Answer.{Answer}
-use Rattle.base.specs.declared.Answer.the-variants.{Done, Refused}
-use Rattle.base.specs.declared.Ended.{Ended}
-use Rattle.base.specs.declared.Ended.the-variants.{Complete, Declined}
+use Rattle.base.specs.declared.Answer.the-variants.{Refused}
+use Rattle.base.specs.declared.Ended.the-variants.{Declined}
 
 -- ---- an n that is refused
 

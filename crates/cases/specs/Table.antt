@@ -1,5 +1,4 @@
 -- The boundary graphs of the paper as one table: an input, a form, the slots of its stores, and what must come out. Definitions only.
-use mathlib.Core.Bool.{Bool}
 use mathlib.Core.List.{List, [], _∷_, _++_, map}
 use Prim.Native.Nat.{ℕ, _+_, _*_}
 use lib.ListN.{replicate}
