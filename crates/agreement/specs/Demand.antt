@@ -98,7 +98,7 @@ pub record FormsAgree (i : Input) (s : Form → Buffers) (a : Form → Answer) (
   -- "and failing that, a solution."
   pub solution : (f : Form) → Roomy f i (s f) → Passed f i (s f) → (numberOfAnswer (a f) ≡ 0) ↔ (AllBack i × ((q : Fault) → Meets (operations i) q → ⊥))
   -- "those of demand 2, with the same three counts, .. those the paper defines"
-  pub bits : (f : Form) → Roomy f i (s f) → Passed f i (s f) → numberOfAnswer (a f) ≡ 0 → t f .x ≡ ownOrder (i .c) (i .n) (result i .z)
-  pub counted : (f : Form) → Roomy f i (s f) → Passed f i (s f) → numberOfAnswer (a f) ≡ 0 → countsOf (a f) ≡ counts i
+  pub bits : (f : Form) → numberOfAnswer (a f) ≡ 0 → t f .x ≡ ownOrder (i .c) (i .n) (result i .z)
+  pub counted : (f : Form) → numberOfAnswer (a f) ≡ 0 → countsOf (a f) ≡ counts i
   -- "A form is short of slots exactly when ..": 10 or 11, of each form by itself
   pub short : (f : Form) → ((numberOfAnswer (a f) ≡ 10) ⊎ (numberOfAnswer (a f) ≡ 11)) ↔ Short f i (s f)
