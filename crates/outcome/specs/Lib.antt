@@ -5,3 +5,4 @@ pub mod Solve
 pub mod Refactor
 pub mod Resolve
 pub mod Placed
+pub mod Calls
