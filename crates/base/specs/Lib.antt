@@ -3,6 +3,7 @@ pub mod First
 pub mod Index
 pub mod Limits
 pub mod Scratch
+pub mod ScratchLaws
 pub mod All
 pub mod AllLaws
 pub mod Answers

@@ -54,12 +54,12 @@ joined f zero = []
 joined f (suc k) = joined f k ++ f k
 
 -- list i of a store: as long as the list starts say, from its run start on
-unfoldable pub listAt : {A : Type 0} → List A → List ℕ → List ℕ → ℕ → List A
-listAt store runs starts i = take (getD starts (i + 1) 0 - getD starts i 0) (drop (getD runs i 0) store)
+unfoldable pub listAt : {A : Type 0} → List ℕ → List ℕ → List A → ℕ → List A
+listAt starts runs store i = take (getD starts (i + 1) 0 - getD starts i 0) (drop (getD runs i 0) store)
 
 -- list i of a store whose lists stand one after another
 abbrev pub rowOf : {A : Type 0} → List ℕ → List A → ℕ → List A
-rowOf starts store i = listAt store starts starts i
+rowOf starts store i = listAt starts starts store i
 
 -- the pairs of two lists, as far as both go
 unfoldable pub pairs : {A B : Type 0} → List A → List B → List (A × B)

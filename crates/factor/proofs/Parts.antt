@@ -43,6 +43,9 @@ module _ (starts r : List ℕ) (k i : ℕ) (e : i ≡ getD r k 0) where
 pub part-from : {A : Type 0} (s : List A) (from m : ℕ) → take (from + m - from) (drop from s) ≡ take m (drop from s)
 part-from s from m = let e : from + m - from ≡ m = omega arith in rw e
 
+pub region-part : {A : Type 0} (s : List A) (n : ℕ) → take (2 * n - n) (drop n s) ≡ take n (drop n s)
+region-part s n = let e : 2 * n - n ≡ n = omega arith in rw e
+
 -- what keeping L by rows asks
 pub keep-ready : (n k below : ℕ) (starts : List ℕ) (slots : ℕ) (work : List Float) (marks : List ℕ) (from : ℕ) (lower : List ℕ) → from ≡ getD starts k 0 → lower ≡ lowerIn n below marks
     → LowerAt n below (length marks) → Keepable n k below starts slots (length work) (lowerIn n below marks) → (from + length lower ≤ slots) × Below (length (take n work)) lower

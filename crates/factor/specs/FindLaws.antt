@@ -50,7 +50,7 @@ module _ {P : Pattern} {n k : ℕ} {starts columns r index runs ustarts s₀ : L
       listed : LowerListed P n k s₂ s₃ below
       listed = closing .lower P filled-row
 
-      fits : 5 * zFrom n ≤ length s₂
+      fits : listFrom n + n ≤ length s₂
       fits = omega (arith, F .room .long, closing .size)
 
       written : But (listFrom n) (listFrom n + below) s₂ s₃

@@ -255,7 +255,7 @@ module _ {i : Input} {L : Lists} {k : ℕ} {w : Written} (f : Form) (G : Going f
 
     pub row-more : (u d v : List Float) → Sizes w (written l u d v x) → (t : RowSums) (p : Pivot) → p ≡ pivot.Kept t
         → Reduced (system i) (G .rows) (i .n) k (L .upper-starts) (w .work) g (w .upper) u p
-        → Shut (i .n) k (lowerIn (i .n) below x) (listAt (L .upper-index) (L .upper-runs) (L .upper-starts) k) g v (w .d) d t
+        → Shut (i .n) k (lowerIn (i .n) below x) (listAt (L .upper-starts) (L .upper-runs) (L .upper-index) k) g v (w .d) d t
         → Going f i L (k + 1) (written l u d v x)
     unfolding system
     row-more u d v s t p ep R Q =

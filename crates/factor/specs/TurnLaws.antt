@@ -148,7 +148,7 @@ module _ {f : Form} {i : Input} {L : Lists} {k : ℕ} {w : Written} (G : Going f
   -- a row that is kept: its steps left g and x .upper, its closing x .work and x .d
   module _ (x : Written) (s : Sizes w x) (lower : List ℕ) (el : lower ≡ lowerRow (stored i) k) (g : List Float) (lg : length g ≡ length (w .work)) (t : RowSums) (p : Pivot) (ep : p ≡ Kept t)
       (R : Reduced (system i) (G .rows) (i .n) k (L .upper-starts) (w .work) g (w .upper) (x .upper) p)
-      (Q : Shut (i .n) k lower (listAt (L .upper-index) (L .upper-runs) (L .upper-starts) k) g (x .work) (w .d) (x .d) t) where
+      (Q : Shut (i .n) k lower (listAt (L .upper-starts) (L .upper-runs) (L .upper-index) k) g (x .work) (w .d) (x .d) t) where
     abbrev pub next : Row
     next = keptRow (gathered (system i .lower k) (take (i .n) g)) (rowOf (L .upper-starts) (x .upper) k) t
 

@@ -172,7 +172,7 @@ fn close_at(
     t: RowSums,
 )
     requires { ⌜ LowerAt n below (length (now marks)) × Closable n (k .0) (length (now work)) (lowerIn n below (now marks)) (now uindex) (now uruns) (now ustarts) (length (now d)) ⌝ }
-    ensures { λ _. ⌜ Shut n (k .0) (lowerIn n below (now (marks .entry))) (listAt (now (uindex .entry)) (now (uruns .entry)) (now (ustarts .entry)) (k .0))
+    ensures { λ _. ⌜ Shut n (k .0) (lowerIn n below (now (marks .entry))) (listAt (now (ustarts .entry)) (now (uruns .entry)) (now (uindex .entry)) (k .0))
         (now (work .entry)) (now (work .exit)) (now (d .entry)) (now (d .exit)) t ⌝ }
 {
     let place = k.0 as usize;

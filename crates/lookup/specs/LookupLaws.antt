@@ -138,7 +138,7 @@ module _ (f : Form) (n : ℕ) (l u : SideLists) (a b : Bool) (ea : a ≡ sized f
 -- ---- a list that stands within its store is found as it is stored
 
 pub part-is : (k : Place) (n : ℕ) (s runs index : List ℕ) → k .0 < n → getD s (k .0) 0 ≤ getD s (k .0 + 1) 0
-    → getD runs (k .0) 0 + (getD s (k .0 + 1) 0 - getD s (k .0) 0) ≤ length index → within index (spanOf true k n (sideLists s runs index)) ≡ listAt index runs s (k .0)
+    → getD runs (k .0) 0 + (getD s (k .0 + 1) 0 - getD s (k .0) 0) ≤ length index → within index (spanOf true k n (sideLists s runs index)) ≡ listAt s runs index (k .0)
 unfolding spanOf within listAt
 part-is k n s runs index l h b =
     let e = run-taken (getD s (k .0) 0) (getD s (k .0 + 1) 0) (getD runs (k .0) 0) (length index) h b in

@@ -17,7 +17,7 @@ use Rattle.marks.specs.Marks.{pick, Free, Same, Base, partAt, upto, unle
 
 -- a part from a to a + (hi - lo) is the list
 pub part-is : (index runs starts : List ℕ) (i a lo hi : ℕ) → a ≡ getD runs i 0 → lo ≡ getD starts i 0 → hi ≡ getD starts (i + 1) 0
-    → take (a + (hi - lo) - a) (drop a index) ≡ listAt index runs starts i
+    → take (a + (hi - lo) - a) (drop a index) ≡ listAt starts runs index i
 unfolding listAt
 part-is index runs starts i a lo hi ea el eh = let e : a + (hi - lo) - a ≡ hi - lo = omega arith in rw (e, ea, el, eh)
 

@@ -148,7 +148,7 @@ pub fn load_row(s: &mut [u32], n: usize, stamp: u32, columns: &[Index])
 // List i of a store, as a part of it.
 pub fn list_part<'a>(index: &'a [Index], runs: &[u32], starts: &[u32], i: usize) -> &'a [Index]
     requires { ⌜ ListIn (now index) (now runs) (now starts) i ⌝ }
-    ensures { λ r. ⌜ now r ≡ listAt (now (index .entry)) (now (runs .entry)) (now (starts .entry)) i ⌝ }
+    ensures { λ r. ⌜ now r ≡ listAt (now (starts .entry)) (now (runs .entry)) (now (index .entry)) i ⌝ }
 {
     let a = wide32(runs[i]);
     let lo = wide32(starts[i]);
@@ -277,7 +277,7 @@ fn cut_list(
     starts: &[u32],
 )
     requires { ⌜ (i < n) × Base n cuts × Room n (now s) × ListIn (now index) (now runs) (now starts) i ⌝ }
-    ensures { λ r. ⌜ now (s .exit) ≡ cutOne cuts k (listAt (now (index .entry)) (now (runs .entry)) (now (starts .entry))) i (now (s .entry)) ⌝ }
+    ensures { λ r. ⌜ now (s .exit) ≡ cutOne cuts k (listAt (now (starts .entry)) (now (runs .entry)) (now (index .entry))) i (now (s .entry)) ⌝ }
 {
     let list = list_part(index, runs, starts, i);
     let at = cuts + i;
@@ -302,7 +302,7 @@ fn close_cuts(
     requires { ⌜ ((i : ℕ) → i < k → ListIn (now index) (now runs) (now starts) i) ⌝ }
     requires { ⌜ (k < n) × Base n cuts × Room n (now s) ⌝ }
     requires { ⌜ take below (drop (listFrom n) (now s)) ≡ members stamp (now s) 0 k ⌝ }
-    ensures { λ r. ⌜ now (s .exit) ≡ visited stamp (cutOne cuts k (listAt (now (index .entry)) (now (runs .entry)) (now (starts .entry)))) 0 k (now (s .entry)) ⌝ }
+    ensures { λ r. ⌜ now (s .exit) ≡ visited stamp (cutOne cuts k (listAt (now (starts .entry)) (now (runs .entry)) (now (index .entry)))) 0 k (now (s .entry)) ⌝ }
 {
     let mut p = 0;
     while p < below {
@@ -335,7 +335,7 @@ pub fn next_cuts(
     requires { ⌜ ((i : ℕ) → i < k + 1 → ListIn (now index) (now runs) (now starts) i) ⌝ }
     requires { ⌜ (k < n) × Base n cuts × Room n (now s) ⌝ }
     requires { ⌜ take below (drop (listFrom n) (now s)) ≡ members stamp (now s) 0 k ⌝ }
-    ensures { λ r. ⌜ now (s .exit) ≡ newCuts stamp cuts k (listAt (now (index .entry)) (now (runs .entry)) (now (starts .entry))) (getD (now (starts .entry)) (k + 1) 0 - getD (now (starts .entry)) k 0) (now (s .entry)) ⌝ }
+    ensures { λ r. ⌜ now (s .exit) ≡ newCuts stamp cuts k (listAt (now (starts .entry)) (now (runs .entry)) (now (index .entry))) (getD (now (starts .entry)) (k + 1) 0 - getD (now (starts .entry)) k 0) (now (s .entry)) ⌝ }
 {
     close_cuts(s, n, stamp, k, below, cuts, index, runs, starts);
     open_cut(s, n, k, cuts, starts);

@@ -47,7 +47,7 @@ module _ (m : Float) (js : List ℕ) (us : List Float) where
 
 -- one i, from what its calls return
 pub stepped : (n i : ℕ) (f : List Float) (upper runs starts : List ℕ) (u : List Float) (row : RowSums) (js : List ℕ) (us last : List Float)
-    → js ≡ listAt upper runs starts i → us ≡ rowOf starts u i
+    → js ≡ listAt starts runs upper i → us ≡ rowOf starts u i
     → subtract any (getD f i nan) js us (take n f) ≡ ok last → length last ≡ length (take n f) → zFrom n ≤ length f
     → Stepped n i (storeGiven n f upper runs starts u) f (last ++ drop n f) row
     (record { sum = sub binary64 (row .sum) (mul binary64 (getD f i nan) (getD f (n + i) nan)); reciprocal = row .reciprocal; y = row .y })
@@ -214,8 +214,8 @@ same-y n i f g h e =
 -- the same on the scratch, where y stands from n on and z from 2n on
 module _ (n k i : ℕ) (upper runs starts : List ℕ) (u f₀ f : List Float) (t : Float) (e : k ≡ suc i) (h : i < n)
     (kept : take (zFrom n) f ≡ take (zFrom n) f₀) (fy : finite (getD f₀ (n + i) nan) ≡ true)
-    (r : rest any (getD f (n + i) nan) (listAt upper runs starts i) (rowOf starts u i) (drop (zFrom n) f) ≡ ok t) where
-  r₀ : rest any (getD f₀ (n + i) nan) (listAt upper runs starts i) (rowOf starts u i) (drop (zFrom n) f) ≡ ok t
+    (r : rest any (getD f (n + i) nan) (listAt starts runs upper i) (rowOf starts u i) (drop (zFrom n) f) ≡ ok t) where
+  r₀ : rest any (getD f₀ (n + i) nan) (listAt starts runs upper i) (rowOf starts u i) (drop (zFrom n) f) ≡ ok t
   r₀ = rw (← same-y n i f₀ f h kept) r
 
   pub scratch-turn : finite t ≡ true

@@ -37,7 +37,7 @@ abbrev both : List ℕ
 both = 0 ∷ 1 ∷ []
 
 abbrev pub S : System
-S = record { n = 2; lower = lower; upper = listAt (1 ∷ []) both starts; entries = λ k. pairs both (values k); rhs = right }
+S = record { n = 2; lower = lower; upper = listAt starts both (1 ∷ []); entries = λ k. pairs both (values k); rhs = right }
 
 nothing : (P : ℕ → Type 0) (i : ℕ) → i < 0 → P i
 nothing P i h = absurd (not-suc-le-zero h)

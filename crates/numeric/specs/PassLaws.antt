@@ -32,6 +32,7 @@ use Rattle.numeric.specs.StoreLaws.{list-length, sets-part, products-len
 use Rattle.numeric.specs.KeepLaws.{stacked-row}
 use Rattle.numeric.specs.RowLaws.{Same, bind-same, has-at, filled-cases, row-is, row-outside}
 use Rattle.base.specs.Scratch.{zFrom}
+use Rattle.base.specs.ScratchLaws.{drop-twice}
 
 -- ---- the rows of places 0 to k - 1
 
@@ -99,7 +100,7 @@ module _ (S : System) (rows : List Row) (n k : ℕ) (f : List Float) (upper runs
     pub reduced : (W g v : List Float) (s r : RowSums) (above : List ℕ) (from : ℕ) (answer : Pivot) → s .sum ≡ b
         → load any (pairs places vs) (take n f) ≡ ok W → length W ≡ length (take n f)
         → Eliminated n lower (storeGiven n (W ++ drop n f) upper runs starts u) (W ++ drop n f) g s r
-        → above ≡ listAt upper runs starts k → from ≡ getD starts k 0
+        → above ≡ listAt starts runs upper k → from ≡ getD starts k 0
         → Finished k above from (take n g) u v (r .sum) answer
         → Reduced S rows n k starts f g u v answer
     unfolding listAt
@@ -128,16 +129,16 @@ module _ (S : System) (rows : List Row) (n k : ℕ) (f : List Float) (upper runs
   -- ---- the stores before row k + 1
 
   module _ (C : Closed S k) (T : Shape n upper runs starts (length u)) (lower : List ℕ) (el : S .lower k ≡ lower) (g h′ v d e : List Float) (lg : length g ≡ length f) (t : RowSums)
-      (R : Reduced S rows n k starts f g u v (Kept t)) (Q : Shut n k lower (listAt upper runs starts k) g h′ d e t) where
+      (R : Reduced S rows n k starts f g u v (Kept t)) (Q : Shut n k lower (listAt starts runs upper k) g h′ d e t) where
     abbrev next : Row
     next = keptRow (gathered (S .lower k) (take n g)) (rowOf starts v k) t
 
     abbrev above : List ℕ
-    above = listAt upper runs starts k
+    above = listAt starts runs upper k
 
     -- the scratch but for y(k)
     abbrev core : List Float
-    core = zeroed (listAt upper runs starts k) (zeroed lower (set g k nought))
+    core = zeroed (listAt starts runs upper k) (zeroed lower (set g k nought))
 
     core-length : length core ≡ length g
     core-length = zeroed-length above (zeroed lower (set g k nought)) ∙ zeroed-length lower (set g k nought) ∙ length-set g k nought
@@ -169,7 +170,7 @@ module _ (S : System) (rows : List Row) (n k : ℕ) (f : List Float) (upper runs
       us = us;
       ys = rw (add-one, after, take-suc-set (drop n f) k (t .y) (simp length-drop (omega arith)), H .ys) (sym (map-append (λ (r : Row). r .y) rows (next ∷ [])));
       clear = clear;
-      zs = sym (drop-drop n n h′) ∙ ap (λ (l : List Float). drop n l) after ∙ drop-set-lt n (drop n f) k (t .y) h ∙ drop-drop n n f ∙ H .zs;
+      zs = sym (drop-twice n h′) ∙ ap (λ (l : List Float). drop n l) after ∙ drop-set-lt n (drop n f) k (t .y) h ∙ drop-twice n f ∙ H .zs;
     }
       where
         same-length : length v ≡ length u
@@ -194,11 +195,12 @@ take-replicate m k z = rw (← replicate-append-replicate m k z) (take-at (repli
 tail-replicate : {A : Type 0} (m k : ℕ) (z : A) → drop m (replicate (m + k) z) ≡ replicate k z
 tail-replicate m k z = rw (← replicate-append-replicate m k z) (drop-at (replicate m z) (replicate k z) m (length-replicate m z))
 
-pub held-start : (S : System) (n : ℕ) (f : List Float) (upper runs starts : List ℕ) (u : List Float) → S .n ≡ n → ((i : ℕ) → i < n → S .upper i ≡ listAt upper runs starts i)
+pub held-start : (S : System) (n : ℕ) (f : List Float) (upper runs starts : List ℕ) (u : List Float) → S .n ≡ n → ((i : ℕ) → i < n → S .upper i ≡ listAt starts runs upper i)
     → f ≡ replicate (3 * n) nought → u ≡ replicate (length u) nought → Held S [] n 0 f upper runs starts u
 unfolding forward
 held-start S n f upper runs starts u en el ef eu =
-    let e : 3 * n ≡ n + (zFrom n) = omega arith in
+    let e : 3 * n ≡ n + zFrom n = omega arith in
+    let thrice : 3 * n ≡ zFrom n + n = omega arith in
     record {
       size = en;
       lists = el;
@@ -206,7 +208,7 @@ held-start S n f upper runs starts u en el ef eu =
       us = stacked-none nought (uOf []) starts u eu;
       ys = refl;
       clear = rw (ef, e) (take-replicate n (zFrom n) nought);
-      zs = rw ef (tail-replicate (zFrom n) n nought);
+      zs = rw (ef, thrice) (tail-replicate (zFrom n) n nought);
     }
 
 pub solved-met : (S : System) (q : Fault) → forward S (S .n) 0 [] ≡ met q → solved S ≡ met q

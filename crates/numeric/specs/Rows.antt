@@ -51,7 +51,7 @@ lOf rows i = getD rows i none .l
 -- the stores before row k: the rows above are done, their u and y stand in their slots, the working row and z are +0
 pub record Held (S : System) (rows : List Row) (n k : ℕ) (f : List Float) (upper runs starts : List ℕ) (u : List Float) : Type 0 where
   pub size : S .n ≡ n
-  pub lists : (i : ℕ) → i < n → S .upper i ≡ listAt upper runs starts i
+  pub lists : (i : ℕ) → i < n → S .upper i ≡ listAt starts runs upper i
   pub done : forward S k 0 [] ≡ ok rows
   pub us : Stacked nought (uOf rows) k starts u
   pub ys : take k (drop n f) ≡ map (λ r. r .y) rows

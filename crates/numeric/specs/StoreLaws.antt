@@ -22,19 +22,19 @@ use Rattle.numeric.specs.Rows.{Stacked}
 -- ---- lists in their stores
 
 pub list-length : {A : Type 0} (store : List A) (runs starts : List ℕ) (i : ℕ) → ListIn (length store) runs starts i
-    → length (listAt store runs starts i) ≡ getD starts (i + 1) 0 - getD starts i 0
+    → length (listAt starts runs store i) ≡ getD starts (i + 1) 0 - getD starts i 0
 unfolding listAt
 list-length store runs starts i L = simp (length-take, length-drop) (omega arith)
 
 -- the part from run on, as long as list i
 pub part-is : {A : Type 0} (store : List A) (runs starts : List ℕ) (i run from to : ℕ) → run ≡ getD runs i 0 → from ≡ getD starts i 0 → to ≡ getD starts (i + 1) 0
-    → take (run + (to - from) - run) (drop run store) ≡ listAt store runs starts i
+    → take (run + (to - from) - run) (drop run store) ≡ listAt starts runs store i
 unfolding listAt
 part-is store runs starts i run from to er ef et = let q : run + (to - from) - run ≡ to - from = omega arith in rw (q, er, ef, et)
 
 -- what axpy and the sums of products ask of list i and its values
 pub ready : (n i : ℕ) (upper runs starts : List ℕ) (u : List Float) (js : List ℕ) (us : List Float) → Shape n upper runs starts (length u) → i < n
-    → js ≡ listAt upper runs starts i → us ≡ rowOf starts u i → (length js ≡ length us) × Below n js
+    → js ≡ listAt starts runs upper i → us ≡ rowOf starts u i → (length js ≡ length us) × Below n js
 ready n i upper runs starts u js us S h ej eu = (
   rw (ej, eu) (list-length upper runs starts i (S .list i h) ∙ sym (list-length u starts starts i (S .values i h))),
   rw ej (S .below i h),
@@ -44,7 +44,7 @@ pub below-is : (n : ℕ) (js ks : List ℕ) → js ≡ ks → Below n ks → Bel
 below-is n js ks e b = rw e b
 
 -- row k's values from their start on are inside their store
-pub list-room : (size k from : ℕ) (upper runs starts js : List ℕ) → from ≡ getD starts k 0 → js ≡ listAt upper runs starts k → ListIn (length upper) runs starts k
+pub list-room : (size k from : ℕ) (upper runs starts js : List ℕ) → from ≡ getD starts k 0 → js ≡ listAt starts runs upper k → ListIn (length upper) runs starts k
     → ListIn size starts starts k → from + length js ≤ size
 list-room size k from upper runs starts js ef ej L M = omega (arith, ap length ej, list-length upper runs starts k L, M)
 

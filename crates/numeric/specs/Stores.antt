@@ -31,11 +31,11 @@ pub record ListIn (size : ℕ) (runs starts : List ℕ) (i : ℕ) : Type 0 where
 pub record Shape (n : ℕ) (upper runs starts : List ℕ) (size : ℕ) : Type 0 where
   pub list : (i : ℕ) → i < n → ListIn (length upper) runs starts i
   pub values : (i : ℕ) → i < n → ListIn size starts starts i
-  pub below : (i : ℕ) → i < n → Below n (listAt upper runs starts i)
+  pub below : (i : ℕ) → i < n → Below n (listAt starts runs upper i)
 
 -- T(i), u(i, j) along T(i) and y(i) as the stores and the scratch hold them
 abbrev pub storeGiven : ℕ → List Float → List ℕ → List ℕ → List ℕ → List Float → Given
-storeGiven n f upper runs starts u = record { upper = listAt upper runs starts; u = rowOf starts u; y = λ i. getD f (n + i) nan }
+storeGiven n f upper runs starts u = record { upper = listAt starts runs upper; u = rowOf starts u; y = λ i. getD f (n + i) nan }
 
 -- ---- step 1
 
@@ -107,7 +107,7 @@ pub record Closable (n k size : ℕ) (lower upper runs starts : List ℕ) (slots
   pub reciprocals : slots ≡ n
   pub below : Below n lower
   pub list : ListIn (length upper) runs starts k
-  pub above : Below n (listAt upper runs starts k)
+  pub above : Below n (listAt starts runs upper k)
 
 -- ---- L by columns
 

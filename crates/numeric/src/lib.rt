@@ -35,7 +35,7 @@ fn wide32(x: u32) -> usize
 // List i of an index store, as a part of it.
 fn index_part<'a>(index: &'a [Index], runs: &[u32], starts: &[u32], i: usize) -> &'a [Index]
     requires { ⌜ ListIn (length (now index)) (now runs) (now starts) i ⌝ }
-    ensures { λ r. ⌜ now r ≡ listAt (now (index .entry)) (now (runs .entry)) (now (starts .entry)) i ⌝ }
+    ensures { λ r. ⌜ now r ≡ listAt (now (starts .entry)) (now (runs .entry)) (now (index .entry)) i ⌝ }
 {
     let run = wide32(runs[i]);
     let from = wide32(starts[i]);
@@ -47,7 +47,7 @@ fn index_part<'a>(index: &'a [Index], runs: &[u32], starts: &[u32], i: usize) ->
 // The values of list i, as a part of their store.
 fn values_part<'a>(values: &'a [f64], starts: &[u32], i: usize) -> &'a [f64]
     requires { ⌜ ListIn (length (now values)) (now starts) (now starts) i ⌝ }
-    ensures { λ r. ⌜ now r ≡ listAt (now (values .entry)) (now (starts .entry)) (now (starts .entry)) i ⌝ }
+    ensures { λ r. ⌜ now r ≡ listAt (now (starts .entry)) (now (starts .entry)) (now (values .entry)) i ⌝ }
 {
     let from = wide32(starts[i]);
     let to = wide32(starts[i + 1]);
@@ -296,7 +296,7 @@ pub fn close_row(
     row: RowSums,
 )
     requires { ⌜ Closable n k (length (now f)) (now lower) (now upper) (now runs) (now starts) (length (now d)) ⌝ }
-    ensures { λ _. ⌜ Shut n k (now (lower .entry)) (listAt (now (upper .entry)) (now (runs .entry)) (now (starts .entry)) k)
+    ensures { λ _. ⌜ Shut n k (now (lower .entry)) (listAt (now (starts .entry)) (now (runs .entry)) (now (upper .entry)) k)
         (now (f .entry)) (now (f .exit)) (now (d .entry)) (now (d .exit)) row ⌝ }
 {
     let above = index_part(upper, runs, starts, k);
@@ -345,7 +345,7 @@ fn back_at(
     u: &[f64],
 ) -> f64
     requires { ⌜ (k < n) × (length (now f) ≡ 3 * n) × Shape n (now upper) (now runs) (now starts) (length (now u)) ⌝ }
-    ensures { λ r. ⌜ rest any (getD (now (f .entry)) (n + k) nan) (listAt (now (upper .entry)) (now (runs .entry)) (now (starts .entry)) k)
+    ensures { λ r. ⌜ rest any (getD (now (f .entry)) (n + k) nan) (listAt (now (starts .entry)) (now (runs .entry)) (now (upper .entry)) k)
         (rowOf (now (starts .entry)) (now (u .entry)) k) (drop (zFrom n) (now (f .entry))) ≡ ok r ⌝ }
 {
     let t = f[n + k];

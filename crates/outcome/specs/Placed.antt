@@ -96,7 +96,7 @@ module _ (f : Form) (side : Side) (P : Pattern) (n : ℕ) (starts runs index : L
       let k = lists-kept f side P n n (omega arith) .all i l .inside in
       omega (arith, k, run-at f side P n starts runs index values h i l .1, size-at f side P n starts runs index values h i l, h .index-in)
 
-  pub list-at : (i : ℕ) → i < n → listAt index runs starts i ≡ listsOf f side P n i
+  pub list-at : (i : ℕ) → i < n → listAt starts runs index i ≡ listsOf f side P n i
   unfolding listAt padded
   list-at i l =
       let k = lists-kept f side P n n (omega arith) .all i l in

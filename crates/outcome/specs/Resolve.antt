@@ -35,7 +35,7 @@ runsOf ByRow b = b .runs
 
 -- the presented list of place k, and its values
 unfoldable pub givenList : Form → SideBuffers → ℕ → List ℕ
-givenList f b k = listAt (b .index) (runsOf f b) (b .starts) k
+givenList f b k = listAt (b .starts) (runsOf f b) (b .index) k
 
 unfoldable pub givenValues : SideBuffers → ℕ → List Float
 givenValues b k = rowOf (b .starts) (b .values) k

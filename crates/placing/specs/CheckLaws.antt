@@ -112,13 +112,13 @@ module _ {way : Way} {T R : ℕ → List ℕ} {n values k : ℕ} {index runs sta
     start : getD starts k 0 ≡ startOf T k
     next : getD starts (k + 1) 0 ≡ startOf T (suc k)
     run : getD runs k 0 ≡ runOf (placed (wayOf way) T R (suc k)) k
-    whole : listAt index runs starts k ≡ T k
+    whole : listAt starts runs index k ≡ T k
 
   presents-of : presented way T R values k index runs starts ≡ true → Presents
   unfolding presented
   presents-of e =
       let f = and-cases (room (wayOf way) T R (length index) values k) _ e in
-      let r = four (eqb (getD starts k 0) (startOf T k)) (eqb (getD starts (k + 1) 0) (startOf T (suc k))) (eqb (getD runs k 0) (runOf (placed (wayOf way) T R (suc k)) k)) (same (listAt index runs starts k) (T k)) (f .1) in
+      let r = four (eqb (getD starts k 0) (startOf T k)) (eqb (getD starts (k + 1) 0) (startOf T (suc k))) (eqb (getD runs k 0) (runOf (placed (wayOf way) T R (suc k)) k)) (same (listAt starts runs index k) (T k)) (f .1) in
       record { start = eqb-true _ _ (r .0); next = eqb-true _ _ (r .1); run = eqb-true _ _ (r .2); whole = same-is _ _ (r .3) }
 
   held-presents : fitsOf way index runs starts values row list k s ≡ true → Holding way T R values (suc k) index index runs starts (extentOf way index runs starts values row list k s)

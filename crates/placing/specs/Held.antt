@@ -72,7 +72,7 @@ unfoldable pub presented : Way → (T R : ℕ → List ℕ) → ℕ → ℕ → 
 presented way T R values k index runs starts =
     room (wayOf way) T R (length index) values k
     && (eqb (getD starts k 0) (startOf T k) && eqb (getD starts (k + 1) 0) (startOf T (suc k))
-    && eqb (getD runs k 0) (runOf (placed (wayOf way) T R (suc k)) k) && same (listAt index runs starts k) (T k))
+    && eqb (getD runs k 0) (runOf (placed (wayOf way) T R (suc k)) k) && same (listAt starts runs index k) (T k))
 
 -- the stores present k's list as it is placed, or they do not
 abbrev pub Checked : Way → (T R : ℕ → List ℕ) → ℕ → ℕ → List ℕ → List ℕ → List ℕ → Match → Type 0

@@ -53,11 +53,11 @@ module _ {way : Way} {T R : ℕ → List ℕ} {values k : ℕ} {index₀ index r
     here = kept way T R n suited k k≤n
 
     -- list i, read from the used part and from the whole store
-    pub list-used : (i : ℕ) → i < k → listAt (take (s .used) index) runs starts i ≡ T i
+    pub list-used : (i : ℕ) → i < k → listAt starts runs (take (s .used) index) i ≡ T i
     unfolding listAt
     list-used i h = rw (size-same i h, run-same i h, slots-same) (here .all i h .reads)
 
-    pub list-held : (i : ℕ) → i < k → listAt index runs starts i ≡ T i
+    pub list-held : (i : ℕ) → i < k → listAt starts runs index i ≡ T i
     unfolding listAt
     list-held i h =
         rw (size-same i h, run-same i h, held .slots-are)

@@ -32,7 +32,7 @@ module _ (slots runs starts : List ℕ) (last k : ℕ) (row list : List ℕ) whe
   unfolding planOver shared
   plan-empty h = rw (eq-eqb (length list) 0 h)
 
-  module _ (ne : length list ≡ 0 → ⊥) (at most : ℕ) (is : IsTail (best (tails (listAt slots runs starts) k) row) at most) where
+  module _ (ne : length list ≡ 0 → ⊥) (at most : ℕ) (is : IsTail (best (tails (listAt starts runs slots) k) row) at most) where
     plan-over : (most ≡ length list → ⊥) → planOver Sharing slots runs starts last k row list ≡ overlap slots last list
     unfolding planOver shared tailOr
     plan-over h = rw (ne-eqb (length list) 0 ne, ← is .most-is, ne-eqb most (length list) h)
@@ -41,12 +41,12 @@ module _ (slots runs starts : List ℕ) (last k : ℕ) (row list : List ℕ) whe
     tail-at : most ≡ length list → AllTailed slots runs starts k (length list) row → Readable slots runs starts at × TailIn runs starts at most
     unfolding tails
     tail-at h all =
-        let b = best (tails (listAt slots runs starts) k) row in
+        let b = best (tails (listAt starts runs slots) k) row in
         let pos : 0 < b .most = omega (arith, ne, is .most-is) in
-        let m = best-at (tails (listAt slots runs starts) k) row pos in
+        let m = best-at (tails (listAt starts runs slots) k) row pos in
         let r : Readable slots runs starts at = rw (is .at-is) (all (b .at) (m .0) .readable) in
-        let e : countAbove k (listAt slots runs starts at) ≡ most = rw (is .at-is, is .most-is) (m .1) in
-        (r, record { run-in = r .run-in; start-in = r .start-in; fits = omega (arith, count-le k (listAt slots runs starts at), list-length slots runs starts at r, r .rises) })
+        let e : countAbove k (listAt starts runs slots at) ≡ most = rw (is .at-is, is .most-is) (m .1) in
+        (r, record { run-in = r .run-in; start-in = r .start-in; fits = omega (arith, count-le k (listAt starts runs slots at), list-length slots runs starts at r, r .rises) })
 
     plan-tail : most ≡ length list → Readable slots runs starts at → (start : ℕ) → start ≡ getD runs at 0 + (getD starts (at + 1) 0 - getD starts at 0 - most)
         → record { start = start; have = most } ≡ asPlan (planOver Sharing slots runs starts last k row list)
@@ -70,7 +70,7 @@ module _ (slots runs starts : List ℕ) (last k : ℕ) (row list : List ℕ) whe
 
     pub plan-none : first (fullAt slots runs starts k (length list) row) (length row) ≡ Nothing → planOver Sharing slots runs starts last k row list ≡ overlap slots last list
     plan-none e =
-        let b = best (tails (listAt slots runs starts) k) row in
+        let b = best (tails (listAt starts runs slots) k) row in
         plan-over ne (b .at) (b .most) (record { at-is = refl; most-is = refl }) (λ q. absurd (omega (arith, found-none slots runs starts k (length list) row all (omega (arith, ne)) e)))
 
   shared-within : Planning Sharing slots runs starts last k row list
@@ -79,7 +79,7 @@ module _ (slots runs starts : List ℕ) (last k : ℕ) (row list : List ℕ) whe
       by-test (eqb (length list) 0)
       (λ e. let q = plan-empty (eqb-true (length list) 0 e) in (omega (arith, ap (λ x. x .start) q), omega (arith, ap (λ x. x .have) q)))
       (λ e.
-      let b = best (tails (listAt slots runs starts) k) row in
+      let b = best (tails (listAt starts runs slots) k) row in
       let ne = eqb-false (length list) 0 e in
       let is : IsTail b (b .at) (b .most) = record { at-is = refl; most-is = refl } in
       by-test (eqb (b .most) (length list))

@@ -33,15 +33,15 @@ pub record Readable (slots runs starts : List ℕ) (i : ℕ) : Type 0 where
 -- place i's list ascends, and has at most count entries above k
 pub record Tailed (slots runs starts : List ℕ) (k count i : ℕ) : Type 0 where
   pub readable : Readable slots runs starts i
-  pub ascends : Ascends 0 (listAt slots runs starts i)
-  pub most : tails (listAt slots runs starts) k i ≤ count
+  pub ascends : Ascends 0 (listAt starts runs slots i)
+  pub most : tails (listAt starts runs slots) k i ≤ count
 
 abbrev pub AllTailed : List ℕ → List ℕ → List ℕ → ℕ → ℕ → List ℕ → Type 0
 AllTailed slots runs starts k count row = (i : ℕ) → List·Memᴰ i row → Tailed slots runs starts k count i
 
 -- the list of the row's place j has count entries above k
 unfoldable pub fullAt : List ℕ → List ℕ → List ℕ → ℕ → ℕ → List ℕ → ℕ → Bool
-fullAt slots runs starts k count row j = eqb (tails (listAt slots runs starts) k (getD row j 0)) count
+fullAt slots runs starts k count row j = eqb (tails (listAt starts runs slots) k (getD row j 0)) count
 
 -- a tail by its numbers
 pub record IsTail (t : placement.Tail) (at most : ℕ) : Type 0 where
@@ -70,7 +70,7 @@ pub record Planning (way : Way) (slots runs starts : List ℕ) (last k : ℕ) (r
 
 -- the plan for place k over what the slices hold
 unfoldable pub planOver : Way → List ℕ → List ℕ → List ℕ → ℕ → ℕ → List ℕ → List ℕ → placement.Plan
-planOver way slots runs starts last k row list = wayOf way (listAt slots runs starts) (runAt runs) slots last k row list
+planOver way slots runs starts last k row list = wayOf way (listAt starts runs slots) (runAt runs) slots last k row list
 
 -- a plan, with its start within the used slots and what stands already within the list
 pub record Planned (slots list : List ℕ) (p : placement.Plan) (r : Plan) : Type 0 where

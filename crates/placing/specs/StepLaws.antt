@@ -77,7 +77,7 @@ tail-most T R n k i h l d =
     )
 
 reads-way : (way : Way) (T R : ℕ → List ℕ) (n k : ℕ) → Suited way T R n → k < n → (row list : List ℕ) → RowIs way (R k) row → list ≡ T k
-    → (slots runs starts : List ℕ) → ((i : ℕ) → i < k → Readable slots runs starts i) → ((i : ℕ) → i < k → listAt slots runs starts i ≡ T i)
+    → (slots runs starts : List ℕ) → ((i : ℕ) → i < k → Readable slots runs starts i) → ((i : ℕ) → i < k → listAt starts runs slots i ≡ T i)
     → Reads way slots runs starts k row list
 unfolding tails
 reads-way OneAfterAnother T R n k h l row list e q slots runs starts f g = tt
@@ -127,7 +127,7 @@ module _ {way : Way} {T R : ℕ → List ℕ} {n values k : ℕ} {index₀ index
   pub plan-same : planOf way index runs starts values row list k s ≡ planAt (wayOf way) T R (placed (wayOf way) T R k) k
   unfolding planOf planOver
   plan-same =
-      plan-way way T R n k (turn .suited) (turn .below) row (turn .row-is) (listAt (take (s .used) index) runs starts) (runOf (placed (wayOf way) T R k)) (runAt runs)
+      plan-way way T R n k (turn .suited) (turn .below) row (turn .row-is) (listAt starts runs (take (s .used) index)) (runOf (placed (wayOf way) T R k)) (runAt runs)
       (take (s .used) index) (s .last) list (list-used (turn .held) n (turn .suited) upto) (run-same (turn .held))
       ∙ rw (slots-same (turn .held), turn .held .last-is, turn .list-is)
 

@@ -41,7 +41,7 @@ fn entry(x: Index) -> u32
 fn has_tail(slots: &[Index], runs: &[u32], starts: &[u32], i: Place, k: Place, count: usize) -> bool
     requires { ⌜ Tailed (now slots) (now runs) (now starts) (k .0) count (i .0) ⌝ }
     requires { ⌜ 0 < count ⌝ }
-    ensures { λ r. ⌜ r ≡ eqb (tails (listAt (now (slots .entry)) (now (runs .entry)) (now (starts .entry))) (k .0) (i .0)) count ⌝ }
+    ensures { λ r. ⌜ r ≡ eqb (tails (listAt (now (starts .entry)) (now (runs .entry)) (now (slots .entry))) (k .0) (i .0)) count ⌝ }
 {
     let p = wide(i.0);
     let length = wide(starts[p + 1]) - wide(starts[p]);

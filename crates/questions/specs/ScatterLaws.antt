@@ -15,6 +15,7 @@ use Rattle.matrix.specs.Questions.{IsOrder}
 use Rattle.matrix.specs.OrderLaws.{order-below, order-inj, place-of, place-hits}
 use Rattle.questions.specs.Lent.{inverted, invertedAt}
 use Rattle.base.specs.Scratch.{blocksFrom}
+use Rattle.base.specs.ScratchLaws.{drop-twice}
 
 module _ {A : Type 0} where
   pub record Scattered (o : List ℕ) (n : ℕ) (f : ℕ → A) (d : A) (old l : List A) (k : ℕ) : Type 0 where
@@ -102,7 +103,7 @@ module _ (o : List ℕ) (n : ℕ) (s : List ℕ) (room : n ≤ length s) where
   placed-inverse = ap (take n) placed-back ∙ inverse-front o n (drop n s)
 
   pub placed-rest : drop (blocksFrom n) (invertedAt o n s) ≡ drop (blocksFrom n) s
-  placed-rest = sym (drop-drop n n (invertedAt o n s)) ∙ ap (drop n) placed-back ∙ inverse-rest o n (drop n s) ∙ drop-drop n n s
+  placed-rest = sym (drop-twice n (invertedAt o n s)) ∙ ap (drop n) placed-back ∙ inverse-rest o n (drop n s) ∙ drop-twice n s
 
 -- "x(c(k)) = t": the solution by own column has z(k) at c(k)
 pub x-at : (c : List ℕ) (n : ℕ) (z : List Float) (k : ℕ) → IsOrder c n → k < n → getD (ownOrder c n z) (getD c k 0) nan ≡ getD z k nan

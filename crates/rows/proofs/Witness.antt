@@ -39,7 +39,7 @@ fresh zero l = omega arith
 fresh (suc zero) l = omega arith
 fresh (suc (suc j)) l = absurd (omega arith)
 
-first-list : listAt index runs starts 0 ≡ upperRow full 2 0
+first-list : listAt starts runs index 0 ≡ upperRow full 2 0
 unfolding listAt upperRow asc upper filled reach
 first-list = refl
 

@@ -53,7 +53,7 @@ held-start P n t cuts s index runs starts f = record {
 module _ (P : Pattern) (n t k cuts : ℕ) (h : k < n) (base : Base n cuts) (s index runs starts : List ℕ) (room : Room n s)
     (marks : Holds n t s (filled P k)) (store : Stored P n (k + 1) index runs starts) (cut : Cuts P n k cuts s) where
   abbrev T : ℕ → List ℕ
-  T = listAt index runs starts
+  T = listAt starts runs index
 
   later : (i c : ℕ) → CutAt P n k i c → CutAt P n (k + 1) i c
   later i c (uncut e) = uncut e
@@ -117,12 +117,12 @@ new-kept t cuts k T c s q w =
     (λ i a b u e m. cut-other cuts k T i u q (λ y. let z = w (omega arith) in omega arith) ∙ e) (λ i a b u e m. e) refl
 
 pub renewed-is : (n t k cuts : ℕ) (index runs starts s u : List ℕ) → k < n → Base n cuts → Room n s
-    → u ≡ newCuts t cuts k (listAt index runs starts) (getD starts (k + 1) 0 - getD starts k 0) s → Renewed n t k cuts index runs starts s u
+    → u ≡ newCuts t cuts k (listAt starts runs index) (getD starts (k + 1) 0 - getD starts k 0) s → Renewed n t k cuts index runs starts s u
 renewed-is n t k cuts index runs starts s u h b r e = rw e (record {
-  kept = new-kept t cuts k (listAt index runs starts) (getD starts (k + 1) 0 - getD starts k 0) s;
+  kept = new-kept t cuts k (listAt starts runs index) (getD starts (k + 1) 0 - getD starts k 0) s;
   held = λ P m store cut later l. record {
     fresh = λ j q. let w = b .low in
-        rw (new-kept t cuts k (listAt index runs starts) (getD starts (k + 1) 0 - getD starts k 0) s j (λ y. absurd (omega arith))) (holds-fresh n t later s (filled P k) l m j q);
+        rw (new-kept t cuts k (listAt starts runs index) (getD starts (k + 1) 0 - getD starts k 0) s j (λ y. absurd (omega arith))) (holds-fresh n t later s (filled P k) l m j q);
     store = store;
     cut = cuts-next P n t k cuts h b s index runs starts r m store cut _ (sym (upper-length P n (k + 1) index runs starts store k (omega arith)));
   };

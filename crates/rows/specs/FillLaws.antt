@@ -128,7 +128,7 @@ merge-same n t k T below s = visited-keeps t (unite n t T) (λ i u. Same n s u) 
 
 -- ---- the parts in the store
 
-length-listAt : (index runs starts : List ℕ) (i : ℕ) → ListIn index runs starts i → length (listAt index runs starts i) ≡ getD starts (i + 1) 0 - getD starts i 0
+length-listAt : (index runs starts : List ℕ) (i : ℕ) → ListIn index runs starts i → length (listAt starts runs index i) ≡ getD starts (i + 1) 0 - getD starts i 0
 unfolding listAt
 length-listAt index runs starts i h = length-take-le _ (drop (getD runs i 0) index) (omega (arith, length-drop (getD runs i 0) index, h .inside))
 

@@ -109,7 +109,7 @@ module _ (s₀ s : List ℕ) (at : ℕ) (l : List ℕ) (e : s ≡ sets s₀ at l
     | no a ↦ sets-above s₀ at l q (w (omega arith))
   ])
 
-module _ (P : Pattern) (n k : ℕ) (s₀ s : List ℕ) (below : ℕ) (l : LowerListed P n k s₀ s below) (fits : 5 * blocksFrom n ≤ length s₀) (h : k < n) where
+module _ (P : Pattern) (n k : ℕ) (s₀ s : List ℕ) (below : ℕ) (l : LowerListed P n k s₀ s below) (fits : listFrom n + n ≤ length s₀) (h : k < n) where
   lower-fits : listFrom n + length (lowerRow P k) ≤ length s₀
   lower-fits = omega (arith, lower-le P k)
 

@@ -14,7 +14,7 @@ use Rattle.base.specs.Limits.{maxRows}
 
 -- the lists of the first k places stand in the store
 pub record Stored (P : Pattern) (n k : ℕ) (index runs starts : List ℕ) : Type 0 where
-  pub list : (i : ℕ) → i < k → listAt index runs starts i ≡ upperRow P n i
+  pub list : (i : ℕ) → i < k → listAt starts runs index i ≡ upperRow P n i
   pub read : (i : ℕ) → i < k → ListIn index runs starts i
 
 -- of list i, place k merges the first c entries: all, or those up to a place p below k with (i, p) and (p, i) filled

@@ -95,7 +95,7 @@ part-kept a b s u z k =
 
 pub order-same : {side : Side} {n : ℕ} {s u : List ℕ} → Apart side n s u → orderOf n u ≡ orderOf n s
 unfolding orderOf
-order-same {side} {n} {s} {u} a = part-kept n n s u (a .size) (a .order)
+order-same {side} {n} {s} {u} a = part-kept n n s u (a .size) (λ q h g. a .order q h (omega arith))
 
 pub rows-apart : (side : Side) (i : Input) (s u : List ℕ) → Apart side (i .n) s u → rowsIn i u ≡ rowsIn i s
 rows-apart side i s u a = rows-same (i .n) (i .columns) (i .starts) (i .r) s u (order-same a)
@@ -208,7 +208,7 @@ module _ (side : Side) (i : Input) (k t window : ℕ) (index runs lists s₀ : L
         listed : Listed P n k (listFrom n) s₂ s₃ below above
         listed = listed-both P n t k s₂ u₂ below lowered s₃ above upper
 
-        fits : 5 * blocksFrom n ≤ length s₂
+        fits : listFrom n + n ≤ length s₂
         fits = omega (arith, loaded-room .long, closing .size)
 
         short : below + above < n

@@ -42,7 +42,7 @@ pub record Unwritten (k used : ℕ) (before after : Stood) : Type 0 where
   pub runs : (j : ℕ) → j < k → getD (after .runs) j 0 ≡ getD (before .runs) j 0
   pub starts : (j : ℕ) → j ≤ k → getD (after .starts) j 0 ≡ getD (before .starts) j 0
   -- so every list reads as it did
-  pub lists : (j : ℕ) → j < k → listAt (after .index) (after .runs) (after .starts) j ≡ listAt (before .index) (before .runs) (before .starts) j
+  pub lists : (j : ℕ) → j < k → listAt (after .starts) (after .runs) (after .index) j ≡ listAt (before .starts) (before .runs) (before .index) j
 
 -- ---- one side, for any lists that suit the way
 

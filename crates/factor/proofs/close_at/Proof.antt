@@ -37,7 +37,7 @@ returns : tie.Need-returns
 returns c =
     let s = c .before .before .before .before .before .before .before .before .before .before .before .before .before .before .before in
     let a = s .args in
-    subst (λ (l : List ℕ). Shut (a .n) (a .k .0) l (listAt (now (a .uindex)) (now (a .uruns)) (now (a .ustarts)) (a .k .0)) (now (a .work)) (c .before .before .before .before .close-row .last .0)
+    subst (λ (l : List ℕ). Shut (a .n) (a .k .0) l (listAt (now (a .ustarts)) (now (a .uruns)) (now (a .uindex)) (a .k .0)) (now (a .work)) (c .before .before .before .before .close-row .last .0)
     (now (a .d)) (c .before .before .before .before .close-row .last .1 .1 .1 .1 .1 .1 .1 .0) (a .t)) (c .before .before .before .before .before .before .before .lower-part .ensures) (c .before .before .before .before .close-row .ensures)
 
 pub close-at-spec : {M : Type 1} → statement M

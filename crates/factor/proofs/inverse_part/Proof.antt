@@ -1,13 +1,13 @@
 use denote.Ref.{now}
-use Rattle.factor.proofs.Parts.{part-from}
+use Rattle.factor.proofs.Parts.{region-part}
 use borrow.Author.Needs.{needs}
 use Rattle.factor.proofs.inverse_part.Statement.{statement}
 use Rattle.factor.proofs.inverse_part.Tie as tie
 use Rattle.factor.proofs.inverse_part.Reads as reads
 use Rattle.factor.proofs.inverse_part.Lts as lts
 
-add-end : tie.Need-add-end
-add-end c = search needs
+mul-end : tie.Need-mul-end
+mul-end c = search needs
 
 mul-result : tie.Need-mul-result
 mul-result c = search needs
@@ -22,8 +22,8 @@ part-result-end : tie.Need-part-result-end
 part-result-end c = search needs
 
 returns : tie.Need-returns
-returns c = part-from (now (c .before .args .marks)) (c .before .args .n) (c .before .args .n)
+returns c = region-part (now (c .before .args .marks)) (c .before .args .n)
 
 pub inverse-part-spec : {M : Type 1} → statement M
 inverse-part-spec =
-    tie.close (tie.spec add-end mul-result sub-result part-result-start part-result-end returns)
+    tie.close (tie.spec mul-end mul-result sub-result part-result-start part-result-end returns)

@@ -10,6 +10,7 @@ use Rattle.factor.proofs.solve_back.Tie as tie
 use Rattle.factor.proofs.solve_back.Reads as reads
 use Rattle.factor.proofs.solve_back.Lts as lts
 use Rattle.numeric.proofs.back_steps.Reads as back-steps-reads
+use Rattle.base.specs.Scratch.{zFrom}
 
 back-steps-requires : tie.Need-back-steps-requires
 back-steps-requires c κs = search needs
@@ -27,7 +28,7 @@ cast-t12 c =
     omega (
       arith,
       s .pre .few,
-      stopped-below (storeGiven (a .n) (now (a .work)) (now (a .uindex)) (now (a .uruns)) (now (a .ustarts)) (now (a .uvalues))) (a .n) (c .before .z .given .0 .0) (drop (a .n + a .n) (now (a .work)))
+      stopped-below (storeGiven (a .n) (now (a .work)) (now (a .uindex)) (now (a .uruns)) (now (a .ustarts)) (now (a .uvalues))) (a .n) (c .before .z .given .0 .0) (drop (zFrom (a .n)) (now (a .work)))
           (stopped-at _ _ (c .before .before .before .before .before .back-steps .result) _ (c .before .z .given .1) (c .before .before .before .before .before .back-steps .ensures .0)),
     )
 

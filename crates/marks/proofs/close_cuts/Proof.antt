@@ -8,7 +8,7 @@ use Rattle.marks.proofs.close_cuts.Statement.{statement}
 use Rattle.marks.proofs.close_cuts.Tie as tie
 
 abbrev Inv-loop : tie.InvT-loop
-Inv-loop s₀ n stamp k below cuts index runs starts p₀ s p = (p ≤ below) × (below ≤ n) × Listed n stamp k cuts (listAt index runs starts) s₀ s p
+Inv-loop s₀ n stamp k below cuts index runs starts p₀ s p = (p ≤ below) × (below ≤ n) × Listed n stamp k cuts (listAt starts runs index) s₀ s p
 
 abbrev μ-loop : tie.MeasureT-loop
 μ-loop s₀ n stamp k below cuts index runs starts p₀ s p = below - p

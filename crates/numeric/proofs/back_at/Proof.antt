@@ -12,6 +12,7 @@ use Rattle.numeric.proofs.back_at.Lts as lts
 use Rattle.numeric.proofs.index_part.Reads as index-part-reads
 use Rattle.numeric.proofs.less_products.Reads as less-products-reads
 use Rattle.numeric.proofs.values_part.Reads as values-part-reads
+use Rattle.base.specs.Scratch.{zFrom}
 
 add-t : tie.Need-add-t
 add-t c = search needs
@@ -53,7 +54,7 @@ less-products-requires c κs =
 returns : tie.Need-returns
 returns c =
     let a = c .before .before .before .before .before .before .before .before .before .before .args in
-    rest-is _ _ _ _ _ _ _ _ (c .before .before .before .index-part .ensures) (c .before .before .values-part .ensures) (tail-is (now (a .f)) (a .n + a .n)) (c .less-products .ensures)
+    rest-is _ _ _ _ _ _ _ _ (c .before .before .before .index-part .ensures) (c .before .before .values-part .ensures) (tail-is (now (a .f)) (zFrom (a .n))) (c .less-products .ensures)
 
 pub back-at-spec : {M : Type 1} → statement M
 back-at-spec =

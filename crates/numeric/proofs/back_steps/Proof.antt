@@ -60,7 +60,7 @@ loop-again c =
       refl,
       omega arith,
       simp length-set (l .inv .2),
-      take-set-le (a .n + a .n) (l .f) (a .n + a .n + (l .k - 1)) (c .before .before .back-at .result) (omega arith) ∙ l .inv .3,
+      take-set-le (zFrom (a .n)) (l .f) (zFrom (a .n) + (l .k - 1)) (c .before .before .back-at .result) (omega arith) ∙ l .inv .3,
       scratch-turn (a .n) (l .k) (l .k - 1) (now (a .upper)) (now (a .runs)) (now (a .starts)) (now (a .u)) (now (a .f)) (l .f) (c .before .before .back-at .result)
           (omega arith) (omega arith) (l .inv .3) (t .pre .2 (l .k - 1) (omega arith)) (c .before .before .back-at .ensures) (sym (c .before .is-finite .ensures) ∙ c .if1 .taken) ∙ l .inv .4,
     )

@@ -12,5 +12,4 @@ returns-2 c = cuts-lower _ _ (c .enum-told2 .given .1)
 pub cuts-of-spec : {M : Type 1} → statement M
 cuts-of-spec =
     tie.close
-    (tie.spec (λ c. search needs) (λ c. search needs) (λ c. search needs) (λ c. search needs) (λ c. search needs) (λ c. search needs) (λ c. search needs)
-    returns returns-2)
+    (tie.spec (λ c. search needs) (λ c. search needs) (λ c. search needs) (λ c. search needs) returns returns-2)

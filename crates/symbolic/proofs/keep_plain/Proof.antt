@@ -10,6 +10,7 @@ use native.Mathlib.Omega.{arith}
 use borrow.Author.Needs.{needs}
 use Rattle.symbolic.proofs.keep_plain.Statement.{statement}
 use Rattle.symbolic.proofs.keep_plain.Tie as tie
+use Rattle.base.specs.Scratch.{upperCuts}
 
 abbrev Begin : tie.After-place-plain → tie.Start
 Begin p = p .before .before .before .before .before .before .before .before .before .before
@@ -17,7 +18,7 @@ Begin p = p .before .before .before .before .before .before .before .before .bef
 -- what the caller holds, for a pattern and a store
 abbrev Held : tie.Start → Pattern → List ℕ → Type 0
 Held s P store = let a = s .args in
-    Keep OneAfterAnother P (a .n) (a .k .0) (a .stamp) (a .n + a .n + a .n) store (a .values) (a .starts .now) (a .starts .now) (a .index .now) (a .marks .now) (a .row) (a .e)
+    Keep OneAfterAnother P (a .n) (a .k .0) (a .stamp) (upperCuts (a .n)) store (a .values) (a .starts .now) (a .starts .now) (a .index .now) (a .marks .now) (a .row) (a .e)
 
 add-mid : tie.Need-add-mid
 add-mid c = let h = c .before .before .before .before .pre .keep in omega (arith, keep-fits h, h .few)
@@ -67,5 +68,5 @@ pub keep-plain-spec : {M : Type 1} → statement M
 keep-plain-spec =
     tie.close
     (tie.spec (λ c. search needs) add-mid add-end mul-place-plain (λ c. search needs) (λ c. search needs) part-place-plain-end place-plain-requires
-    (λ c. search needs) (λ c. search needs) (λ c. search needs) renew-cuts-requires (λ c. search needs) (λ c. search needs) (λ c. search needs) (λ c. search needs)
+    (λ c. search needs) (λ c. search needs) renew-cuts-requires (λ c. search needs) (λ c. search needs) (λ c. search needs) (λ c. search needs)
     returns (λ c. search needs) (λ c. search needs) (λ c. search needs) returns-2)

@@ -13,6 +13,7 @@ use lib.ListN.{length}
 use borrow.Author.Needs.{needs}
 use Rattle.symbolic.proofs.plain_place.Statement.{statement}
 use Rattle.symbolic.proofs.plain_place.Tie as tie
+use Rattle.base.specs.Scratch.{upperCuts}
 
 abbrev Begin : tie.After-open-place → tie.Start
 Begin p = p .before .before .before .before .before .before .before .before .before .before .before .before .before
@@ -100,7 +101,7 @@ uppers : (w : tie.After-keep-plain) (c low up : List ℕ) → Holds (Begin (Open
     → let a = Row (Kept (Low w)) in
     let s = Begin (Opening a) in
     let r = w .keep-plain in
-    KeepEnds OneAfterAnother (stored (given s c)) (s .args .n) (s .args .k .0) (s .args .n + s .args .n + s .args .n) up (s .args .upper-values) (r .last .1 .0) (r .last .1 .0) (r .last .1 .1 .0) (Opening a .open-place .last .1 .1 .1 .1 .1 .1 .1 .0) (r .last .1 .1 .1 .1 .0) (r .result)
+    KeepEnds OneAfterAnother (stored (given s c)) (s .args .n) (s .args .k .0) (upperCuts (s .args .n)) up (s .args .upper-values) (r .last .1 .0) (r .last .1 .0) (r .last .1 .1 .0) (Opening a .open-place .last .1 .1 .1 .1 .1 .1 .1 .0) (r .last .1 .1 .1 .1 .0) (r .result)
 uppers w c low up h =
     let a = Row (Kept (Low w)) in
     w .keep-plain .ensures _ up (plain-keep _ _ _ _ _ _ _ _ _ _ _ _ h (Begin (Opening a) .pre .place) _ _ (found a c low up h))
