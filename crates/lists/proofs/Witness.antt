@@ -22,7 +22,7 @@ use Rattle.outcome.specs.Forms.{placedTo, indexNeed, valueNeed}
 use Rattle.outcome.specs.Buffers.{Buffers, plainBuffers, sharedBuffers, askShape, ended}
 use Rattle.outcome.specs.Structure.{fits, askPlace, askPlaces, counts, sidePlaced, structured, structure}
 use Rattle.outcome.specs.Solve.{system, listed, shape, solve}
-use Rattle.lookup.specs.Lookup.{listsOf, lookup}
+use Rattle.lookup.specs.Lookup.{sideLists, lookup}
 use Rattle.lists.specs.Handed.{handed, Handed, HandedShared}
 use Rattle.lists.proofs.Handed.{structure-shared, solve-handed}
 
@@ -49,7 +49,7 @@ pub arrow-lists : HandedShared arrow (0 ∷ 2 ∷ 3 ∷ 3 ∷ []) (0 ∷ 1 ∷ 2
 arrow-lists = structure-shared arrow lent _ _ _ _ _ _ _ _ _ _ _ _ _ arrow-done
 
 -- T(1) is the tail of T(0)
-pub arrow-one : lookup Upper (spot 1) 3 0 (listsOf (0 ∷ 2 ∷ 3 ∷ 3 ∷ []) (0 ∷ 1 ∷ 2 ∷ []) (1 ∷ 2 ∷ [])) (listsOf (0 ∷ 2 ∷ 3 ∷ 3 ∷ []) (0 ∷ 1 ∷ 2 ∷ []) (1 ∷ 2 ∷ [])) ≡ 2 ∷ []
+pub arrow-one : lookup Shared Upper (spot 1) 3 (sideLists (0 ∷ 2 ∷ 3 ∷ 3 ∷ []) (0 ∷ 1 ∷ 2 ∷ []) (1 ∷ 2 ∷ [])) (sideLists (0 ∷ 2 ∷ 3 ∷ 3 ∷ []) (0 ∷ 1 ∷ 2 ∷ []) (1 ∷ 2 ∷ [])) ≡ 2 ∷ []
 unfolding arrow upperRow asc upper filled reach stored has listAt
 arrow-one = arrow-lists .upper 1 (omega arith) ∙ refl
 
