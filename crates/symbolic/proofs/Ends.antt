@@ -49,12 +49,12 @@ way-is Shared = refl
 way-is ByRow = refl
 
 module _ (f : Form) (side : Side) (P : Pattern) (n : ℕ) (store : List ℕ) (values : ℕ) (starts runs index : List ℕ) (e : Extent)
-    (h : Holding (placingOf f) (listsOf f side P n) (rowsOf side P) values n (blank 0 store) index runs starts e) (z : Stores (placingOf f) n store values starts runs) (r : RunsIn f starts runs) where
+    (h : Holding (placingOf f) (listsOf f side P n) (rowsOf side P) values n (blank 0 store) starts runs index e) (z : Stores (placingOf f) n store values starts runs) (r : RunsIn f starts runs) where
   runs-end : RunsAre f side P n starts runs
   unfolding placedTo
   runs-end = go f h (z .runs-size) r
     where
-      go : (f : Form) → Holding (placingOf f) (listsOf f side P n) (rowsOf side P) values n (blank 0 store) index runs starts e → length runs ≡ runCount (placingOf f) n → RunsIn f starts runs
+      go : (f : Form) → Holding (placingOf f) (listsOf f side P n) (rowsOf side P) values n (blank 0 store) starts runs index e → length runs ≡ runCount (placingOf f) n → RunsIn f starts runs
           → RunsAre f side P n starts runs
       go Plain h l r = r
       go Shared h l r = runs-whole h l

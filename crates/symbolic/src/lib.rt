@@ -134,9 +134,9 @@ fn keep_shared(
     let end = mid + row.above;
     let put = placing::place_list(
         Way::Sharing,
-        index,
-        runs,
         starts,
+        runs,
+        index,
         values,
         &marks[at..mid],
         &marks[mid..end],
@@ -169,7 +169,7 @@ fn keep_plain(
 {
     let mid = scratch::LIST * n + row.below;
     let end = mid + row.above;
-    let put = placing::place_plain(index, starts, values, &marks[mid..end], k, e);
+    let put = placing::append_list(starts, index, values, &marks[mid..end], k, e);
     match put {
         Put::Done(next) => {
             rows::renew_cuts(
@@ -205,7 +205,7 @@ fn keep_lower(
 {
     let at = scratch::LIST * n;
     let mid = at + below;
-    placing::place_plain(index, starts, values, &marks[at..mid], k, e)
+    placing::append_list(starts, index, values, &marks[at..mid], k, e)
 }
 
 // The products of place k, added to those before it: its lower row stands in scratch.
