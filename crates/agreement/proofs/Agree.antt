@@ -11,9 +11,8 @@ use Rattle.fill.specs.Fill.{Pattern, Walk, filled}
 use Rattle.fill.specs.RowRule.{diagonal-walk}
 use Rattle.base.specs.First.{first}
 use Rattle.base.specs.FirstLaws.{first-at, first-all, first-none, first-found}
-use Rattle.arithmetic.specs.Arith.{Fault, zeroPivot, overflow, Out, ok, met, Result}
-use Rattle.arithmetic.specs.Listing.{Meets}
-use Rattle.arithmetic.specs.ListingLaws.{solved-meets, solved-value}
+use Rattle.arithmetic.specs.Arith.{Fault, zeroPivot, overflow, Out, ok, met, Result, wholeRun}
+use Rattle.arithmetic.specs.Meets.{Meets, judged-meets, judged-value}
 use Rattle.base.specs.declared.Found.{Found}
 use Rattle.base.specs.declared.Found.the-variants.{At, Nothing}
 use Rattle.base.specs.declared.Counts.{Counts}
@@ -187,11 +186,11 @@ join e h = (λ a. h .0 (e .0 a), λ c. e .1 (h .1 c))
 
 listed-meets : (i : Input) (q : Fault) → (listed i ≡ met q) ↔ Meets (operations i) q
 unfolding listed operations
-listed-meets i q = solved-meets (system i) q
+listed-meets i q = judged-meets (wholeRun (system i)) q
 
 listed-result : (i : Input) (a : Result) → listed i ≡ ok a → result i ≡ a
 unfolding listed result
-listed-result i a e = solved-value (system i) a e
+listed-result i a e = judged-value (wholeRun (system i)) a e
 
 heard-told : (i : Input) (o : Outcome Answer) → Heard i o → Told i o
 heard-told i o h =

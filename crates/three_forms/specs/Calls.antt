@@ -4,7 +4,7 @@ use mathlib.Core.Logic.{_⊎_, _↔_}
 use Prim.Native.Nat.{ℕ, _≤_, _<_}
 use Rattle.base.specs.Answers.{numberOfAnswer, placeOfAnswer, countsOf}
 use Rattle.arithmetic.specs.Arith.{Fault, zeroPivot, overflow}
-use Rattle.arithmetic.specs.Listing.{Meets}
+use Rattle.arithmetic.specs.Meets.{Meets}
 use Rattle.matrix.specs.Input.{Input, ownOrder}
 use Rattle.outcome.specs.Buffers.{Buffers, sizes}
 use Rattle.outcome.specs.Structure.{counts}
