@@ -9,9 +9,8 @@ use Rattle.fill.specs.Fill.{filled}
 use Rattle.fill.specs.RowRule.{diagonal-walk}
 use Rattle.base.specs.First.{first}
 use Rattle.base.specs.FirstLaws.{first-none, first-found}
-use Rattle.arithmetic.specs.Arith.{Fault, zeroPivot, overflow, Out, ok, met, Result}
-use Rattle.arithmetic.specs.Listing.{Meets}
-use Rattle.arithmetic.specs.ListingLaws.{solved-meets, solved-value}
+use Rattle.arithmetic.specs.Arith.{Fault, zeroPivot, overflow, Out, ok, met, Result, wholeRun}
+use Rattle.arithmetic.specs.Meets.{Meets, judged-meets, judged-value}
 use Rattle.base.specs.declared.Found.{Found}
 use Rattle.base.specs.declared.Found.the-variants.{At, Nothing}
 use Rattle.base.specs.declared.Counts.{Counts}
@@ -151,11 +150,11 @@ join e h = (λ a. h .0 (e .0 a), λ c. e .1 (h .1 c))
 
 listed-meets : (i : Input) (q : Fault) → (listed i ≡ met q) ↔ Meets (operations i) q
 unfolding listed operations
-listed-meets i q = solved-meets (system i) q
+listed-meets i q = judged-meets (wholeRun (system i)) q
 
 listed-result : (i : Input) (a : Result) → listed i ≡ ok a → result i ≡ a
 unfolding listed result
-listed-result i a e = solved-value (system i) a e
+listed-result i a e = judged-value (wholeRun (system i)) a e
 
 heard : (f : Form) (i : Input) (s : Buffers) → Stated f i s → Roomy f i s → Passed f i s → Heard i (solve f i s .answer)
 unfolding Stated

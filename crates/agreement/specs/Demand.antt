@@ -7,8 +7,8 @@ use Prim.Native.Nat.{ℕ, suc, _≤_, _<_}
 use Rattle.fill.specs.Fill.{Walk}
 use Rattle.base.specs.All.{all}
 use Rattle.base.specs.Answers.{numberOfAnswer, placeOfAnswer, countsOf}
-use Rattle.arithmetic.specs.Arith.{Fault, zeroPivot, overflow, Result}
-use Rattle.arithmetic.specs.Listing.{Event, Meets, wholeRun}
+use Rattle.arithmetic.specs.Arith.{Event, Fault, zeroPivot, overflow, Result, wholeRun}
+use Rattle.arithmetic.specs.Meets.{Meets}
 use Rattle.matrix.specs.Input.{Input, stored, ownOrder}
 use Rattle.outcome.specs.Forms.{indexNeed, valueNeed}
 use Rattle.outcome.specs.Buffers.{Buffers, sizes, sideOf, bufferTests}

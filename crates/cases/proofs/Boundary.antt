@@ -15,7 +15,7 @@ use Rattle.fill.specs.Fill.{reach, filled, upper, upperRow, lowerRow, lowerColu
 use Rattle.matrix.specs.Input.{isOf, ic, stored, entries, rightAt, ownOrder}
 use Rattle.matrix.specs.Questions.{badStart, badColumn, badIndex, notFinite, noEntry, emptyRow, seenAt, repeats, repeatRow, ask3, ask4, ask5, askFinite, ask6, ask7, ask8, askPattern, askRows, askSolve}
 use Rattle.placement.specs.Placing.{countAbove, tails, bestFrom, firstAt, agree, appendAll, fresh, meets, overlap, tailOr, shared, plain, after, placed, startOf}
-use Rattle.arithmetic.specs.Arith.{load, start, subtract, stepAt, steps, scaled, finish, row, forward, rest, back, solved}
+use Rattle.arithmetic.specs.Arith.{judged, loadRun, step1, subtractRun, stepRun, step2, scaledRun, step3, rowRun, forwardRun, restRun, backRun, wholeRun}
 use Rattle.outcome.specs.Forms.{placedTo, indexNeed, valueNeed}
 use Rattle.outcome.specs.Buffers.{askShape, scratchCleared, sideCleared, cleared}
 use Rattle.outcome.specs.Structure.{fits, askPlace, askPlaces, counts, sidePlaced}
@@ -24,7 +24,7 @@ use Rattle.cases.specs.Table.{seen, Case, outcomeOf, floats, graph, two,
 
 -- one computed test of the whole table
 pub holds : map outcomeOf boundary ≡ map (λ (c : Case). c .expected) boundary
-unfolding outcomeOf boundary seen floats graph two single swapped cornerless ones arrow solve shape askShape askSolve askPattern askRows ask3 ask4 ask5 ask6 ask7 ask8 askFinite first badStart badColumn badIndex isOf notFinite emptyRow noEntry repeatRow repeats seenAt listAt pairs askPlaces askPlace filled reach stored has fits indexNeed valueNeed placedTo placed after plain shared appendAll fresh meets overlap tailOr tails bestFrom countAbove firstAt agree startOf upperRow lowerRow asc upper listed system entries rightAt ic solved load start subtract stepAt steps scaled finish row forward rest back counts sum count lowerColumn products ownOrder table kept sidePlaced valuesKept pivotsKept padded joined cleared sideCleared scratchCleared ofBits toBits sub mul div eq
+unfolding outcomeOf boundary seen floats graph two single swapped cornerless ones arrow solve shape askShape askSolve askPattern askRows ask3 ask4 ask5 ask6 ask7 ask8 askFinite first badStart badColumn badIndex isOf notFinite emptyRow noEntry repeatRow repeats seenAt listAt pairs askPlaces askPlace filled reach stored has fits indexNeed valueNeed placedTo placed after plain shared appendAll fresh meets overlap tailOr tails bestFrom countAbove firstAt agree startOf upperRow lowerRow asc upper listed system entries rightAt ic judged wholeRun loadRun step1 subtractRun stepRun step2 scaledRun step3 rowRun forwardRun restRun backRun counts sum count lowerColumn products ownOrder table kept sidePlaced valuesKept pivotsKept padded joined cleared sideCleared scratchCleared ofBits toBits sub mul div eq
 holds = refl
 
 -- the file's matrix is the table's first

@@ -17,6 +17,7 @@ use Rattle.matrix.specs.Input.{Input, stored}
 use Rattle.matrix.specs.OrderLaws.{order-below}
 use Rattle.arithmetic.specs.Arith.{met, zeroPivot, overflow, Row, none}
 use Rattle.outcome.specs.Solve.{system, listed}
+use Rattle.outcome.proofs.Meaning.{listed-stops}
 use Rattle.rows.specs.ListLaws.{lower-le}
 use Rattle.numeric.specs.declared.Pivot.{Pivot}
 use Rattle.numeric.specs.declared.Pivot.the-variants.{Kept, Zero, Overflow}
@@ -130,12 +131,10 @@ module _ {f : Form} {i : Input} {L : Lists} {k : ℕ} {w : Written} (G : Going f
 
   -- a row that is not kept
   pub zero-met : {g v : List Float} (p : Pivot) → p ≡ Zero → Reduced (system i) (G .rows) (i .n) k (L .upper-starts) (w .work) g (w .upper) v p → listed i ≡ met (zeroPivot k)
-  unfolding listed
-  zero-met {g} {v} p e R = held-zero (G .held) h (subst (λ (q : Pivot). Reduced (system i) (G .rows) (i .n) k (L .upper-starts) (w .work) g (w .upper) v q) e R)
+  zero-met {g} {v} p e R = listed-stops i ∙ held-zero (G .held) h (subst (λ (q : Pivot). Reduced (system i) (G .rows) (i .n) k (L .upper-starts) (w .work) g (w .upper) v q) e R)
 
   pub overflow-met : {g v : List Float} (p : Pivot) → p ≡ Overflow → Reduced (system i) (G .rows) (i .n) k (L .upper-starts) (w .work) g (w .upper) v p → listed i ≡ met (overflow k)
-  unfolding listed
-  overflow-met {g} {v} p e R = held-overflow (G .held) h (subst (λ (q : Pivot). Reduced (system i) (G .rows) (i .n) k (L .upper-starts) (w .work) g (w .upper) v q) e R)
+  overflow-met {g} {v} p e R = listed-stops i ∙ held-overflow (G .held) h (subst (λ (q : Pivot). Reduced (system i) (G .rows) (i .n) k (L .upper-starts) (w .work) g (w .upper) v q) e R)
 
   -- what its closing asks
   pub row-closable : {m : List ℕ} {below : ℕ} (g : List Float) → length g ≡ length (w .work) → RowAt i k below (L .upper-starts) (L .upper-runs) (L .upper-index) m (length (w .upper)) (length (w .work))

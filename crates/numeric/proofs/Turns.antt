@@ -12,7 +12,8 @@ use lib.Ieee.{Float, nan, binary64, sub, mul}
 use lib.Ieee.Scale.{finite}
 use Rattle.base.specs.Lists.{listAt, rowOf, pairs, nought}
 use Rattle.base.specs.declared.RowSums.{RowSums}
-use Rattle.arithmetic.specs.Arith.{ok, met, overflow, any, load, Given, Work, subtract, steps, rest, back}
+use Rattle.arithmetic.specs.Arith.{ok, met, overflow, Given, Work}
+use Rattle.arithmetic.specs.Stopping.{any, load, subtract, steps, rest, back}
 use Rattle.arithmetic.specs.RowEnd.{finiteOn, finiteAll, products}
 use Rattle.arithmetic.specs.Sticky.{step-any, rest-at}
 use Rattle.numeric.specs.Rows.{Shut}

@@ -19,7 +19,8 @@ use Rattle.base.specs.Tests.{by-test, or-cases, or-false}
 use Rattle.base.specs.AscLaws.{has-append}
 use Rattle.base.specs.TableLaws.{getD-map-lt}
 use Rattle.base.specs.declared.RowSums.{RowSums}
-use Rattle.arithmetic.specs.Arith.{Fault, Out, ok, met, overflow, zeroPivot, _>>=_, any, at, one, pivot, load, System, Row, none, Given, given, Work, start, steps, scaled, finish, row, forward, rest, back, Result, solved}
+use Rattle.arithmetic.specs.Arith.{Fault, Out, ok, met, overflow, zeroPivot, one, System, Row, none, Given, given, Work, Result}
+use Rattle.arithmetic.specs.Stopping.{_>>=_, any, at, pivot, load, start, steps, scaled, finish, row, forward, rest, back, solved}
 use Rattle.arithmetic.specs.RowEnd.{products}
 use Rattle.arithmetic.specs.Factors.{bind-ok, ok-inj}
 use Rattle.numeric.specs.declared.Pivot.{Pivot}

@@ -16,7 +16,8 @@ use borrow.Author.Tests.{eqb-true, eq-eqb, ne-eqb}
 use Rattle.base.specs.Lists.{has, asc, keep, count}
 use Rattle.base.specs.Tests.{by-test, or-right}
 use Rattle.base.specs.AscLaws.{length-asc, has-asc, count-suc, count-zero}
-use Rattle.arithmetic.specs.Arith.{Out, ok, _>>=_, any, less, subtract, rest}
+use Rattle.arithmetic.specs.Arith.{Out, ok}
+use Rattle.arithmetic.specs.Stopping.{_>>=_, any, less, subtract, rest}
 use Rattle.arithmetic.specs.Sticky.{ok-inj}
 use Rattle.numeric.specs.Stores.{Ascending, Below}
 use Rattle.numeric.specs.Rows.{only, beside}

@@ -17,7 +17,8 @@ use Rattle.base.specs.Lists.{has, pairs, nought, rowOf, listAt}
 use Rattle.base.specs.Tests.{by-test, or-cases, or-false, or-right}
 use Rattle.base.specs.AscLaws.{has-append}
 use Rattle.base.specs.declared.RowSums.{RowSums}
-use Rattle.arithmetic.specs.Arith.{Out, ok, met, _>>=_, Check, any, at, load, System, Row, none, Given, given, Work, start, row, subtract, stepAt, steps, rest, finish}
+use Rattle.arithmetic.specs.Arith.{Out, ok, met, System, Row, none, Given, given, Work}
+use Rattle.arithmetic.specs.Stopping.{_>>=_, Check, any, at, load, start, row, subtract, stepAt, steps, rest, finish}
 use Rattle.arithmetic.specs.RowEnd.{finiteOn, rowEnd, quiet}
 use Rattle.arithmetic.specs.Sticky.{ok-inj, subtract-any, after, step-any, row-at, sub-left, sub-right, mul-left}
 use Rattle.numeric.specs.declared.Pivot.{Pivot}

@@ -7,7 +7,8 @@ use lib.Seq.{sets}
 use lib.Ieee.{Float, nan, binary64, sub, mul}
 use Rattle.base.specs.Lists.{listAt, rowOf, nought}
 use Rattle.base.specs.declared.RowSums.{RowSums}
-use Rattle.arithmetic.specs.Arith.{Out, ok, met, zeroPivot, overflow, any, Row, Given, Work, subtract, steps}
+use Rattle.arithmetic.specs.Arith.{Out, ok, met, zeroPivot, overflow, Row, Given, Work}
+use Rattle.arithmetic.specs.Stopping.{any, subtract, steps}
 use Rattle.arithmetic.specs.RowEnd.{products, rowEnd}
 use Rattle.numeric.specs.declared.Pivot.{Pivot}
 use Rattle.numeric.specs.declared.Pivot.the-variants.{Kept, Zero, Overflow}

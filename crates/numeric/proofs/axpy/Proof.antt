@@ -1,5 +1,5 @@
 use Rattle.numeric.proofs.Turns.{subtract-turn, subtract-end}
-use Rattle.arithmetic.specs.Arith.{any, subtract}
+use Rattle.arithmetic.specs.Stopping.{any, subtract}
 use denote.Ref.{now}
 use lib.ListN.{length, getD, drop, length-set}
 use mathlib.Core.Path.{_≡_, refl, sym, _∙_}

@@ -1,6 +1,6 @@
 use Rattle.numeric.proofs.Turns.{scratch-turn, scratch-stop, back-end}
 use Rattle.numeric.specs.Stores.{storeGiven}
-use Rattle.arithmetic.specs.Arith.{back}
+use Rattle.arithmetic.specs.Stopping.{back}
 use denote.Ref.{now}
 use lib.Ieee.{nan}
 use lib.Seq.{take-set-le}

@@ -1,5 +1,5 @@
 use Rattle.numeric.proofs.Turns.{rest-turn, rest-end}
-use Rattle.arithmetic.specs.Arith.{any, rest}
+use Rattle.arithmetic.specs.Stopping.{any, rest}
 use denote.Ref.{now}
 use lib.ListN.{length, getD, drop}
 use mathlib.Core.Path.{_≡_, refl, sym, _∙_}

@@ -1,6 +1,6 @@
 use Rattle.numeric.proofs.Turns.{load-turn, load-end}
 use Rattle.numeric.specs.Stores.{placesOf}
-use Rattle.arithmetic.specs.Arith.{any, load}
+use Rattle.arithmetic.specs.Stopping.{any, load}
 use Rattle.base.specs.Lists.{pairs}
 use denote.Ref.{now}
 use lib.ListN.{length, getD, drop, length-set}
