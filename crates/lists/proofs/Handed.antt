@@ -32,7 +32,9 @@ use Rattle.matrix.specs.Questions.{askStructure, askSolve}
 use Rattle.arithmetic.specs.Arith.{Out, ok, met, Result}
 use Rattle.outcome.specs.Forms.{placedTo, indexNeed, valueNeed}
 use Rattle.outcome.specs.Forms as forms
-use Rattle.outcome.specs.Buffers.{SideBuffers, Buffers, plainBuffers, sharedBuffers, SideSizes, Sizes, sizes, sideOf, patternTests, matrixTests, listTests, scratchTests, structureTests, bufferTests, askShape, Outcome, ended, stop}
+use Rattle.outcome.specs.Buffers.{SideBuffers, Buffers, plainBuffers, sharedBuffers, sizes, sideOf, patternTests, matrixTests, listTests, scratchTests, structureTests, bufferTests, askShape, Outcome, ended, stop}
+use Rattle.base.specs.declared.SideSizes.{SideSizes}
+use Rattle.base.specs.declared.Sizes.{Sizes}
 use Rattle.outcome.specs.Structure.{fits, askPlaces, sidePlaced, structured, structure}
 use Rattle.outcome.specs.Solve.{listed, faultOf, valuesKept, kept, concluded, shape, solve}
 use Rattle.outcome.specs.Placed.{RunsAre, PlacedSide, lists-kept, starts-long, size-at, run-inside, list-at}

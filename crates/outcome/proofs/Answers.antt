@@ -27,7 +27,8 @@ use Rattle.outcome.specs.Structure.{counts, fits, askPlace, askPlaces}
 use Rattle.outcome.specs.Solve.{listed, faultOf, shape, earlier, kept, left, concluded, solve}
 use Rattle.base.specs.declared.Form.{Form}
 use Rattle.base.specs.declared.Form.the-variants.{Plain, Shared, ByRow}
-use Rattle.outcome.specs.Buffers.{Sizes, Buffers, sizes, matrixTests, bufferTests, Outcome, ended, stop, scratchCleared, cleared, askShape}
+use Rattle.outcome.specs.Buffers.{Buffers, sizes, matrixTests, bufferTests, Outcome, ended, stop, scratchCleared, cleared, askShape}
+use Rattle.base.specs.declared.Sizes.{Sizes}
 use Rattle.base.specs.Answers.{numberOf, placeOf, numberOfAnswer, own, spot, andThen, holds, absent}
 use Rattle.outcome.proofs.Asking.{number-some, Within, within-wide, within-pass, within-holds, within-absent, within-then, all-append}
 use Rattle.base.specs.Limits.{rowsWithin}

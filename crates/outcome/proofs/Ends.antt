@@ -19,7 +19,8 @@ use Rattle.matrix.specs.Input.{Input, stored}
 use Rattle.matrix.specs.Questions.{askStructure, askSolve, askRight}
 use Rattle.arithmetic.specs.Arith.{Fault, zeroPivot, overflow, Out, ok, met, judged, Result}
 use Rattle.arithmetic.specs.Again.{wholeAgain}
-use Rattle.outcome.specs.Buffers.{Buffers, Sizes, sizes, patternTests, structureTests, rightTests, bufferTests, askShape, scratchCleared, cleared, Outcome, ended, stop}
+use Rattle.outcome.specs.Buffers.{Buffers, sizes, patternTests, structureTests, rightTests, bufferTests, askShape, scratchCleared, cleared, Outcome, ended, stop}
+use Rattle.base.specs.declared.Sizes.{Sizes}
 use Rattle.outcome.specs.Structure.{askPlaces, counts, structured, structure}
 use Rattle.outcome.specs.Solve.{listed, faultOf, left, concluded, shape, solve}
 use Rattle.outcome.specs.Refactor.{differs, askPresented, refilled, emptied, refactored, refactor}

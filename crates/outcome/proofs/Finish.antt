@@ -8,7 +8,8 @@ use lib.Ieee.{Float}
 use Rattle.base.specs.Lists.{table, padded, blank, nought}
 use Rattle.fill.specs.Fill.{Pattern}
 use Rattle.outcome.specs.Forms.{placedTo, valueNeed}
-use Rattle.outcome.specs.Buffers.{SideBuffers, sideBuffers, Buffers, SideSizes, Outcome, ended, stop}
+use Rattle.outcome.specs.Buffers.{SideBuffers, sideBuffers, Buffers, Outcome, ended, stop}
+use Rattle.base.specs.declared.SideSizes.{SideSizes}
 use Rattle.outcome.specs.Structure.{runsKept, sidePlaced}
 use Rattle.outcome.specs.Placed.{PlacedSide}
 use Rattle.base.specs.declared.Form.{Form}

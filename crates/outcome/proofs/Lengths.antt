@@ -16,7 +16,9 @@ use Rattle.base.specs.Answers.{holds}
 use Rattle.base.specs.All.{all}
 use Rattle.base.specs.AllLaws.{all-true}
 use Rattle.base.specs.Limits.{rowsWithin}
-use Rattle.outcome.specs.Buffers.{askShape, SideBuffers, Buffers, SideSizes, Sizes, sideSizes, sizes, sideOf, matrixTests, bufferTests, Outcome, stop, scratchCleared, sideCleared, cleared}
+use Rattle.outcome.specs.Buffers.{askShape, SideBuffers, Buffers, sideSizes, sizes, sideOf, matrixTests, bufferTests, Outcome, stop, scratchCleared, sideCleared, cleared}
+use Rattle.base.specs.declared.SideSizes.{SideSizes}
+use Rattle.base.specs.declared.Sizes.{Sizes}
 use Rattle.base.specs.ZerosLaws.{padded-length}
 use Rattle.fill.specs.Fill.{Pattern, flip, upperRow, lowerRow, upper}
 use Rattle.base.specs.Lists.{nought, table, padded, joined}

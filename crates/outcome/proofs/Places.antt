@@ -20,7 +20,8 @@ use Rattle.base.specs.declared.Refusal.{Refusal}
 use Rattle.base.specs.declared.Refusal.the-variants.{NullPivot, LowerSlots, UpperSlots}
 use Rattle.base.specs.declared.Asked.{Asked}
 use Rattle.base.specs.declared.Asked.the-variants.{Pass, Stop}
-use Rattle.outcome.specs.Buffers.{Sizes, sideOf}
+use Rattle.outcome.specs.Buffers.{sideOf}
+use Rattle.base.specs.declared.Sizes.{Sizes}
 use Rattle.outcome.specs.Forms.{indexNeed, valueNeed}
 use Rattle.base.specs.Answers.{holds, absent, andThen, spot, numberOf}
 use Rattle.outcome.proofs.Asking.{stop-pass, stop-inj}

@@ -15,6 +15,8 @@ use Rattle.base.specs.declared.Form.{Form}
 use Rattle.base.specs.declared.Form.the-variants.{Plain, Shared, ByRow}
 use Rattle.base.specs.declared.Side.{Side}
 use Rattle.base.specs.declared.Side.the-variants.{Lower, Upper}
+use Rattle.base.specs.declared.SideSizes.{SideSizes}
+use Rattle.base.specs.declared.Sizes.{Sizes}
 use Rattle.base.specs.declared.Refusal.{Refusal}
 use Rattle.base.specs.declared.Refusal.the-variants.{Rows, Lengths}
 use Rattle.base.specs.declared.Asked.{Asked}
@@ -35,20 +37,6 @@ pub record Buffers : Type 0 where
   pub x : List Float
   pub work : List Float
   pub marks : List ℕ
-
-pub record SideSizes : Type 0 where
-  pub starts : ℕ
-  pub runs : ℕ
-  pub index : ℕ
-  pub values : ℕ
-
-pub record Sizes : Type 0 where
-  pub lower : SideSizes
-  pub upper : SideSizes
-  pub d : ℕ
-  pub x : ℕ
-  pub work : ℕ
-  pub marks : ℕ
 
 abbrev pub sideSizes : SideBuffers → SideSizes
 sideSizes s = record { starts = length (s .starts); runs = length (s .runs); index = length (s .index); values = length (s .values) }

@@ -24,7 +24,8 @@ use Rattle.base.specs.declared.Asked.the-variants.{Pass, Stop}
 use Rattle.base.specs.declared.Ended.{Ended}
 use Rattle.base.specs.declared.Ended.the-variants.{Complete, Declined}
 use Rattle.outcome.specs.Forms.{listsOf, placedTo, valueNeed}
-use Rattle.outcome.specs.Buffers.{SideBuffers, sideBuffers, Buffers, allBuffers, Sizes, sizes, buffersOf, scratchCleared, Outcome, ended, stop}
+use Rattle.outcome.specs.Buffers.{SideBuffers, sideBuffers, Buffers, allBuffers, sizes, buffersOf, scratchCleared, Outcome, ended, stop}
+use Rattle.base.specs.declared.Sizes.{Sizes}
 use Rattle.outcome.specs.Structure.{askPlace}
 use Rattle.outcome.specs.Solve.{shape, listed, faultOf, valuesKept, pivotsKept}
 

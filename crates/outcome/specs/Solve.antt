@@ -20,7 +20,8 @@ use Rattle.base.specs.declared.Refusal.the-variants.{ZeroPivot, Overflow}
 use Rattle.base.specs.declared.Asked.{Asked}
 use Rattle.base.specs.declared.Answer.{Answer}
 use Rattle.base.specs.declared.Answer.the-variants.{Done, Refused}
-use Rattle.outcome.specs.Buffers.{Buffers, allBuffers, Sizes, sizes, matrixTests, bufferTests, askShape, scratchCleared, cleared, Outcome, ended, stop}
+use Rattle.outcome.specs.Buffers.{Buffers, allBuffers, sizes, matrixTests, bufferTests, askShape, scratchCleared, cleared, Outcome, ended, stop}
+use Rattle.base.specs.declared.Sizes.{Sizes}
 use Rattle.outcome.specs.Structure.{askPlaces, counts, sidePlaced}
 
 -- what the elimination works on, by place. No form appears here.

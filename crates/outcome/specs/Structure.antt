@@ -23,7 +23,9 @@ use Rattle.base.specs.declared.Asked.the-variants.{Pass}
 use Rattle.base.specs.declared.Answer.{Answer}
 use Rattle.base.specs.declared.Answer.the-variants.{Done, Refused}
 use Rattle.outcome.specs.Forms.{placedTo, indexNeed, valueNeed}
-use Rattle.outcome.specs.Buffers.{SideBuffers, sideBuffers, Buffers, allBuffers, SideSizes, Sizes, sizes, sideOf, patternTests, structureTests, askShape, scratchCleared, cleared, Outcome, ended, stop}
+use Rattle.outcome.specs.Buffers.{SideBuffers, sideBuffers, Buffers, allBuffers, sizes, sideOf, patternTests, structureTests, askShape, scratchCleared, cleared, Outcome, ended, stop}
+use Rattle.base.specs.declared.SideSizes.{SideSizes}
+use Rattle.base.specs.declared.Sizes.{Sizes}
 
 -- do the lists of places 0 to k, placed the form's way, fit the side's index and value store?
 unfoldable pub fits : Form → Side → Pattern → ℕ → Sizes → ℕ → Bool

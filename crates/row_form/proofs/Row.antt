@@ -11,7 +11,9 @@ use Rattle.base.specs.Answers.{countsOf}
 use Rattle.matrix.specs.Input.{Input, stored, ownOrder}
 use Rattle.questions.specs.Settled.{Structured}
 use Rattle.questions.specs.SettledLaws.{settled}
-use Rattle.outcome.specs.Buffers.{SideSizes, Sizes, Buffers, rowBuffers, sizes, sideCleared, cleared, ended}
+use Rattle.outcome.specs.Buffers.{Buffers, rowBuffers, sizes, sideCleared, cleared, ended}
+use Rattle.base.specs.declared.SideSizes.{SideSizes}
+use Rattle.base.specs.declared.Sizes.{Sizes}
 use Rattle.outcome.specs.Structure.{askPlaces, counts}
 use Rattle.outcome.specs.Solve.{solve}
 use Rattle.symbolic.specs.Pass.{slotsOf, foundAnswer, Found, RowLent}

@@ -1,6 +1,6 @@
 -- The lengths that the row form's call hands to question 2. Definitions only.
 use Prim.Native.Nat.{ℕ}
-use Rattle.outcome.specs.Buffers.{Sizes}
+use Rattle.base.specs.declared.Sizes.{Sizes}
 
 abbrev pub rowSizes : ℕ → ℕ → ℕ → ℕ → ℕ → ℕ → ℕ → ℕ → Sizes
 rowSizes us ur ui uv d x w m =

@@ -11,7 +11,8 @@ use Rattle.base.specs.Answers.{andThen}
 use Rattle.base.specs.Limits.{rowsWithin}
 use Rattle.matrix.specs.Input.{Input}
 use Rattle.matrix.specs.Questions.{askStructure, askSolve}
-use Rattle.outcome.specs.Buffers.{SideBuffers, Buffers, allBuffers, Sizes, sizes, patternTests, structureTests, matrixTests, bufferTests, askShape, scratchCleared, Outcome, ended, stop}
+use Rattle.outcome.specs.Buffers.{SideBuffers, Buffers, allBuffers, sizes, patternTests, structureTests, matrixTests, bufferTests, askShape, scratchCleared, Outcome, ended, stop}
+use Rattle.base.specs.declared.Sizes.{Sizes}
 use Rattle.outcome.specs.Structure.{structure}
 use Rattle.outcome.specs.Solve.{shape, solve}
 use Rattle.symbolic.specs.Pass.{foundAnswer}

@@ -8,7 +8,8 @@ use lib.Ieee.{Float}
 use Rattle.base.specs.Lists.{blank, nought}
 use Rattle.base.specs.Answers.{countsOf}
 use Rattle.matrix.specs.Input.{Input, stored}
-use Rattle.outcome.specs.Buffers.{SideBuffers, Buffers, allBuffers, sideBuffers, sideSizes, Sizes, sizes, Outcome, ended}
+use Rattle.outcome.specs.Buffers.{SideBuffers, Buffers, allBuffers, sideBuffers, sideSizes, sizes, Outcome, ended}
+use Rattle.base.specs.declared.Sizes.{Sizes}
 use Rattle.outcome.specs.Structure.{askPlaces, counts, sidePlaced}
 use Rattle.factor.specs.Factoring.{FactoredAs}
 use Rattle.factor.specs.declared.Factored.{Factored}

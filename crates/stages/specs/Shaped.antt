@@ -8,7 +8,8 @@ use lib.Dec.{leb, eqb}
 use Rattle.base.specs.Limits.{maxRows, maxEntries, maxSlots}
 use Rattle.matrix.specs.Input.{Input, inputOf}
 use Rattle.matrix.specs.Questions.{IsOrder, askStructure, askSolve}
-use Rattle.outcome.specs.Buffers.{SideSizes, Sizes}
+use Rattle.base.specs.declared.SideSizes.{SideSizes}
+use Rattle.base.specs.declared.Sizes.{Sizes}
 use Rattle.outcome.specs.Structure.{counts}
 use Rattle.factor.specs.Factoring.{Lists, Written, Factorable}
 use Rattle.factor.specs.declared.Factored.{Factored}

@@ -14,7 +14,9 @@ use Rattle.base.specs.Answers.{andThen}
 use Rattle.fill.specs.Fill.{Pattern}
 use Rattle.base.specs.Limits.{maxRows, rowsWithin}
 use Rattle.matrix.specs.Input.{Input, stored}
-use Rattle.outcome.specs.Buffers.{SideSizes, Sizes, patternTests, matrixTests, listTests, scratchTests, structureTests, bufferTests}
+use Rattle.outcome.specs.Buffers.{patternTests, matrixTests, listTests, scratchTests, structureTests, bufferTests}
+use Rattle.base.specs.declared.SideSizes.{SideSizes}
+use Rattle.base.specs.declared.Sizes.{Sizes}
 use Rattle.outcome.specs.Structure.{fits, askPlace, askPlaces, counts}
 use Rattle.outcome.specs.Placed.{PlacedSide}
 use Rattle.shape.specs.Join.{all-join}

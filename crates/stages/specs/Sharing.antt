@@ -6,7 +6,8 @@ use lib.ListN.{length}
 use lib.Ieee.{Float}
 use Rattle.base.specs.Lists.{blank, nought}
 use Rattle.matrix.specs.Input.{Input, stored}
-use Rattle.outcome.specs.Buffers.{sideBuffers, Sizes}
+use Rattle.outcome.specs.Buffers.{sideBuffers}
+use Rattle.base.specs.declared.Sizes.{Sizes}
 use Rattle.outcome.specs.Placed.{PlacedSide}
 use Rattle.questions.specs.Settled.{Structured}
 use Rattle.symbolic.specs.Pass.{SharedLent}

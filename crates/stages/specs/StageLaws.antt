@@ -8,7 +8,8 @@ use lib.Ieee.{Float}
 use Rattle.base.specs.Lists.{blank, nought}
 use Rattle.base.specs.ZerosLaws.{blank-same}
 use Rattle.matrix.specs.Input.{Input, stored, ownOrder}
-use Rattle.outcome.specs.Buffers.{SideBuffers, Buffers, allBuffers, sideSizes, Sizes, sizes, sideCleared, cleared, Outcome, ended, stop}
+use Rattle.outcome.specs.Buffers.{SideBuffers, Buffers, allBuffers, sideSizes, sizes, sideCleared, cleared, Outcome, ended, stop}
+use Rattle.base.specs.declared.Sizes.{Sizes}
 use Rattle.outcome.specs.Structure.{askPlaces, counts, sidePlaced, structured}
 use Rattle.outcome.specs.Solve.{listed, faultOf, valuesKept, pivotsKept, kept, left}
 use Rattle.outcome.proofs.Finish.{stopped, gone-on}

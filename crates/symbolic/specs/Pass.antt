@@ -21,7 +21,8 @@ use Rattle.rows.specs.Rows.{rowSteps}
 use Rattle.columns.specs.Columns.{Ready}
 use Rattle.columns.specs.Sides.{rowsIn}
 use Rattle.questions.specs.Settled.{Structured}
-use Rattle.outcome.specs.Buffers.{SideSizes, Sizes}
+use Rattle.base.specs.declared.SideSizes.{SideSizes}
+use Rattle.base.specs.declared.Sizes.{Sizes}
 use Rattle.outcome.specs.Structure.{askPlaces, counts}
 use Rattle.outcome.specs.Placed.{PlacedSide}
 use Rattle.placing.specs.Held.{Holding}

@@ -1,5 +1,6 @@
 use Rattle.shape.specs.Join.{all-next}
-use Rattle.outcome.specs.Buffers.{SideSizes, runTests, sideTests}
+use Rattle.outcome.specs.Buffers.{runTests, sideTests}
+use Rattle.base.specs.declared.SideSizes.{SideSizes}
 use mathlib.Core.List.{_++_}
 use native.Mathlib.Omega.{arith}
 use borrow.Author.Needs.{needs}
