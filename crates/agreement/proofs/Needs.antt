@@ -14,7 +14,8 @@ use Rattle.fill.specs.ListLaws.{lower-is-upper, lower-rows-columns}
 use Rattle.placement.specs.Placing.{startOf}
 use Rattle.matrix.specs.Input.{Input, stored}
 use Rattle.outcome.specs.Forms.{indexNeed, valueNeed}
-use Rattle.outcome.specs.Buffers.{Sizes, Buffers, sizes}
+use Rattle.base.specs.declared.Sizes.{Sizes}
+use Rattle.outcome.specs.Buffers.{Buffers, sizes}
 use Rattle.outcome.specs.Structure.{counts, fits}
 use Rattle.outcome.specs.Placed.{lists-kept, value-grows}
 use Rattle.agreement.specs.Demand.{Short, Lacks}

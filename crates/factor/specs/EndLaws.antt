@@ -24,7 +24,7 @@ use Rattle.outcome.specs.Solve.{system, valuesKept, pivotsKept}
 use Rattle.outcome.proofs.Meaning.{listed-stops}
 use Rattle.questions.specs.Lent.{invertedAt}
 use Rattle.questions.specs.ScatterLaws.{placed-front, placed-inverse, placed-rest}
-use Rattle.rows.specs.CutLaws as found
+use Rattle.marks.specs.RenewLaws as found
 use Rattle.numeric.specs.declared.Back.the-variants.{Complete, Stopped}
 use Rattle.numeric.specs.declared.Back.{Back}
 use Rattle.numeric.specs.Stores.{storeGiven, numberedBack}

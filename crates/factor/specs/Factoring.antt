@@ -20,7 +20,7 @@ use Rattle.outcome.specs.Solve.{system, listed, valuesKept, pivotsKept}
 use Rattle.questions.specs.Lent.{SolveLent}
 use Rattle.questions.specs.Settled.{RowIn, Settled}
 use Rattle.marks.specs.Marks as marking
-use Rattle.rows.specs.Rows as found
+use Rattle.marks.specs.Rows as found
 use Rattle.numeric.specs.Stores.{Below, Ascending, Shape, gathered, columns, keepColumns}
 use Rattle.numeric.specs.Rows.{Held, Stacked, lOf, columnOf, InColumns}
 use Rattle.factor.specs.declared.Factored.{Factored}

@@ -16,10 +16,10 @@ use Rattle.questions.specs.SettledLaws.{row-under, stored-is}
 use Rattle.outcome.specs.Placed.{PlacedSide, starts-long, size-at, run-at, run-inside, list-at}
 use Rattle.marks.specs.Marks.{Below, Holds, Base, Parts, Blocks, members, through}
 use Rattle.marks.specs.MarkLaws.{holds-same}
-use Rattle.rows.specs.Rows.{Stored, Held, Loaded, LowerListed, Closing, But, Renewed}
-use Rattle.rows.specs.FillLaws.{held-parts}
-use Rattle.rows.specs.ListLaws.{lower-members, lower-marks, lower-read, lower-but, lower-le}
-use Rattle.rows.specs.Turn.{loaded-cuts, closed-marks, place-turn}
+use Rattle.marks.specs.Rows.{Stored, Held, Loaded, LowerListed, Closing, But, Renewed}
+use Rattle.marks.specs.FillLaws.{held-parts}
+use Rattle.marks.specs.ListLaws.{lower-members, lower-marks, lower-read, lower-but, lower-le}
+use Rattle.marks.specs.Turn.{loaded-cuts, closed-marks, place-turn}
 use Rattle.factor.specs.Factoring.{Lists, Written, Going, patternOf, Findable, Found, lowerIn}
 use Rattle.base.specs.Scratch.{cursorsFrom, listFrom, zFrom}
 

@@ -20,9 +20,9 @@ use Rattle.outcome.specs.Placed.{PlacedSide, start-at, starts-long, size-at, va
 use Rattle.outcome.specs.Forms.{placedTo}
 use Rattle.outcome.specs.Solve.{system}
 use Rattle.marks.specs.MarkLaws.{sets-below}
-use Rattle.rows.specs.Rows as found
-use Rattle.rows.specs.CutLaws.{held-kept}
-use Rattle.rows.specs.ListLaws.{lower-le}
+use Rattle.marks.specs.Rows as found
+use Rattle.marks.specs.RenewLaws.{held-kept}
+use Rattle.marks.specs.ListLaws.{lower-le}
 use Rattle.numeric.specs.declared.Pivot.{Pivot}
 use Rattle.numeric.specs.declared.Pivot.the-variants as pivot
 use Rattle.numeric.specs.Stores.{Closable, gathered, columns, keepColumns}

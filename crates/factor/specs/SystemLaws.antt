@@ -25,7 +25,7 @@ use Rattle.outcome.specs.Solve.{system}
 use Rattle.outcome.specs.Placed.{PlacedSide, starts-long, size-at, values-at, run-at, run-inside, list-at}
 use Rattle.questions.specs.Settled.{Under, Finite, placesAt}
 use Rattle.questions.specs.SettledLaws.{row-under, row-length, stored-is, places-under}
-use Rattle.rows.specs.FillLaws.{upper-below}
+use Rattle.marks.specs.FillLaws.{upper-below}
 use Rattle.numeric.specs.Stores.{Below, Ascending, Shape, Reducible, placesOf}
 use Rattle.numeric.specs.Rows.{filledRow, Closed, Lent}
 use Rattle.numeric.specs.RowLaws.{has-at}

@@ -18,7 +18,7 @@ use Rattle.matrix.specs.OrderLaws.{order-below}
 use Rattle.arithmetic.specs.Arith.{met, zeroPivot, overflow, Row, none}
 use Rattle.outcome.specs.Solve.{system, listed}
 use Rattle.outcome.proofs.Meaning.{listed-stops}
-use Rattle.rows.specs.ListLaws.{lower-le}
+use Rattle.marks.specs.ListLaws.{lower-le}
 use Rattle.numeric.specs.declared.Pivot.{Pivot}
 use Rattle.numeric.specs.declared.Pivot.the-variants.{Kept, Zero, Overflow}
 use Rattle.numeric.specs.Stores.{Below, Closable, gathered}

@@ -69,7 +69,7 @@ fn own_columns<'a>(columns: &'a [Index], starts: &[u32], r: &[Index], k: Place) 
     requires { ⌜ OwnRow (now starts) (now r) (length (now columns)) (k .0) ⌝ }
     ensures { λ p. ⌜ now p ≡ rowOf (now (starts .entry)) (now (columns .entry)) (getD (now (r .entry)) (k .0) 0) ⌝ }
 {
-    let row = rows::own_row(r, k);
+    let row = marks::own_row(r, k);
     let i = row.0 as usize;
     marks::list_part(columns, starts, starts, i)
 }
@@ -78,7 +78,7 @@ fn own_values<'a>(values: &'a [f64], starts: &[u32], r: &[Index], k: Place) -> &
     requires { ⌜ OwnRow (now starts) (now r) (length (now values)) (k .0) ⌝ }
     ensures { λ p. ⌜ now p ≡ rowOf (now (starts .entry)) (now (values .entry)) (getD (now (r .entry)) (k .0) 0) ⌝ }
 {
-    let row = rows::own_row(r, k);
+    let row = marks::own_row(r, k);
     let i = row.0 as usize;
     let from = marks::wide32(starts[i]);
     let to = marks::wide32(starts[i + 1]);
@@ -89,7 +89,7 @@ fn own_right(b: &[f64], r: &[Index], k: Place) -> f64
     requires { ⌜ (k .0 < length (now r)) × (getD (now r) (k .0) 0 < length (now b)) ⌝ }
     ensures { λ s. ⌜ s ≡ getD (now (b .entry)) (getD (now (r .entry)) (k .0) 0) nan ⌝ }
 {
-    let row = rows::own_row(r, k);
+    let row = marks::own_row(r, k);
     let i = row.0 as usize;
     b[i]
 }
@@ -234,9 +234,9 @@ fn find_lower(
 {
     let stamp = k.0 + 1;
     let cuts = scratch::UPPER_CUTS * n;
-    rows::load_row_place(marks, n, stamp, k, columns, starts, r);
-    let below = rows::close_place(marks, n, stamp, k, cuts, uindex, uruns);
-    rows::renew_cuts(marks, n, stamp, k, below, cuts, uindex, uruns, ustarts);
+    marks::load_row_place(marks, n, stamp, k, columns, starts, r);
+    let below = marks::close_place(marks, n, stamp, k, cuts, uindex, uruns);
+    marks::renew_cuts(marks, n, stamp, k, below, cuts, uindex, uruns, ustarts);
     below
 }
 

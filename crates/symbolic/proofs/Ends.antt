@@ -21,8 +21,8 @@ use Rattle.fill.specs.Fill.{Pattern, upperRow, lowerRow, flip}
 use Rattle.fill.specs.ListLaws.{lower-is-upper, lower-rows-columns}
 use Rattle.matrix.specs.Input.{Input, stored}
 use Rattle.placement.specs.Placing.{placed, startOf}
-use Rattle.rows.specs.Rows.{rowSteps}
-use Rattle.rows.specs.ListLaws.{products-rows}
+use Rattle.marks.specs.Rows.{rowSteps}
+use Rattle.marks.specs.ListLaws.{products-rows}
 use Rattle.outcome.specs.Forms.{wayOf, listsOf, rowsOf, placedTo, indexNeed, valueNeed}
 use Rattle.outcome.specs.Structure.{askPlaces, counts}
 use Rattle.outcome.specs.Placed.{RunsAre, PlacedSide}

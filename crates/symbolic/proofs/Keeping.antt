@@ -15,9 +15,9 @@ use Rattle.base.specs.declared.Side.the-variants.{Upper}
 use Rattle.fill.specs.Fill.{Pattern, filled, upperRow, lowerRow, flip}
 use Rattle.placement.specs.PlacingLaws.{room}
 use Rattle.marks.specs.Marks.{ListIn, members}
-use Rattle.rows.specs.Rows.{Stored, Renewed, rowSteps, lengthIn, Countable}
-use Rattle.rows.specs.FillLaws.{upper-below}
-use Rattle.rows.specs.ListLaws.{lower-members, lower-le, upper-le, row-products-is, held-countable, products-fit}
+use Rattle.marks.specs.Rows.{Stored, Renewed, rowSteps, lengthIn, Countable}
+use Rattle.marks.specs.FillLaws.{upper-below}
+use Rattle.marks.specs.ListLaws.{lower-members, lower-le, upper-le, row-products-is, held-countable, products-fit}
 use Rattle.placing.specs.Ways.{wayOf, Suited}
 use Rattle.placing.specs.Slices.{Ready}
 use Rattle.placing.specs.Held.{Holding, RowIs, Turn, Stepped}

@@ -17,7 +17,7 @@ use Rattle.matrix.specs.Input.{Input, stored}
 use Rattle.placement.specs.Placing.{plain}
 use Rattle.placement.specs.PlacingLaws.{room}
 use Rattle.marks.specs.Marks.{Room}
-use Rattle.rows.specs.Rows.{rowSteps}
+use Rattle.marks.specs.Rows.{rowSteps}
 use Rattle.outcome.specs.Structure.{askPlaces}
 use Rattle.placing.specs.Held.{Holding}
 use Rattle.placing.specs.declared.Way.the-variants.{OneAfterAnother}

@@ -17,7 +17,7 @@ use Rattle.fill.specs.Fill.{lowerRow, flip}
 use Rattle.base.specs.Limits.{maxRows, maxEntries}
 use Rattle.matrix.specs.Input.{Input, inputOf, stored}
 use Rattle.marks.specs.Marks.{Fresh}
-use Rattle.rows.specs.Rows.{rowSteps}
+use Rattle.marks.specs.Rows.{rowSteps}
 use Rattle.columns.specs.Columns.{Ready}
 use Rattle.columns.specs.Sides.{rowsIn}
 use Rattle.questions.specs.Settled.{Structured}

@@ -13,7 +13,7 @@ use Rattle.matrix.specs.Input.{Input, inputOf, stored}
 use Rattle.placement.specs.Placing.{plain}
 use Rattle.placement.specs.PlacingLaws.{room}
 use Rattle.marks.specs.Marks.{Room, Base, Fresh, Holds}
-use Rattle.rows.specs.Rows.{Stored, Cuts, Held, But, rowSteps}
+use Rattle.marks.specs.Rows.{Stored, Cuts, Held, But, rowSteps}
 use Rattle.columns.specs.Sides.{sidePattern, SideReady, Inverse, Sound, rowsIn}
 use Rattle.placing.specs.Ways.{wayOf}
 use Rattle.placing.specs.Held.{Holding}

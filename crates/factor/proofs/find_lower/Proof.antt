@@ -6,9 +6,9 @@ use Rattle.factor.proofs.find_lower.Statement.{statement}
 use Rattle.factor.proofs.find_lower.Tie as tie
 use Rattle.factor.proofs.find_lower.Reads as reads
 use Rattle.factor.proofs.find_lower.Lts as lts
-use Rattle.rows.proofs.close_place.Reads as close-place-reads
-use Rattle.rows.proofs.load_row_place.Reads as load-row-place-reads
-use Rattle.rows.proofs.renew_cuts.Reads as renew-cuts-reads
+use Rattle.marks.proofs.close_place.Reads as close-place-reads
+use Rattle.marks.proofs.load_row_place.Reads as load-row-place-reads
+use Rattle.marks.proofs.renew_cuts.Reads as renew-cuts-reads
 
 add-stamp : tie.Need-add-stamp
 add-stamp c = search needs

@@ -8,7 +8,7 @@ use Rattle.factor.proofs.own_columns.Tie as tie
 use Rattle.factor.proofs.own_columns.Reads as reads
 use Rattle.factor.proofs.own_columns.Lts as lts
 use Rattle.marks.proofs.list_part.Reads as list-part-reads
-use Rattle.rows.proofs.own_row.Reads as own-row-reads
+use Rattle.marks.proofs.own_row.Reads as own-row-reads
 
 own-row-requires : tie.Need-own-row-requires
 own-row-requires c κs = search needs

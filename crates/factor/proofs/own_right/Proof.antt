@@ -8,7 +8,7 @@ use Rattle.factor.proofs.own_right.Statement.{statement}
 use Rattle.factor.proofs.own_right.Tie as tie
 use Rattle.factor.proofs.own_right.Reads as reads
 use Rattle.factor.proofs.own_right.Lts as lts
-use Rattle.rows.proofs.own_row.Reads as own-row-reads
+use Rattle.marks.proofs.own_row.Reads as own-row-reads
 
 own-row-requires : tie.Need-own-row-requires
 own-row-requires c κs = search needs

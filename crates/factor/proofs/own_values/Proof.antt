@@ -8,7 +8,7 @@ use Rattle.factor.proofs.own_values.Tie as tie
 use Rattle.factor.proofs.own_values.Reads as reads
 use Rattle.factor.proofs.own_values.Lts as lts
 use Rattle.marks.proofs.wide32.Reads as wide32-reads
-use Rattle.rows.proofs.own_row.Reads as own-row-reads
+use Rattle.marks.proofs.own_row.Reads as own-row-reads
 
 own-row-requires : tie.Need-own-row-requires
 own-row-requires c κs = search needs

@@ -1,8 +1,8 @@
-use Rattle.rows.specs.ListLaws.{closing-is}
+use Rattle.marks.specs.ListLaws.{closing-is}
 use native.Mathlib.Omega.{arith}
 use borrow.Author.Needs.{needs}
-use Rattle.rows.proofs.close_place.Statement.{statement}
-use Rattle.rows.proofs.close_place.Tie as tie
+use Rattle.marks.proofs.close_place.Statement.{statement}
+use Rattle.marks.proofs.close_place.Tie as tie
 
 merge-lower-requires : tie.Need-merge-lower-requires
 merge-lower-requires c κs =

@@ -11,12 +11,12 @@ use lib.Dec.{eqb, ltb}
 use Rattle.base.specs.Lists.{has, listAt}
 use Rattle.base.specs.Tests.{by-test, and-cases}
 use Rattle.fill.specs.Fill.{Pattern, filled, upper, upperRow}
 use Rattle.marks.specs.Marks.{Room, marked, Fresh, Holds, Same, Base, upto, cutOne, visited, newCuts}
 use Rattle.marks.specs.VisitLaws.{visited-keeps}
 use Rattle.marks.specs.CutLaws.{cut-other, cut-length, cut-free}
-use Rattle.rows.specs.Rows.{Stored, CutAt, uncut, behind, Cuts, Held, But, Renewed}
-use Rattle.rows.specs.AscCuts.{upto-none}
-use Rattle.rows.specs.FillLaws.{has-upper, upper-length}
+use Rattle.marks.specs.Rows.{Stored, CutAt, uncut, behind, Cuts, Held, But, Renewed}
+use Rattle.marks.specs.AscCuts.{upto-none}
+use Rattle.marks.specs.FillLaws.{has-upper, upper-length}
 
 -- ---- what keeps the cuts
 

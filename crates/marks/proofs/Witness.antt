@@ -7,10 +7,10 @@ use native.Mathlib.Omega.{arith}
 use lib.ListN.{getD, take, drop}
 use Rattle.base.specs.Lists.{listAt, asc}
 use Rattle.fill.specs.Fill.{Pattern, reach, filled, upper, upperRow, lowerRow}
 use Rattle.marks.specs.Marks.{Room, Base, Fresh, chosen, members, ListIn, Parts}
-use Rattle.rows.specs.Rows.{CutAt, uncut, Held, Countable}
-use Rattle.rows.specs.FillLaws.{held-parts}
-use Rattle.rows.specs.ListLaws.{held-countable}
+use Rattle.marks.specs.Rows.{CutAt, uncut, Held, Countable}
+use Rattle.marks.specs.FillLaws.{held-parts}
+use Rattle.marks.specs.ListLaws.{held-countable}
 
 abbrev full : Pattern
 full i j = true

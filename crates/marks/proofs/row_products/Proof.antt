@@ -1,10 +1,10 @@
-use Rattle.rows.specs.ListLaws.{Added, added-start, added-more, added-end, countable-at}
+use Rattle.marks.specs.ListLaws.{Added, added-start, added-more, added-end, countable-at}
 use Prim.Native.Nat.{_-_}
 use lib.ListN.{length}
 use native.Mathlib.Omega.{arith}
 use borrow.Author.Needs.{needs}
-use Rattle.rows.proofs.row_products.Statement.{statement}
-use Rattle.rows.proofs.row_products.Tie as tie
+use Rattle.marks.proofs.row_products.Statement.{statement}
+use Rattle.marks.proofs.row_products.Tie as tie
 
 abbrev Inv-loop : tie.InvT-loop
 Inv-loop list starts sum₀ p₀ sum p = Added list starts p sum

@@ -1,7 +1,7 @@
-use Rattle.rows.specs.CutLaws.{renewed-is}
+use Rattle.marks.specs.RenewLaws.{renewed-is}
 use borrow.Author.Needs.{needs}
-use Rattle.rows.proofs.renew_cuts.Statement.{statement}
-use Rattle.rows.proofs.renew_cuts.Tie as tie
+use Rattle.marks.proofs.renew_cuts.Statement.{statement}
+use Rattle.marks.proofs.renew_cuts.Tie as tie
 
 returns : tie.Need-returns
 returns c =

@@ -1,8 +1,8 @@
-use Rattle.rows.specs.ListLaws.{upper-listed}
+use Rattle.marks.specs.ListLaws.{upper-listed}
 use native.Mathlib.Omega.{arith}
 use borrow.Author.Needs.{needs}
-use Rattle.rows.proofs.list_upper.Statement.{statement}
-use Rattle.rows.proofs.list_upper.Tie as tie
+use Rattle.marks.proofs.list_upper.Statement.{statement}
+use Rattle.marks.proofs.list_upper.Tie as tie
 
 add-gather-2 : tie.Need-add-gather-2
 add-gather-2 c = let q = c .before .before .before .pre .0 in omega (arith, q .0, q .1, q .2 .small)

@@ -1,10 +1,10 @@
 use Rattle.base.specs.Lists.{rowOf}
 use mathlib.Core.Path.{_≡_, _∙_, ap}
 use lib.ListN.{getD}
-use Rattle.rows.specs.FillLaws.{list-in-at, loaded-is}
+use Rattle.marks.specs.FillLaws.{list-in-at, loaded-is}
 use borrow.Author.Needs.{needs}
-use Rattle.rows.proofs.load_row_place.Statement.{statement}
-use Rattle.rows.proofs.load_row_place.Tie as tie
+use Rattle.marks.proofs.load_row_place.Statement.{statement}
+use Rattle.marks.proofs.load_row_place.Tie as tie
 
 abbrev Begin : tie.After-list-part → tie.Start
 Begin c = c .before .before .before .before .before .before .before

@@ -13,12 +13,12 @@ use Rattle.base.specs.Tests.{by-test, and-cases}
 use Rattle.base.specs.AscLaws.{has-asc, asc-at, length-asc}
 use Rattle.fill.specs.Fill.{Pattern, filled, upper, upperRow}
 use Rattle.fill.specs.Prune.{Pair, Cut, entire, short, pruned, pruned-filled}
 use Rattle.marks.specs.Marks.{Below, Above, Room, stamped, marked, Holds, Same, ListIn, partAt, Parts, through, upto, visited, unite}
 use Rattle.marks.specs.MarkLaws.{room-kept, stamped-length, holds-same, holds-stamped, holds-list, same-after, through-below}
 use Rattle.marks.specs.VisitLaws.{visited-keeps}
 use Rattle.marks.specs.CutLaws.{upto-le}
-use Rattle.rows.specs.Rows.{Stored, CutAt, uncut, behind, Cuts, Loaded, Closed}
-use Rattle.rows.specs.AscCuts.{has-take, upto-part}
+use Rattle.marks.specs.Rows.{Stored, CutAt, uncut, behind, Cuts, Loaded, Closed}
+use Rattle.marks.specs.AscCuts.{has-take, upto-part}
 
 -- ---- T(i) as a set and as a list
 

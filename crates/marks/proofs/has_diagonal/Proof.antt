@@ -1,7 +1,7 @@
 use mathlib.Core.Path.{refl}
 use borrow.Author.Needs.{needs}
-use Rattle.rows.proofs.has_diagonal.Statement.{statement}
-use Rattle.rows.proofs.has_diagonal.Tie as tie
+use Rattle.marks.proofs.has_diagonal.Statement.{statement}
+use Rattle.marks.proofs.has_diagonal.Tie as tie
 
 returns : tie.Need-returns
 returns c = (refl, λ n P l h. h .exact _ l)
