@@ -57,7 +57,7 @@ unfolding system
 going-start {f} {i} {L} {w} F eu ew lower inv find = record {
   given = F;
   rows = [];
-  held = held-start (system i) (i .n) (w .work) (L .upper-index) (L .upper-runs) (L .upper-starts) (w .upper) refl
+  held = held-start (system i) (i .n) (w .work) (L .upper-starts) (L .upper-runs) (L .upper-index) (w .upper) refl
       (λ j b. sym (list-at f Upper (stored i) (i .n) (L .upper-starts) (L .upper-runs) (L .upper-index) (length (w .upper)) (F .upper-side) j b))
       (ew ∙ ap (λ (m : ℕ). replicate m nought) (F .scratch)) eu;
   pivots = λ j b. absurd (omega arith);
@@ -206,7 +206,7 @@ lower-kept ByRow i L rows cursors l S h = rw (h, joined-none (i .n))
 
 module _ {f : Form} {i : Input} {L : Lists} {w : Written} (G : Going f i L (i .n) w) where
   -- what the back steps ask
-  pub back-ready : BackReady (i .n) (L .upper-index) (L .upper-runs) (L .upper-starts) (length (w .upper)) (w .work)
+  pub back-ready : BackReady (i .n) (L .upper-starts) (L .upper-runs) (L .upper-index) (length (w .upper)) (w .work)
   back-ready = record {
     few = omega (arith, G .given .lent .lent .orders .few);
     scratch = G .given .scratch;
@@ -229,7 +229,7 @@ module _ {f : Form} {i : Input} {L : Lists} {w : Written} (G : Going f i L (i .n
         solution = refl;
       }
 
-  pub going-end : (z : List Float) (r : Factored) → backAs z r ≡ back (storeGiven (i .n) (w .work) (L .upper-index) (L .upper-runs) (L .upper-starts) (w .upper)) (i .n) (drop (zFrom (i .n)) (w .work))
+  pub going-end : (z : List Float) (r : Factored) → backAs z r ≡ back (storeGiven (i .n) (w .work) (L .upper-starts) (L .upper-runs) (L .upper-index) (w .upper)) (i .n) (drop (zFrom (i .n)) (w .work))
       → FactoredAs f i r (w .lower) (w .upper) (w .d) z
   unfolding FactoredAs
   going-end z Solved e = (record { rows = G .rows; z = z }, listed-stops i ∙ held-solved (G .held) z Complete e refl, factors z)

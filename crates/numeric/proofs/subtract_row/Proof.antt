@@ -5,13 +5,13 @@ use denote.Ref.{now}
 use mathlib.Core.Path.{_≡_, sym, _∙_, refl}
 use native.Mathlib.Omega.{arith}
 use borrow.Author.Needs.{needs}
-use Rattle.numeric.proofs.step_at.Statement.{statement}
-use Rattle.numeric.proofs.step_at.Tie as tie
-use Rattle.numeric.proofs.step_at.Reads as reads
-use Rattle.numeric.proofs.step_at.Lts as lts
+use Rattle.numeric.proofs.subtract_row.Statement.{statement}
+use Rattle.numeric.proofs.subtract_row.Tie as tie
+use Rattle.numeric.proofs.subtract_row.Reads as reads
+use Rattle.numeric.proofs.subtract_row.Lts as lts
 use Rattle.numeric.proofs.axpy.Reads as axpy-reads
-use Rattle.numeric.proofs.index_part.Reads as index-part-reads
-use Rattle.numeric.proofs.values_part.Reads as values-part-reads
+use Rattle.lent.proofs.list_at.Reads as list-at-reads
+use Rattle.lent.proofs.values_at.Reads as values-at-reads
 
 mul-m : tie.Need-mul-m
 mul-m c = search needs
@@ -28,11 +28,11 @@ mul-y c = search needs
 slice-read-y : tie.Need-slice-read-y
 slice-read-y c = search needs
 
-index-part-requires : tie.Need-index-part-requires
-index-part-requires c κs = c .before .before .before .before .before .before .before .pre .2 .list (c .before .before .before .before .before .before .before .args .i) (c .before .before .before .before .before .before .before .pre .0)
+list-at-requires : tie.Need-list-at-requires
+list-at-requires c κs = c .before .before .before .before .before .before .before .pre .2 .list (c .before .before .before .before .before .before .before .args .i) (c .before .before .before .before .before .before .before .pre .0)
 
-values-part-requires : tie.Need-values-part-requires
-values-part-requires c κs = c .before .before .before .before .before .before .before .before .pre .2 .values (c .before .before .before .before .before .before .before .before .args .i) (c .before .before .before .before .before .before .before .before .pre .0)
+values-at-requires : tie.Need-values-at-requires
+values-at-requires c κs = c .before .before .before .before .before .before .before .before .pre .2 .values (c .before .before .before .before .before .before .before .before .args .i) (c .before .before .before .before .before .before .before .before .pre .0)
 
 slice-relend-prefix-axpy : tie.Need-slice-relend-prefix-axpy
 slice-relend-prefix-axpy c = search needs
@@ -44,7 +44,7 @@ axpy-requires : tie.Need-axpy-requires
 axpy-requires c κs =
     let a = c .before .before .before .before .before .before .before .before .before .before .args in
     let s = c .before .before .before .before .before .before .before .before .before .before .pre in
-    let r = ready (a .n) (a .i) (now (a .upper)) (now (a .runs)) (now (a .starts)) (now (a .u)) _ _ (s .2) (s .0) (c .before .before .index-part .ensures) (c .before .values-part .ensures) in
+    let r = ready (a .n) (a .i) (now (a .starts)) (now (a .runs)) (now (a .upper)) (now (a .u)) _ _ (s .2) (s .0) (c .before .before .list-at .ensures) (c .before .values-at .ensures) in
     (r .0, rw (length-take-le (a .n) (now (a .f)) (omega (arith, s .1))) (r .1))
 
 same-length : tie.Need-same-length
@@ -53,11 +53,11 @@ same-length c = search needs
 returns : tie.Need-returns
 returns c =
     let a = c .before .before .before .before .before .before .before .before .before .before .before .before .before .before .args in
-    stepped (a .n) (a .i) (now (a .f)) (now (a .upper)) (now (a .runs)) (now (a .starts)) (now (a .u)) (a .row) _ _ (c .before .before .before .axpy .last .0)
-    (c .before .before .before .before .before .before .index-part .ensures) (c .before .before .before .before .before .values-part .ensures) (c .before .before .before .axpy .ensures) (c .before .before .before .axpy .kept .0) (c .before .before .before .before .before .before .before .before .before .before .before .before .before .before .pre .1)
+    stepped (a .n) (a .i) (now (a .f)) (now (a .starts)) (now (a .runs)) (now (a .upper)) (now (a .u)) (a .row) _ _ (c .before .before .before .axpy .last .0)
+    (c .before .before .before .before .before .before .list-at .ensures) (c .before .before .before .before .before .values-at .ensures) (c .before .before .before .axpy .ensures) (c .before .before .before .axpy .kept .0) (c .before .before .before .before .before .before .before .before .before .before .before .before .before .before .pre .1)
 
-pub step-at-spec : {M : Type 1} → statement M
-step-at-spec =
+pub subtract-row-spec : {M : Type 1} → statement M
+subtract-row-spec =
     tie.close
     (tie.spec
     mul-m
@@ -65,8 +65,8 @@ step-at-spec =
     add-y
     mul-y
     slice-read-y
-    index-part-requires
-    values-part-requires
+    list-at-requires
+    values-at-requires
     slice-relend-prefix-axpy
     slice-aggregate-axpy
     axpy-requires

@@ -6,11 +6,11 @@ use mathlib.Core.Path.{_≡_, refl, sym, _∙_}
 use Prim.Native.Nat.{_≤_, _<_, _-_}
 use borrow.Author.Needs.{needs}
 use native.Mathlib.Omega.{arith}
-use Rattle.numeric.proofs.less_products.Statement.{statement}
-use Rattle.numeric.proofs.less_products.Tie as tie
-use Rattle.numeric.proofs.less_products.Reads as reads
-use Rattle.numeric.proofs.less_products.Lts as lts
-use Rattle.numeric.proofs.wide16.Reads as wide16-reads
+use Rattle.numeric.proofs.subtract_products.Statement.{statement}
+use Rattle.numeric.proofs.subtract_products.Tie as tie
+use Rattle.numeric.proofs.subtract_products.Reads as reads
+use Rattle.numeric.proofs.subtract_products.Lts as lts
+use Rattle.base.proofs.wide.Reads as wide-reads
 
 abbrev Inv-loop : tie.InvT-loop
 Inv-loop t places factors z s₀ p₀ s p = (p ≤ length places) × (rest any s (drop p places) (drop p factors) z ≡ rest any t places factors z)
@@ -21,14 +21,14 @@ abbrev μ-loop : tie.MeasureT-loop
 loop-holds : tie.Need-loop-holds Inv-loop μ-loop
 loop-holds c = search needs
 
-mul-wide16 : tie.Need-mul-wide16 Inv-loop μ-loop
-mul-wide16 c = search needs
+mul-wide : tie.Need-mul-wide Inv-loop μ-loop
+mul-wide c = search needs
 
-shared-slice-read-wide16 : tie.Need-shared-slice-read-wide16 Inv-loop μ-loop
-shared-slice-read-wide16 c = search needs
+shared-slice-read-wide : tie.Need-shared-slice-read-wide Inv-loop μ-loop
+shared-slice-read-wide c = search needs
 
-wide16-requires : tie.Need-wide16-requires Inv-loop μ-loop
-wide16-requires c κs = search needs
+wide-requires : tie.Need-wide-requires Inv-loop μ-loop
+wide-requires c κs = search needs
 
 mul-s : tie.Need-mul-s Inv-loop μ-loop
 mul-s c = search needs
@@ -37,10 +37,10 @@ shared-slice-read-s : tie.Need-shared-slice-read-s Inv-loop μ-loop
 shared-slice-read-s c = search needs
 
 mul-s-2 : tie.Need-mul-s-2 Inv-loop μ-loop
-mul-s-2 c = omega (arith, c .before .wide16 .ensures, c .before .before .before .before .before .before .before .before .pre .1 (c .before .before .before .before .loop .p) (c .before .before .before .loop-test .taken))
+mul-s-2 c = omega (arith, c .before .wide .ensures .0, c .before .before .before .before .before .before .before .before .pre .1 (c .before .before .before .before .loop .p) (c .before .before .before .loop-test .taken))
 
 shared-slice-read-s-2 : tie.Need-shared-slice-read-s-2 Inv-loop μ-loop
-shared-slice-read-s-2 c = rw (c .before .before .wide16 .ensures) (c .before .before .before .before .before .before .before .before .before .pre .1 (c .before .before .before .before .before .loop .p) (c .before .before .before .before .loop-test .taken))
+shared-slice-read-s-2 c = rw (c .before .before .wide .ensures .0) (c .before .before .before .before .before .before .before .before .before .pre .1 (c .before .before .before .before .before .loop .p) (c .before .before .before .before .loop-test .taken))
 
 add-p : tie.Need-add-p Inv-loop μ-loop
 add-p c = search needs
@@ -52,7 +52,7 @@ loop-again : tie.Need-loop-again Inv-loop μ-loop
 loop-again c =
     let a = c .before .before .before .before .before .before .before .before .before .args in
     let l = c .before .before .before .before .before .loop in
-    (omega arith, rest-turn (now (a .places)) (now (a .factors)) (now (a .z)) (l .s) (l .p) _ (c .before .before .wide16 .ensures) (omega arith) (omega arith) ∙ l .inv .1)
+    (omega arith, rest-turn (now (a .places)) (now (a .factors)) (now (a .z)) (l .s) (l .p) _ (c .before .before .wide .ensures .0) (omega arith) (omega arith) ∙ l .inv .1)
 
 returns : tie.Need-returns Inv-loop μ-loop
 returns c =
@@ -60,16 +60,16 @@ returns c =
     let l = c .before .loop in
     sym (l .inv .1) ∙ rest-end (now (a .places)) (now (a .factors)) (now (a .z)) (l .s) (l .p) (omega arith)
 
-pub less-products-spec : {M : Type 1} → statement M
-less-products-spec =
+pub subtract-products-spec : {M : Type 1} → statement M
+subtract-products-spec =
     tie.close
     (tie.spec
     Inv-loop
     μ-loop
     loop-holds
-    mul-wide16
-    shared-slice-read-wide16
-    wide16-requires
+    mul-wide
+    shared-slice-read-wide
+    wide-requires
     mul-s
     shared-slice-read-s
     mul-s-2
