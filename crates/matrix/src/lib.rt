@@ -1,6 +1,6 @@
 // The matrix type: its limits, and the shape of a matrix within them.
 ghost use mathlib.Core.Path.{_≡_};
-ghost use Rattle.base.specs.Limits.{maxRows, maxEntries, maxSlots};
+ghost use Rattle.base.specs.Limits.{maxRows, maxEntries, maxSlots, rowsWithin};
 ghost use Rattle.matrix.specs.Shape.{shapeOf};
 use base::Refusal;
 
@@ -20,17 +20,27 @@ pub enum Shaped {
 pub struct Limits(pub usize, pub usize, pub usize);
 
 impl Matrix {
+    // The greatest n.
     pub const MAX_ROWS: usize = 4096;
 
+    // The greatest e.
     pub const MAX_ENTRIES: usize = 65536;
 
+    // The greatest number of slots of a store.
     pub const MAX_SLOTS: usize = 1048576;
+
+    // Question 1: whether n is within its limits.
+    pub fn rows_within(n: usize) -> bool
+        ensures { λ b. ⌜ b ≡ rowsWithin n ⌝ }
+    {
+        (1 <= n) & (n <= Self::MAX_ROWS)
+    }
 
     // The shape of n rows and e entries: refusal 1 for n, 2 for e.
     pub fn new(n: usize, e: usize) -> Shaped
         ensures { λ r. ⌜ r ≡ shapeOf n e ⌝ }
     {
-        if (1 <= n) & (n <= Self::MAX_ROWS) {
+        if Self::rows_within(n) {
             if e <= Self::MAX_ENTRIES {
                 return Shaped::Shape(Matrix {
                     rows: n,

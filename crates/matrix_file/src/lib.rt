@@ -4,7 +4,7 @@ ghost use mathlib.Core.List.{_++_};
 ghost use Prim.Native.Nat.{ℕ, _+_, _*_, _≤_, _<_};
 ghost use lib.ListN.{length};
 ghost use Rattle.base.specs.declared.Asked.the-variants.{Pass};
-ghost use Rattle.base.specs.Limits.{maxRows, rowsWithin};
+ghost use Rattle.base.specs.Limits.{maxRows};
 ghost use Rattle.matrix.specs.Input.{inputOf};
 ghost use Rattle.fields.specs.Numbers.{stream};
 ghost use Rattle.fields.specs.Payload.{room, payloads};
@@ -33,13 +33,6 @@ pub fn sizes_of(file: &[u8]) -> Sizes
     Sizes { n, e }
 }
 
-// Question 1.
-fn rows_within(n: usize) -> bool
-    ensures { λ r. ⌜ r ≡ rowsWithin n ⌝ }
-{
-    (1 <= n) & (n <= Matrix::MAX_ROWS)
-}
-
 // Question 18.
 fn fits_shape(file: &[u8], n: usize, e: usize) -> bool
     requires { ⌜ n ≤ maxRows ⌝ }
@@ -55,7 +48,7 @@ fn fits_shape(file: &[u8], n: usize, e: usize) -> bool
 fn ask_head(file: &[u8], n: usize, e: usize) -> Asked
     ensures { λ r. ⌜ r ≡ askHead (now (file .entry)) n e ⌝ }
 {
-    if !rows_within(n) {
+    if !Matrix::rows_within(n) {
         return Asked::Stop(Refusal::Rows);
     }
     if !fits_shape(file, n, e) {
@@ -219,7 +212,7 @@ fn ask_write(
 ) -> Asked
     ensures { λ a. ⌜ a ≡ askLengths n e starts values r c b len ⌝ }
 {
-    if !rows_within(n) {
+    if !Matrix::rows_within(n) {
         return Asked::Stop(Refusal::Rows);
     }
     if Matrix::MAX_ENTRIES < e {

@@ -88,23 +88,36 @@ orderTests i = eqb (length (i .r)) (i .n) ∷ eqb (length (i .c)) (i .n) ∷ []
 abbrev pub patternTests : Input → List Bool
 patternTests i = eqb (length (i .starts)) (i .n + 1) ∷ leb (length (i .columns)) maxEntries ∷ orderTests i
 
+abbrev pub numberTests : Input → List Bool
+numberTests i = eqb (length (i .values)) (length (i .columns)) ∷ eqb (length (i .b)) (i .n) ∷ []
+
 abbrev pub matrixTests : Input → List Bool
-matrixTests i = patternTests i ++ (eqb (length (i .values)) (length (i .columns)) ∷ eqb (length (i .b)) (i .n) ∷ [])
+matrixTests i = patternTests i ++ numberTests i
 
 -- another right side is lent r, c and b only
 abbrev pub rightTests : Input → List Bool
 rightTests i = orderTests i ++ (eqb (length (i .b)) (i .n) ∷ [])
 
-abbrev pub sideTests : ℕ → SideSizes → List Bool
-sideTests n z = eqb (z .starts) (n + 1) ∷ leb (z .index) maxSlots ∷ leb (z .values) maxSlots ∷ []
+-- "the shared form has n run starts besides": the plain form none
+abbrev pub runTests : Form → ℕ → SideSizes → List Bool
+runTests Plain n z = []
+runTests Shared n z = eqb (z .runs) n ∷ []
+runTests ByRow n z = eqb (z .runs) n ∷ []
 
-abbrev pub runTests : ℕ → SideSizes → List Bool
-runTests n z = eqb (z .runs) n ∷ []
+abbrev pub sideTests : Form → ℕ → SideSizes → List Bool
+sideTests f n z = eqb (z .starts) (n + 1) ∷ leb (z .index) maxSlots ∷ leb (z .values) maxSlots ∷ runTests f n z
+
+-- "The row form is lent the shared form's upper side and d": no lower side
+abbrev pub lowerTests : Form → ℕ → SideSizes → List Bool
+lowerTests Plain n z = sideTests Plain n z
+lowerTests Shared n z = sideTests Shared n z
+lowerTests ByRow n z = []
 
 abbrev pub listTests : Form → ℕ → Sizes → List Bool
-listTests Plain n z = sideTests n (z .lower) ++ sideTests n (z .upper)
-listTests Shared n z = sideTests n (z .lower) ++ runTests n (z .lower) ++ sideTests n (z .upper) ++ runTests n (z .upper)
-listTests ByRow n z = sideTests n (z .upper) ++ runTests n (z .upper)
+listTests f n z = lowerTests f n (z .lower) ++ sideTests f n (z .upper)
+
+abbrev pub vectorTests : ℕ → Sizes → List Bool
+vectorTests n z = eqb (z .d) n ∷ eqb (z .x) n ∷ []
 
 -- "Scratch: 3n binary64 and 8n + 8 32-bit slots"
 abbrev pub scratchTests : ℕ → Sizes → List Bool
@@ -116,7 +129,7 @@ structureTests f n z = listTests f n z ++ scratchTests n z
 
 -- solve, refactor and another right side
 abbrev pub bufferTests : Form → ℕ → Sizes → List Bool
-bufferTests f n z = listTests f n z ++ (eqb (z .d) n ∷ eqb (z .x) n ∷ []) ++ scratchTests n z
+bufferTests f n z = listTests f n z ++ vectorTests n z ++ scratchTests n z
 
 -- questions 1 and 2
 unfoldable pub askShape : ℕ → List Bool → Asked

@@ -27,7 +27,7 @@ use Rattle.stages.specs.Branches.{isRefused}
 use Rattle.stages.specs.Asking.{Blanked, StructureAsking, SolveAsking, structure-goes, solve-goes}
 use Rattle.stages.specs.Ends.{sideLists, Unplaced, structure-ends, solve-refuses}
 use Rattle.stages.specs.Stages.{solveFactored}
-use Rattle.stages.specs.Shaped.{pattern, SolveDue, FactorDue, faultAsked}
+use Rattle.stages.specs.Shaped.{sizesOf, pattern, SolveDue, FactorDue, faultAsked}
 use Rattle.stages.specs.ShapedLaws.{factor-due}
 use Rattle.stages.specs.StageLaws.{blank-of, found-done, found-pattern, solve-go, factored-done, kept-is}
 use Rattle.base.specs.Scratch.{zFrom}
@@ -63,7 +63,7 @@ plain-refused i ls₀ li₀ us₀ ui₀ m₀ ls li us ui t m m′ lv₀ uv₀ d�
 
 -- what the structure pass of a solve hands on to the arithmetic
 pub plain-due : (i : Input) (ls li us ui m : List ℕ) (lv uv d w : List Float) (z : Sizes) (l u : SideSizes) (x w₀ m₀ : ℕ) (a : Answer) (k : Counts)
-    → SolveDue Plain i (record { lower = l; upper = u; d = length d; x = x; work = w₀; marks = m₀ })
+    → SolveDue Plain i (sizesOf l u (length d) x w₀ m₀)
     → FoundBoth Plain (pattern i) z ls ls li (length lv) us us ui (length uv) a → a ≡ Done k → length w ≡ w₀ → length m ≡ m₀
     → FactorDue Plain i (lists ls li us us ui) (written lv uv d w m) x k
 plain-due i ls li us ui m lv uv d w z l u x w₀ m₀ a k h f e ew em =

@@ -1,213 +1,28 @@
 // The calls of the plain form. Their stages are in stages/specs: Asking for questions 1 to 8, Stages and Ends for what is left of a call after them.
 ghost use mathlib.Core.Path.{_≡_};
-ghost use mathlib.Core.List.{[], _++_};
-ghost use Prim.Native.Nat.{_≤_};
+ghost use mathlib.Core.List.{[]};
 ghost use lib.ListN.{length};
-ghost use Rattle.base.specs.All.{all};
-ghost use Rattle.base.specs.declared.Form.{Form};
-ghost use Rattle.base.specs.Limits.{maxRows};
+ghost use Rattle.base.specs.declared.Form.the-variants.{Plain};
 ghost use Rattle.matrix.specs.Input.{inputOf};
-ghost use Rattle.outcome.specs.Buffers.{plainBuffers, ended, listTests, structureTests, bufferTests};
+ghost use Rattle.outcome.specs.Buffers.{plainBuffers, ended};
 ghost use Rattle.outcome.specs.Structure.{structure};
 ghost use Rattle.outcome.specs.Solve.{Solves};
 ghost use Rattle.symbolic.specs.Pass.{slotsOf, PlainLent, FoundBoth};
 ghost use Rattle.factor.specs.Factoring.{lists, written};
 ghost use Rattle.stages.specs.Stages.{solveFactored};
-ghost use Rattle.stages.specs.Shaped.{patternSizes, numberSizes, plainSizes, FactorDue};
-ghost use Rattle.stages.specs.Asking.{StructureAsking, SolveAsking};
+ghost use Rattle.stages.specs.Shaped.{FactorDue};
 ghost use Rattle.stages.specs.Ends.{sideLists, Unplaced};
 use base::Answer;
-use base::Asked;
 use base::Counts;
+use base::Form;
 use base::Index;
-use base::Refusal;
-
-// ---- question 2
-
-// The two sides of the plain form.
-fn plain_sides_fit(
-    n: usize,
-    lower_starts: usize,
-    lower_index: usize,
-    lower_values: usize,
-    upper_starts: usize,
-    upper_index: usize,
-    upper_values: usize,
-) -> bool
-    requires { ⌜ n ≤ maxRows ⌝ }
-    ensures { λ b. ⌜ b ≡ all (listTests Form.Plain n (plainSizes «lower_starts» «lower_index» «lower_values» «upper_starts» «upper_index» «upper_values» 0 0 0 0)) ⌝ }
-{
-    let lower = shape::side_fits(n, lower_starts, lower_index, lower_values);
-    let upper = shape::side_fits(n, upper_starts, upper_index, upper_values);
-    lower & upper
-}
-
-// A plain structure call's.
-fn structure_plain_fits(
-    n: usize,
-    starts: usize,
-    columns: usize,
-    r: usize,
-    c: usize,
-    lower_starts: usize,
-    lower_index: usize,
-    lower_values: usize,
-    upper_starts: usize,
-    upper_index: usize,
-    upper_values: usize,
-    work: usize,
-    marks: usize,
-) -> bool
-    requires { ⌜ n ≤ maxRows ⌝ }
-    ensures { λ b. ⌜ b ≡ all (patternSizes n starts columns r c ++ structureTests Form.Plain n (plainSizes «lower_starts» «lower_index» «lower_values» «upper_starts» «upper_index» «upper_values» 0 0 work marks)) ⌝ }
-{
-    let pattern = shape::pattern_fits(n, starts, columns, r, c);
-    let sides = plain_sides_fit(
-        n,
-        lower_starts,
-        lower_index,
-        lower_values,
-        upper_starts,
-        upper_index,
-        upper_values,
-    );
-    let scratch = shape::scratch_fits(n, work, marks);
-    pattern & (sides & scratch)
-}
-
-// A plain solve's question 2.
-fn solve_plain_fits(
-    n: usize,
-    starts: usize,
-    columns: usize,
-    values: usize,
-    r: usize,
-    c: usize,
-    b: usize,
-    lower_starts: usize,
-    lower_index: usize,
-    lower_values: usize,
-    upper_starts: usize,
-    upper_index: usize,
-    upper_values: usize,
-    d: usize,
-    x: usize,
-    work: usize,
-    marks: usize,
-) -> bool
-    requires { ⌜ n ≤ maxRows ⌝ }
-    ensures { λ t. ⌜ t ≡ all ((patternSizes n starts columns r c ++ numberSizes n columns values b) ++ bufferTests Form.Plain n (plainSizes «lower_starts» «lower_index» «lower_values» «upper_starts» «upper_index» «upper_values» d x work marks)) ⌝ }
-{
-    let pattern = shape::pattern_fits(n, starts, columns, r, c);
-    let numbers = shape::values_fit(n, columns, values, b);
-    let sides = plain_sides_fit(
-        n,
-        lower_starts,
-        lower_index,
-        lower_values,
-        upper_starts,
-        upper_index,
-        upper_values,
-    );
-    let vectors = shape::vectors_fit(n, d, x);
-    let scratch = shape::scratch_fits(n, work, marks);
-    (pattern & numbers) & (sides & (vectors & scratch))
-}
-
-// ---- questions 1 to 8, from the lengths of what a call is lent
-
-fn ask_structure_plain(
-    n: usize,
-    starts: &[u32],
-    columns: &[Index],
-    r: &[Index],
-    c: &[Index],
-    lower_starts: usize,
-    lower_index: usize,
-    lower_values: usize,
-    upper_starts: usize,
-    upper_index: usize,
-    upper_values: usize,
-    work: &mut [f64],
-    marks: &mut [u32],
-) -> Asked
-    ensures { λ a. ⌜ StructureAsking Form.Plain (inputOf n (now (starts .entry)) (now (columns .entry)) [] (now (r .entry)) (now (c .entry)) []) (plainSizes «lower_starts» «lower_index» «lower_values» «upper_starts» «upper_index» «upper_values» 0 0 (length (now (work .entry))) (length (now (marks .entry)))) (now (work .entry)) (now (marks .entry)) (now (work .exit)) (now (marks .exit)) a ⌝ }
-{
-    if shape::rows_within(n) {
-        if structure_plain_fits(
-            n,
-            starts.len(),
-            columns.len(),
-            r.len(),
-            c.len(),
-            lower_starts,
-            lower_index,
-            lower_values,
-            upper_starts,
-            upper_index,
-            upper_values,
-            work.len(),
-            marks.len(),
-        ) {
-            return stages::ask_structure(n, starts, columns, r, c, work, marks);
-        }
-        return Asked::Stop(Refusal::Lengths);
-    }
-    Asked::Stop(Refusal::Rows)
-}
-
-fn ask_solve_plain(
-    n: usize,
-    starts: &[u32],
-    columns: &[Index],
-    values: &[f64],
-    r: &[Index],
-    c: &[Index],
-    b: &[f64],
-    lower_starts: usize,
-    lower_index: usize,
-    lower_values: usize,
-    upper_starts: usize,
-    upper_index: usize,
-    upper_values: usize,
-    d: usize,
-    x: usize,
-    work: &mut [f64],
-    marks: &mut [u32],
-) -> Asked
-    ensures { λ a. ⌜ SolveAsking Form.Plain (inputOf n (now (starts .entry)) (now (columns .entry)) (now (values .entry)) (now (r .entry)) (now (c .entry)) (now (b .entry))) (plainSizes «lower_starts» «lower_index» «lower_values» «upper_starts» «upper_index» «upper_values» d x (length (now (work .entry))) (length (now (marks .entry)))) (now (work .entry)) (now (marks .entry)) (now (work .exit)) (now (marks .exit)) a ⌝ }
-{
-    if shape::rows_within(n) {
-        if solve_plain_fits(
-            n,
-            starts.len(),
-            columns.len(),
-            values.len(),
-            r.len(),
-            c.len(),
-            b.len(),
-            lower_starts,
-            lower_index,
-            lower_values,
-            upper_starts,
-            upper_index,
-            upper_values,
-            d,
-            x,
-            work.len(),
-            marks.len(),
-        ) {
-            return stages::ask_solve(n, starts, columns, values, r, c, b, work, marks);
-        }
-        return Asked::Stop(Refusal::Lengths);
-    }
-    Asked::Stop(Refusal::Rows)
-}
+use base::SideSizes;
+use base::Sizes;
 
 // ---- questions 9 to 11
 
-// Where they stop a call, the lists are cleared.
-fn place_plain(
+// Finds the structure, or clears the lists where these questions stop the call.
+fn analyze_or_clear(
     n: usize,
     starts: &[u32],
     columns: &[Index],
@@ -222,7 +37,7 @@ fn place_plain(
     marks: &mut [u32],
 ) -> Answer
     requires { ⌜ PlainLent (inputOf n (now starts) (now columns) [] (now r) (now c) []) (now «lower_starts») (now «lower_index») «lower_values» (now «upper_starts») (now «upper_index») «upper_values» (length (now marks)) ⌝ }
-    ensures { λ a. ⌜ FoundBoth Form.Plain (inputOf n (now (starts .entry)) (now (columns .entry)) [] (now (r .entry)) (now (c .entry)) []) (slotsOf (length (now («lower_index» .entry))) «lower_values» (length (now («upper_index» .entry))) «upper_values») (now («lower_starts» .exit)) (now («lower_starts» .exit)) (now («lower_index» .exit)) «lower_values» (now («upper_starts» .exit)) (now («upper_starts» .exit)) (now («upper_index» .exit)) «upper_values» a
+    ensures { λ a. ⌜ FoundBoth Plain (inputOf n (now (starts .entry)) (now (columns .entry)) [] (now (r .entry)) (now (c .entry)) []) (slotsOf (length (now («lower_index» .entry))) «lower_values» (length (now («upper_index» .entry))) «upper_values») (now («lower_starts» .exit)) (now («lower_starts» .exit)) (now («lower_index» .exit)) «lower_values» (now («upper_starts» .exit)) (now («upper_starts» .exit)) (now («upper_index» .exit)) «upper_values» a
         × Unplaced (sideLists (now («lower_starts» .entry)) [] (now («lower_index» .entry))) (sideLists (now («upper_starts» .entry)) [] (now («upper_index» .entry))) (sideLists (now («lower_starts» .exit)) [] (now («lower_index» .exit))) (sideLists (now («upper_starts» .exit)) [] (now («upper_index» .exit))) a ⌝ }
 {
     let a = symbolic::find_plain(
@@ -251,7 +66,7 @@ fn place_plain(
 
 // ---- the structure in the plain form
 
-// The fill of M' in the plain form: lower rows and T(k) one after another.
+// Finds the fill of M' and places it in the plain form: lower rows and T(k) one after another.
 pub fn structure_plain(
     n: usize,
     starts: &[u32],
@@ -268,27 +83,33 @@ pub fn structure_plain(
     marks: &mut [u32],
 ) -> Answer
     ensures { λ a. ⌜ ended a (plainBuffers (now («lower_starts» .exit)) (now («lower_index» .exit)) (now («lower_values» .exit)) (now («upper_starts» .exit)) (now («upper_index» .exit)) (now («upper_values» .exit)) [] [] (now (work .exit)) (now (marks .exit)))
-        ≡ structure Form.Plain (inputOf n (now (starts .entry)) (now (columns .entry)) [] (now (r .entry)) (now (c .entry)) []) (plainBuffers (now («lower_starts» .entry)) (now («lower_index» .entry)) (now («lower_values» .entry)) (now («upper_starts» .entry)) (now («upper_index» .entry)) (now («upper_values» .entry)) [] [] (now (work .entry)) (now (marks .entry))) ⌝ }
+        ≡ structure Plain (inputOf n (now (starts .entry)) (now (columns .entry)) [] (now (r .entry)) (now (c .entry)) []) (plainBuffers (now («lower_starts» .entry)) (now («lower_index» .entry)) (now («lower_values» .entry)) (now («upper_starts» .entry)) (now («upper_index» .entry)) (now («upper_values» .entry)) [] [] (now (work .entry)) (now (marks .entry))) ⌝ }
 {
-    let asked = ask_structure_plain(
-        n,
-        starts,
-        columns,
-        r,
-        c,
-        lower_starts.len(),
-        lower_index.len(),
-        lower_values.len(),
-        upper_starts.len(),
-        upper_index.len(),
-        upper_values.len(),
-        work,
-        marks,
-    );
+    let lower = SideSizes {
+        starts: lower_starts.len(),
+        runs: 0,
+        index: lower_index.len(),
+        values: lower_values.len(),
+    };
+    let upper = SideSizes {
+        starts: upper_starts.len(),
+        runs: 0,
+        index: upper_index.len(),
+        values: upper_values.len(),
+    };
+    let sizes = Sizes {
+        lower,
+        upper,
+        d: 0,
+        x: 0,
+        work: work.len(),
+        marks: marks.len(),
+    };
+    let asked = stages::ask_structure(Form::Plain, n, starts, columns, r, c, sizes, work, marks);
     if stages::stops(asked) {
         return stages::refusal(asked);
     }
-    let a = place_plain(
+    let a = analyze_or_clear(
         n,
         starts,
         columns,
@@ -310,8 +131,8 @@ pub fn structure_plain(
 
 // ---- the solve in the plain form
 
-// After questions 3 to 11: the lists stand in their stores.
-fn solve_plain_factored(
+// Factors the matrix whose lists stand in their stores, and writes x: what is left of a solve after 1 to 11.
+fn factor_and_solve(
     n: usize,
     starts: &[u32],
     columns: &[Index],
@@ -331,9 +152,9 @@ fn solve_plain_factored(
     marks: &mut [u32],
     counts: Counts,
 ) -> Answer
-    requires { ⌜ FactorDue Form.Plain (inputOf n (now starts) (now columns) (now values) (now r) (now c) (now b)) (lists (now «lower_starts») (now «lower_index») (now «upper_starts») (now «upper_starts») (now «upper_index»)) (written (now «lower_values») (now «upper_values») (now d) (now work) (now marks)) (length (now x)) counts ⌝ }
+    requires { ⌜ FactorDue Plain (inputOf n (now starts) (now columns) (now values) (now r) (now c) (now b)) (lists (now «lower_starts») (now «lower_index») (now «upper_starts») (now «upper_starts») (now «upper_index»)) (written (now «lower_values») (now «upper_values») (now d) (now work) (now marks)) (length (now x)) counts ⌝ }
     ensures { λ a. ⌜ ended a (plainBuffers (now («lower_starts» .exit)) (now («lower_index» .exit)) (now («lower_values» .exit)) (now («upper_starts» .exit)) (now («upper_index» .exit)) (now («upper_values» .exit)) (now (d .exit)) (now (x .exit)) (now (work .exit)) (now (marks .exit)))
-        ≡ solveFactored Form.Plain (inputOf n (now (starts .entry)) (now (columns .entry)) (now (values .entry)) (now (r .entry)) (now (c .entry)) (now (b .entry))) (plainBuffers (now («lower_starts» .entry)) (now («lower_index» .entry)) (now («lower_values» .entry)) (now («upper_starts» .entry)) (now («upper_index» .entry)) (now («upper_values» .entry)) (now (d .entry)) (now (x .entry)) (now (work .entry)) (now (marks .entry))) ⌝ }
+        ≡ solveFactored Plain (inputOf n (now (starts .entry)) (now (columns .entry)) (now (values .entry)) (now (r .entry)) (now (c .entry)) (now (b .entry))) (plainBuffers (now («lower_starts» .entry)) (now («lower_index» .entry)) (now («lower_values» .entry)) (now («upper_starts» .entry)) (now («upper_index» .entry)) (now («upper_values» .entry)) (now (d .entry)) (now (x .entry)) (now (work .entry)) (now (marks .entry))) ⌝ }
 {
     let a = factor::factor_plain(
         n,
@@ -366,7 +187,7 @@ fn solve_plain_factored(
     stages::ended_by(fault, counts)
 }
 
-// Structure, factors and x in the plain form.
+// Solves M·x = b in the plain form: structure, factors and x.
 pub fn solve_plain(
     n: usize,
     starts: &[u32],
@@ -386,33 +207,35 @@ pub fn solve_plain(
     work: &mut [f64],
     marks: &mut [u32],
 ) -> Answer
-    ensures { λ a. ⌜ Solves Form.Plain (inputOf n (now (starts .entry)) (now (columns .entry)) (now (values .entry)) (now (r .entry)) (now (c .entry)) (now (b .entry)))
+    ensures { λ a. ⌜ Solves Plain (inputOf n (now (starts .entry)) (now (columns .entry)) (now (values .entry)) (now (r .entry)) (now (c .entry)) (now (b .entry)))
         (plainBuffers (now («lower_starts» .entry)) (now («lower_index» .entry)) (now («lower_values» .entry)) (now («upper_starts» .entry)) (now («upper_index» .entry)) (now («upper_values» .entry)) (now (d .entry)) (now (x .entry)) (now (work .entry)) (now (marks .entry)))
         a (plainBuffers (now («lower_starts» .exit)) (now («lower_index» .exit)) (now («lower_values» .exit)) (now («upper_starts» .exit)) (now («upper_index» .exit)) (now («upper_values» .exit)) (now (d .exit)) (now (x .exit)) (now (work .exit)) (now (marks .exit))) ⌝ }
 {
-    let asked = ask_solve_plain(
-        n,
-        starts,
-        columns,
-        values,
-        r,
-        c,
-        b,
-        lower_starts.len(),
-        lower_index.len(),
-        lower_values.len(),
-        upper_starts.len(),
-        upper_index.len(),
-        upper_values.len(),
-        d.len(),
-        x.len(),
-        work,
-        marks,
-    );
+    let lower = SideSizes {
+        starts: lower_starts.len(),
+        runs: 0,
+        index: lower_index.len(),
+        values: lower_values.len(),
+    };
+    let upper = SideSizes {
+        starts: upper_starts.len(),
+        runs: 0,
+        index: upper_index.len(),
+        values: upper_values.len(),
+    };
+    let sizes = Sizes {
+        lower,
+        upper,
+        d: d.len(),
+        x: x.len(),
+        work: work.len(),
+        marks: marks.len(),
+    };
+    let asked = stages::ask_solve(Form::Plain, n, starts, columns, values, r, c, b, sizes, work, marks);
     if stages::stops(asked) {
         return stages::refusal(asked);
     }
-    let a = place_plain(
+    let a = analyze_or_clear(
         n,
         starts,
         columns,
@@ -431,7 +254,7 @@ pub fn solve_plain(
         return a;
     }
     let counts = a.counts();
-    solve_plain_factored(
+    factor_and_solve(
         n,
         starts,
         columns,

@@ -18,7 +18,7 @@ use base::Refusal;
 
 // ---- the orders
 
-// The own row at a place.
+// Gives the own row at a place.
 pub fn own_row(r: &[Index], k: Place) -> OwnNumber
     requires { ⌜ k .0 < length (now r) ⌝ }
     ensures { λ i. ⌜ i ≡ ownAt (now (r .entry)) k ⌝ }
@@ -27,7 +27,7 @@ pub fn own_row(r: &[Index], k: Place) -> OwnNumber
     OwnNumber(r[at] as u32)
 }
 
-// The place of an own number, by the inverse of an order.
+// Gives the place of an own number, by the inverse of an order.
 pub fn place_of(inverse: &[u32], j: OwnNumber) -> Place
     requires { ⌜ j .0 < length (now inverse) ⌝ }
     ensures { λ k. ⌜ k ≡ placeAt (now (inverse .entry)) j ⌝ }
@@ -36,7 +36,7 @@ pub fn place_of(inverse: &[u32], j: OwnNumber) -> Place
     Place(inverse[at])
 }
 
-// The inverse of an order in the first n slots, all else as it was.
+// Writes the inverse of an order into the first n slots, and leaves the others.
 pub fn invert(n: usize, order: &[Index], inverse: &mut [u32])
     requires { ⌜ InverseLent n (now order) (length (now inverse)) ⌝ }
     ensures { λ _. ⌜ now (inverse .exit) ≡ inverted (now (order .entry)) n (now (inverse .entry)) ⌝ }
@@ -49,7 +49,7 @@ pub fn invert(n: usize, order: &[Index], inverse: &mut [u32])
     }
 }
 
-// The inverse of an order in slots n to 2n - 1, all else as it was.
+// Writes the inverse of an order into slots n to 2n - 1, and leaves the others.
 pub fn invert_at(n: usize, order: &[Index], scratch: &mut [u32])
     requires { ⌜ InverseLent n (now order) (length (now scratch) - n) ⌝ }
     ensures { λ _. ⌜ now (scratch .exit) ≡ invertedAt (now (order .entry)) n (now (scratch .entry)) ⌝ }
@@ -57,7 +57,7 @@ pub fn invert_at(n: usize, order: &[Index], scratch: &mut [u32])
     invert(n, order, &mut scratch[n..]);
 }
 
-// "x(c(k)) = t": the solution by own column.
+// Writes the solution by own column: "x(c(k)) = t".
 pub fn write_solution(n: usize, c: &[Index], z: &[f64], x: &mut [f64])
     requires { ⌜ SolutionLent n (now c) (length (now z)) (length (now x)) ⌝ }
     ensures { λ _. ⌜ now (x .exit) ≡ ownOrder (now (c .entry)) n (now (z .entry)) ⌝ }
@@ -82,7 +82,7 @@ fn stamp_slot(j: usize, stamp: u32, marks: &mut [u32]) -> bool
     seen
 }
 
-// The first index whose number is out of range or stands before it too. No slot holds the stamp yet.
+// Gives the first index whose number is out of range or stands before it too. No slot holds the stamp yet.
 fn first_fault(n: usize, list: &[Index], stamp: u32, marks: &mut [u32]) -> Found
     requires { ⌜ Unstamped n stamp (now marks) ⌝ }
     ensures { λ f. ⌜ (f ≡ first (badIndex (now (list .entry)) n) (length (now (list .entry)))) × AtMost (now (marks .exit)) stamp ⌝ }
@@ -154,7 +154,7 @@ fn ask_columns(n: usize, columns: &[Index]) -> Asked
     Asked::Pass
 }
 
-// 5 of one order, the index plus `from`.
+// Asks 5 of one order, and adds `from` to the index.
 fn ask_order(n: usize, order: &[Index], from: usize, marks: &mut [u32]) -> Asked
     requires { ⌜ OrderLent n (now order) from (length (now marks)) ⌝ }
     ensures { λ a. ⌜ a ≡ askOrder (now (order .entry)) n from ⌝ }
@@ -179,7 +179,7 @@ fn ask_orders(n: usize, r: &[Index], c: &[Index], marks: &mut [u32]) -> Asked
     ask_order(n, c, n, marks)
 }
 
-// 6 of one slice, the index plus `from`.
+// Asks 6 of one slice, and adds `from` to the index.
 fn ask_finite(v: &[f64], from: usize) -> Asked
     requires { ⌜ length (now v) + from ≤ 4294967296 ⌝ }
     ensures { λ a. ⌜ a ≡ askFinite (now (v .entry)) from ⌝ }
@@ -269,7 +269,7 @@ fn ask_repeats(n: usize, starts: &[u32], columns: &[Index], r: &[Index], marks: 
 
 // ---- the questions of a call, one after another
 
-// 3, 4, 5.
+// Asks 3, 4 and 5.
 fn ask_pattern(
     n: usize,
     starts: &[u32],
@@ -292,7 +292,7 @@ fn ask_pattern(
     ask_orders(n, r, c, marks)
 }
 
-// 7, 8.
+// Asks 7 and 8.
 fn ask_rows(n: usize, starts: &[u32], columns: &[Index], r: &[Index], marks: &mut [u32]) -> Asked
     requires { ⌜ RowsLent n (now starts) (now columns) (now r) (length (now marks)) ⌝ }
     ensures { λ a. ⌜ a ≡ askRows (inputOf n (now (starts .entry)) (now (columns .entry)) [] (now (r .entry)) [] []) ⌝ }
@@ -304,7 +304,7 @@ fn ask_rows(n: usize, starts: &[u32], columns: &[Index], r: &[Index], marks: &mu
     ask_repeats(n, starts, columns, r, marks)
 }
 
-// A structure call's: 3, 4, 5, 7, 8. The marks are overwritten.
+// Asks a structure call's 3, 4, 5, 7 and 8, and overwrites the marks.
 pub fn ask_structure(
     n: usize,
     starts: &[u32],
@@ -323,7 +323,7 @@ pub fn ask_structure(
     ask_rows(n, starts, columns, r, marks)
 }
 
-// A solve's and a refactor's: 3 to 8. The marks are overwritten.
+// Asks a solve's 3 to 8, and overwrites the marks.
 pub fn ask_solve(
     n: usize,
     starts: &[u32],
@@ -348,7 +348,7 @@ pub fn ask_solve(
     ask_rows(n, starts, columns, r, marks)
 }
 
-// Another right side's: 5, and 6 of b. The marks are overwritten.
+// Asks another right side's 5, and 6 of b, and overwrites the marks.
 pub fn ask_right(n: usize, r: &[Index], c: &[Index], b: &[f64], marks: &mut [u32]) -> Asked
     requires { ⌜ RightLent n (now r) (now c) (length (now b)) (length (now marks)) ⌝ }
     ensures { λ a. ⌜ a ≡ askRight n (now (r .entry)) (now (c .entry)) (now (b .entry)) ⌝ }

@@ -25,24 +25,22 @@ use Rattle.base.specs.declared.Asked.the-variants.{Pass}
 use Rattle.base.specs.declared.Answer.{Answer}
 use Rattle.stages.specs.Stages.{solvePlaced, solveFactored}
 use Rattle.stages.specs.Branches.{isStop, isRefused, noCounts, pass-of, done-of, refused-ends}
-use Rattle.stages.specs.Shaped.{pattern, StructureShaped, SolveDue, SolutionDue, faultAsked}
+use Rattle.stages.specs.Shaped.{sideOf, sizesOf, pattern, StructureShaped, SolveDue, SolutionDue, faultAsked}
 use Rattle.stages.specs.ShapedLaws.{matrix-lent, factor-due}
 use Rattle.stages.specs.StageLaws.{AllZero, blank-of, found-done, counted, solve-refused, solve-go, factored-done}
 use Rattle.stages.specs.Asking.{Blanked, SolveAsking, solve-goes}
 use Rattle.stages.specs.Ends.{factor-stops}
-use Rattle.row_form.specs.Sizes.{rowSizes}
 use Rattle.base.specs.Scratch.{zFrom}
 
 -- ---- what the stages hand on
 
 -- questions 3 to 8 wrote to scratch
-pub due-again : (i : Input) (l u : SideSizes) (d x w m w₁ m₁ : ℕ) → w₁ ≡ w → m₁ ≡ m
-    → SolveDue ByRow i (record { lower = l; upper = u; d = d; x = x; work = w; marks = m }) → SolveDue ByRow i (record { lower = l; upper = u; d = d; x = x; work = w₁; marks = m₁ })
+pub due-again : (i : Input) (l u : SideSizes) (d x w m w₁ m₁ : ℕ) → w₁ ≡ w → m₁ ≡ m → SolveDue ByRow i (sizesOf l u d x w m) → SolveDue ByRow i (sizesOf l u d x w₁ m₁)
 due-again i l u d x w m w₁ m₁ a b h = rw (a, b) h
 
-pub row-lent : (i : Input) (us ur ui : List ℕ) (uv d x w m : ℕ) → StructureShaped ByRow i (rowSizes (length us) (length ur) (length ui) uv d x w m) → Structured i → RowLent i us ur ui uv m
-row-lent i us ur ui uv d x w m h g = record {
-  matrix = matrix-lent ByRow i (rowSizes (length us) (length ur) (length ui) uv d x w m) h g;
+pub row-lent : (i : Input) (us ur ui : List ℕ) (l : SideSizes) (uv d x w m : ℕ) → StructureShaped ByRow i (sizesOf l (sideOf (length us) (length ur) (length ui) uv) d x w m) → Structured i → RowLent i us ur ui uv m
+row-lent i us ur ui l uv d x w m h g = record {
+  matrix = matrix-lent ByRow i _ h g;
   upper = record { starts-size = h .upper .starts; runs-size = h .upper .runs; slots-fit = h .upper .index; values-fit = h .upper .values };
 }
 
@@ -52,7 +50,7 @@ unfolding stored counts
 found-row i z us ur ui uv a h = record { answer = h .answer; upper = h .upper }
 
 pub row-due : (i : Input) (us ur ui m : List ℕ) (uv d w : List Float) (z : Sizes) (l u : SideSizes) (x m₀ : ℕ) (a : Answer)
-    → SolveDue ByRow i (record { lower = l; upper = u; d = length d; x = x; work = length w; marks = m₀ })
+    → SolveDue ByRow i (sizesOf l u (length d) x (length w) m₀)
     → Found ByRow (pattern i) z us ur ui (length uv) a → isRefused a ≡ false → length m ≡ m₀
     → Factorable ByRow i (lists [] [] us ur ui) (written [] uv d w m)
 row-due i us ur ui m uv d w z l u x m₀ a h f e em =

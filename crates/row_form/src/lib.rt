@@ -1,99 +1,20 @@
 // The solve in the row form. Its stages are in stages/specs: Asking for questions 1 to 8, Stages and Ends for what is left of a call after them.
 ghost use mathlib.Core.Path.{_≡_};
-ghost use mathlib.Core.List.{_++_};
-ghost use Prim.Native.Nat.{_≤_};
 ghost use lib.ListN.{length};
-ghost use Rattle.base.specs.All.{all};
-ghost use Rattle.base.specs.declared.Form.{Form};
-ghost use Rattle.base.specs.Limits.{maxRows};
+ghost use Rattle.base.specs.declared.Form.the-variants.{ByRow};
 ghost use Rattle.matrix.specs.Input.{inputOf};
-ghost use Rattle.outcome.specs.Buffers.{rowBuffers, sizes, cleared, ended, bufferTests};
+ghost use Rattle.outcome.specs.Buffers.{rowBuffers, sizes, cleared, ended};
 ghost use Rattle.outcome.specs.Solve.{Solves};
 ghost use Rattle.stages.specs.Stages.{solvePlaced};
-ghost use Rattle.stages.specs.Shaped.{patternSizes, numberSizes, SolveDue};
-ghost use Rattle.stages.specs.Asking.{SolveAsking};
-ghost use Rattle.row_form.specs.Sizes.{rowSizes};
+ghost use Rattle.stages.specs.Shaped.{SolveDue};
 use base::Answer;
-use base::Asked;
+use base::Form;
 use base::Index;
-use base::Refusal;
+use base::SideSizes;
+use base::Sizes;
 
-// Question 2.
-fn solve_row_fits(
-    n: usize,
-    starts: usize,
-    columns: usize,
-    values: usize,
-    r: usize,
-    c: usize,
-    b: usize,
-    upper_starts: usize,
-    upper_runs: usize,
-    upper_index: usize,
-    upper_values: usize,
-    d: usize,
-    x: usize,
-    work: usize,
-    marks: usize,
-) -> bool
-    requires { ⌜ n ≤ maxRows ⌝ }
-    ensures { λ t. ⌜ t ≡ all ((patternSizes n starts columns r c ++ numberSizes n columns values b) ++ bufferTests Form.ByRow n (rowSizes «upper_starts» «upper_runs» «upper_index» «upper_values» d x work marks)) ⌝ }
-{
-    let pattern = shape::pattern_fits(n, starts, columns, r, c);
-    let numbers = shape::values_fit(n, columns, values, b);
-    let side = shape::runs_fit(n, upper_starts, upper_index, upper_values, upper_runs);
-    let vectors = shape::vectors_fit(n, d, x);
-    let scratch = shape::scratch_fits(n, work, marks);
-    (pattern & numbers) & (side & (vectors & scratch))
-}
-
-// Questions 1 to 8, from the lengths of what the call is lent.
-fn ask_solve_row(
-    n: usize,
-    starts: &[u32],
-    columns: &[Index],
-    values: &[f64],
-    r: &[Index],
-    c: &[Index],
-    b: &[f64],
-    upper_starts: usize,
-    upper_runs: usize,
-    upper_index: usize,
-    upper_values: usize,
-    d: usize,
-    x: usize,
-    work: &mut [f64],
-    marks: &mut [u32],
-) -> Asked
-    ensures { λ a. ⌜ SolveAsking Form.ByRow (inputOf n (now (starts .entry)) (now (columns .entry)) (now (values .entry)) (now (r .entry)) (now (c .entry)) (now (b .entry))) (rowSizes «upper_starts» «upper_runs» «upper_index» «upper_values» d x (length (now (work .entry))) (length (now (marks .entry)))) (now (work .entry)) (now (marks .entry)) (now (work .exit)) (now (marks .exit)) a ⌝ }
-{
-    if shape::rows_within(n) {
-        if solve_row_fits(
-            n,
-            starts.len(),
-            columns.len(),
-            values.len(),
-            r.len(),
-            c.len(),
-            b.len(),
-            upper_starts,
-            upper_runs,
-            upper_index,
-            upper_values,
-            d,
-            x,
-            work.len(),
-            marks.len(),
-        ) {
-            return stages::ask_solve(n, starts, columns, values, r, c, b, work, marks);
-        }
-        return Asked::Stop(Refusal::Lengths);
-    }
-    Asked::Stop(Refusal::Rows)
-}
-
-// 9 to 13, and x. Structure and factors are left behind.
-fn row_work(
+// Finds the structure, factors, and writes x: what is left of the solve after 1 to 8. Structure and factors are left behind.
+fn analyze_and_solve(
     n: usize,
     starts: &[u32],
     columns: &[Index],
@@ -110,9 +31,9 @@ fn row_work(
     work: &mut [f64],
     marks: &mut [u32],
 ) -> Answer
-    requires { ⌜ SolveDue Form.ByRow (inputOf n (now starts) (now columns) (now values) (now r) (now c) (now b)) (sizes (rowBuffers (now «upper_starts») (now «upper_runs») (now «upper_index») (now «upper_values») (now d) (now x) (now work) (now marks))) ⌝ }
+    requires { ⌜ SolveDue ByRow (inputOf n (now starts) (now columns) (now values) (now r) (now c) (now b)) (sizes (rowBuffers (now «upper_starts») (now «upper_runs») (now «upper_index») (now «upper_values») (now d) (now x) (now work) (now marks))) ⌝ }
     ensures { λ a. ⌜ ended a (cleared (sizes (rowBuffers (now («upper_starts» .entry)) (now («upper_runs» .entry)) (now («upper_index» .entry)) (now («upper_values» .entry)) (now (d .entry)) (now (x .entry)) (now (work .entry)) (now (marks .entry)))) (now (x .exit)))
-        ≡ solvePlaced Form.ByRow (inputOf n (now (starts .entry)) (now (columns .entry)) (now (values .entry)) (now (r .entry)) (now (c .entry)) (now (b .entry))) (rowBuffers (now («upper_starts» .entry)) (now («upper_runs» .entry)) (now («upper_index» .entry)) (now («upper_values» .entry)) (now (d .entry)) (now (x .entry)) (now (work .entry)) (now (marks .entry))) ⌝ }
+        ≡ solvePlaced ByRow (inputOf n (now (starts .entry)) (now (columns .entry)) (now (values .entry)) (now (r .entry)) (now (c .entry)) (now (b .entry))) (rowBuffers (now («upper_starts» .entry)) (now («upper_runs» .entry)) (now («upper_index» .entry)) (now («upper_values» .entry)) (now (d .entry)) (now (x .entry)) (now (work .entry)) (now (marks .entry))) ⌝ }
 {
     let a = symbolic::find_row(
         n,
@@ -153,7 +74,7 @@ fn row_work(
     a
 }
 
-// x in the row form: only the upper side is kept, and zeroed at the end.
+// Solves M·x = b in the row form: only the upper side is kept, and zeroed at the end.
 pub fn solve_row(
     n: usize,
     starts: &[u32],
@@ -171,31 +92,35 @@ pub fn solve_row(
     work: &mut [f64],
     marks: &mut [u32],
 ) -> Answer
-    ensures { λ a. ⌜ Solves Form.ByRow (inputOf n (now (starts .entry)) (now (columns .entry)) (now (values .entry)) (now (r .entry)) (now (c .entry)) (now (b .entry)))
+    ensures { λ a. ⌜ Solves ByRow (inputOf n (now (starts .entry)) (now (columns .entry)) (now (values .entry)) (now (r .entry)) (now (c .entry)) (now (b .entry)))
         (rowBuffers (now («upper_starts» .entry)) (now («upper_runs» .entry)) (now («upper_index» .entry)) (now («upper_values» .entry)) (now (d .entry)) (now (x .entry)) (now (work .entry)) (now (marks .entry)))
         a (rowBuffers (now («upper_starts» .exit)) (now («upper_runs» .exit)) (now («upper_index» .exit)) (now («upper_values» .exit)) (now (d .exit)) (now (x .exit)) (now (work .exit)) (now (marks .exit))) ⌝ }
 {
-    let asked = ask_solve_row(
-        n,
-        starts,
-        columns,
-        values,
-        r,
-        c,
-        b,
-        upper_starts.len(),
-        upper_runs.len(),
-        upper_index.len(),
-        upper_values.len(),
-        d.len(),
-        x.len(),
-        work,
-        marks,
-    );
+    let lower = SideSizes {
+        starts: 0,
+        runs: 0,
+        index: 0,
+        values: 0,
+    };
+    let upper = SideSizes {
+        starts: upper_starts.len(),
+        runs: upper_runs.len(),
+        index: upper_index.len(),
+        values: upper_values.len(),
+    };
+    let sizes = Sizes {
+        lower,
+        upper,
+        d: d.len(),
+        x: x.len(),
+        work: work.len(),
+        marks: marks.len(),
+    };
+    let asked = stages::ask_solve(Form::ByRow, n, starts, columns, values, r, c, b, sizes, work, marks);
     if stages::stops(asked) {
         return stages::refusal(asked);
     }
-    let a = row_work(
+    let a = analyze_and_solve(
         n,
         starts,
         columns,

@@ -27,7 +27,7 @@ use Rattle.stages.specs.Branches.{isRefused}
 use Rattle.stages.specs.Asking.{Blanked, StructureAsking, SolveAsking, structure-goes, solve-goes}
 use Rattle.stages.specs.Ends.{sideLists, Unplaced, structure-ends, solve-refuses}
 use Rattle.stages.specs.Stages.{solveFactored}
-use Rattle.stages.specs.Shaped.{pattern, SolveDue, faultAsked}
+use Rattle.stages.specs.Shaped.{sizesOf, pattern, SolveDue, faultAsked}
 use Rattle.stages.specs.ShapedLaws.{factor-due}
 use Rattle.stages.specs.StageLaws.{blank-of, found-done, found-pattern, solve-go, factored-done, kept-is}
 use Rattle.stages.specs.Sharing.{SharedDue, starts-of}
@@ -64,7 +64,7 @@ shared-refused i ls₀ lr₀ li₀ us₀ ur₀ ui₀ m₀ ls lr li us ur ui t m 
 
 -- what the structure pass of a solve hands on to the arithmetic
 pub shared-due : (i : Input) (ls lr li us ur ui m : List ℕ) (lv uv d w : List Float) (z : Sizes) (l u : SideSizes) (x w₀ m₀ : ℕ) (a : Answer) (k : Counts)
-    → SolveDue Shared i (record { lower = l; upper = u; d = length d; x = x; work = w₀; marks = m₀ })
+    → SolveDue Shared i (sizesOf l u (length d) x w₀ m₀)
     → FoundBoth Shared (pattern i) z ls lr li (length lv) us ur ui (length uv) a → a ≡ Done k → length w ≡ w₀ → length m ≡ m₀
     → SharedDue i ls lr li us ur ui (written lv uv d w m) x k
 shared-due i ls lr li us ur ui m lv uv d w z l u x w₀ m₀ a k h f e ew em =

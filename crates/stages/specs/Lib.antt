@@ -1,5 +1,6 @@
 pub mod Stages
 pub mod Shaped
+pub mod LengthLaws
 pub mod ShapedLaws
 pub mod StageLaws
 pub mod Sharing

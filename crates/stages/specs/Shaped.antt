@@ -1,15 +1,14 @@
 -- What questions 1 and 2, then 3 to 8, then 9 to 11 have settled for the rest of a call. Definitions only.
 use mathlib.Core.Path.{_≡_}
-use mathlib.Core.Bool.{Bool}
-use mathlib.Core.List.{List, [], _∷_}
+use mathlib.Core.List.{List, [], _++_}
 use Prim.Native.Nat.{ℕ, _+_, _*_, _≤_}
 use lib.ListN.{length}
-use lib.Dec.{leb, eqb}
 use Rattle.base.specs.Limits.{maxRows, maxEntries, maxSlots}
 use Rattle.matrix.specs.Input.{Input, inputOf}
 use Rattle.matrix.specs.Questions.{IsOrder, askStructure, askSolve}
 use Rattle.base.specs.declared.SideSizes.{SideSizes}
 use Rattle.base.specs.declared.Sizes.{Sizes}
+use Rattle.outcome.specs.Buffers.{patternTests, structureTests, askShape}
 use Rattle.outcome.specs.Structure.{counts}
 use Rattle.factor.specs.Factoring.{Lists, Written, Factorable}
 use Rattle.factor.specs.declared.Factored.{Factored}
@@ -22,27 +21,13 @@ use Rattle.base.specs.declared.Refusal.the-variants.{ZeroPivot}
 use Rattle.base.specs.declared.Asked.{Asked}
 use Rattle.base.specs.declared.Asked.the-variants.{Pass, Stop}
 
--- ---- lengths as the calls hand them to question 2
+-- ---- lengths
 
-abbrev pub patternSizes : ℕ → ℕ → ℕ → ℕ → ℕ → List Bool
-patternSizes n starts columns r c = eqb starts (n + 1) ∷ leb columns maxEntries ∷ eqb r n ∷ eqb c n ∷ []
+abbrev pub sideOf : ℕ → ℕ → ℕ → ℕ → SideSizes
+sideOf starts runs index values = record { starts = starts; runs = runs; index = index; values = values }
 
-abbrev pub numberSizes : ℕ → ℕ → ℕ → ℕ → List Bool
-numberSizes n columns values b = eqb values columns ∷ eqb b n ∷ []
-
-abbrev pub vectorSizes : ℕ → ℕ → ℕ → List Bool
-vectorSizes n d x = eqb d n ∷ eqb x n ∷ []
-
-abbrev pub plainSizes : ℕ → ℕ → ℕ → ℕ → ℕ → ℕ → ℕ → ℕ → ℕ → ℕ → Sizes
-plainSizes ls li lv us ui uv d x w m =
-    record {
-      lower = record { starts = ls; runs = 0; index = li; values = lv };
-      upper = record { starts = us; runs = 0; index = ui; values = uv };
-      d = d;
-      x = x;
-      work = w;
-      marks = m;
-    }
+abbrev pub sizesOf : SideSizes → SideSizes → ℕ → ℕ → ℕ → ℕ → Sizes
+sizesOf l u d x w m = record { lower = l; upper = u; d = d; x = x; work = w; marks = m }
 
 -- ---- questions 1 and 2 are passed
 
@@ -63,6 +48,10 @@ abbrev pub LowerFits : Form → ℕ → SideSizes → Type 0
 LowerFits Plain n z = SideFits Plain n z
 LowerFits Shared n z = SideFits Shared n z
 LowerFits ByRow n z = Unit {0}
+
+-- a structure call's 1 and 2
+abbrev pub structureShape : Form → Input → Sizes → Asked
+structureShape f i z = askShape (i .n) (patternTests i ++ structureTests f (i .n) z)
 
 pub record StructureShaped (f : Form) (i : Input) (z : Sizes) : Type 0 where
   pub some : 1 ≤ i .n

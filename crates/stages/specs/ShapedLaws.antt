@@ -10,31 +10,32 @@ use borrow.Author.Tests.{eqb-true, leb-true}
 use Rattle.base.specs.All.{all}
 use Rattle.base.specs.AllLaws.{all-true}
 use Rattle.base.specs.Tests.{and-cases}
-use Rattle.base.specs.Answers.{andThen}
+use Rattle.base.specs.Answers.{holds, andThen}
 use Rattle.fill.specs.Fill.{Pattern}
 use Rattle.base.specs.Limits.{maxRows, rowsWithin}
 use Rattle.matrix.specs.Input.{Input, stored}
-use Rattle.outcome.specs.Buffers.{patternTests, matrixTests, listTests, scratchTests, structureTests, bufferTests}
+use Rattle.outcome.specs.Buffers.{patternTests, numberTests, matrixTests, listTests, vectorTests, scratchTests, structureTests, bufferTests, askShape}
 use Rattle.base.specs.declared.SideSizes.{SideSizes}
 use Rattle.base.specs.declared.Sizes.{Sizes}
 use Rattle.outcome.specs.Structure.{fits, askPlace, askPlaces, counts}
+use Rattle.outcome.specs.Solve.{shape}
+use Rattle.outcome.proofs.Asking.{then-pass, holds-pass}
 use Rattle.outcome.specs.Placed.{PlacedSide}
-use Rattle.shape.specs.Join.{all-join}
 use Rattle.questions.specs.Lent.{Lent}
 use Rattle.questions.specs.Settled.{Structured}
 use Rattle.questions.specs.SettledLaws.{settled}
 use Rattle.symbolic.specs.Pass.{slotsOf, MatrixLent, PlainLent}
 use Rattle.factor.specs.Factoring.{Lists, Written, LowerPlaced}
 use Rattle.base.specs.declared.Counts.{Counts}
+use Rattle.base.specs.declared.Refusal.the-variants.{Rows, Lengths}
+use Rattle.base.specs.declared.Asked.the-variants.{Pass}
 use Rattle.base.specs.declared.Side.the-variants.{Upper}
 use Rattle.base.specs.declared.Form.{Form}
 use Rattle.base.specs.declared.Form.the-variants.{Plain, Shared, ByRow}
-use Rattle.stages.specs.Shaped.{numberSizes, vectorSizes, plainSizes, SideFits, LowerFits, StructureShaped, SolveShaped, pattern, SolveDue, FactorDue, SolutionDue}
+use Rattle.stages.specs.LengthLaws.{all-join}
+use Rattle.stages.specs.Shaped.{sideOf, sizesOf, structureShape, SideFits, LowerFits, StructureShaped, SolveShaped, pattern, SolveDue, FactorDue, SolutionDue}
 
 -- ---- the lengths, from the tests
-
-pub rows-few : (n : ℕ) (b : Bool) → b ≡ rowsWithin n → b ≡ true → n ≤ maxRows
-rows-few n b e t = leb-true n maxRows (and-cases (leb 1 n) (leb n maxRows) (sym e ∙ t) .1)
 
 split : (a b : List Bool) → all (a ++ b) ≡ true → (all a ≡ true) × (all b ≡ true)
 split a b e = and-cases (all a) (all b) (sym (all-join a b) ∙ e)
@@ -56,54 +57,49 @@ sides-fit ByRow n z e =
       record { starts = eqb-true _ _ (t 0); index = leb-true _ _ (t 1); values = leb-true _ _ (t 2); runs = eqb-true _ _ (t 3) },
     )
 
-module _ (f : Form) (i : Input) (z : Sizes) (w : rowsWithin (i .n) ≡ true) where
-  shaped-by : all (patternTests i) ≡ true → all (listTests f (i .n) z) ≡ true → all (scratchTests (i .n) z) ≡ true → StructureShaped f i z
-  shaped-by a b c =
-      let rows = and-cases (leb 1 (i .n)) (leb (i .n) maxRows) w in
-      let p = all-true (patternTests i) a in
-      let l = sides-fit f (i .n) z b in
-      let s = all-true (scratchTests (i .n) z) c in
-      record {
-        some = leb-true _ _ (rows .0);
-        few = leb-true _ _ (rows .1);
-        starts = eqb-true _ _ (p 0);
-        columns = leb-true _ _ (p 1);
-        row-order = eqb-true _ _ (p 2);
-        column-order = eqb-true _ _ (p 3);
-        lower = l .0;
-        upper = l .1;
-        work = eqb-true _ _ (s 0);
-        marks = eqb-true _ _ (s 1);
-      }
+passed : (n : ℕ) (tests : List Bool) → askShape n tests ≡ Pass → (rowsWithin n ≡ true) × (all tests ≡ true)
+unfolding askShape
+passed n tests e = let a = then-pass (holds (rowsWithin n) Rows) (holds (all tests) Lengths) e in (holds-pass _ Rows (a .0), holds-pass _ Lengths (a .1))
 
-  pub structure-shaped : all (patternTests i ++ structureTests f (i .n) z) ≡ true → StructureShaped f i z
+shaped-by : (f : Form) (i : Input) (z : Sizes) → rowsWithin (i .n) ≡ true → all (patternTests i) ≡ true → all (listTests f (i .n) z) ≡ true → all (scratchTests (i .n) z) ≡ true → StructureShaped f i z
+shaped-by f i z w a b c =
+    let rows = and-cases (leb 1 (i .n)) (leb (i .n) maxRows) w in
+    let p = all-true (patternTests i) a in
+    let l = sides-fit f (i .n) z b in
+    let s = all-true (scratchTests (i .n) z) c in
+    record {
+      some = leb-true _ _ (rows .0);
+      few = leb-true _ _ (rows .1);
+      starts = eqb-true _ _ (p 0);
+      columns = leb-true _ _ (p 1);
+      row-order = eqb-true _ _ (p 2);
+      column-order = eqb-true _ _ (p 3);
+      lower = l .0;
+      upper = l .1;
+      work = eqb-true _ _ (s 0);
+      marks = eqb-true _ _ (s 1);
+    }
+
+module _ (f : Form) (i : Input) (z : Sizes) where
+  pub structure-shaped : structureShape f i z ≡ Pass → StructureShaped f i z
   structure-shaped e =
-      let a = split (patternTests i) (structureTests f (i .n) z) e in
+      let g = passed (i .n) (patternTests i ++ structureTests f (i .n) z) e in
+      let a = split (patternTests i) (structureTests f (i .n) z) (g .1) in
       let b = split (listTests f (i .n) z) (scratchTests (i .n) z) (a .1) in
-      shaped-by (a .0) (b .0) (b .1)
+      shaped-by f i z (g .0) (a .0) (b .0) (b .1)
 
-  pub solve-shaped : all (matrixTests i ++ bufferTests f (i .n) z) ≡ true → SolveShaped f i z
+  pub solve-shaped : shape f i z ≡ Pass → SolveShaped f i z
+  unfolding shape
   solve-shaped e =
-      let a = split (matrixTests i) (bufferTests f (i .n) z) e in
-      let m = split (patternTests i) (numberSizes (i .n) (length (i .columns)) (length (i .values)) (length (i .b))) (a .0) in
-      let v = split (listTests f (i .n) z ++ vectorSizes (i .n) (z .d) (z .x)) (scratchTests (i .n) z) (a .1) in
-      let l = split (listTests f (i .n) z) (vectorSizes (i .n) (z .d) (z .x)) (v .0) in
-      let g = shaped-by (m .0) (l .0) (v .1) in
-      let p = all-true (numberSizes (i .n) (length (i .columns)) (length (i .values)) (length (i .b))) (m .1) in
-      let q = all-true (vectorSizes (i .n) (z .d) (z .x)) (l .1) in
+      let g = passed (i .n) (matrixTests i ++ bufferTests f (i .n) z) e in
+      let a = split (matrixTests i) (bufferTests f (i .n) z) (g .1) in
+      let m = split (patternTests i) (numberTests i) (a .0) in
+      let v = split (listTests f (i .n) z ++ vectorTests (i .n) z) (scratchTests (i .n) z) (a .1) in
+      let l = split (listTests f (i .n) z) (vectorTests (i .n) z) (v .0) in
+      let p = all-true (numberTests i) (m .1) in
+      let q = all-true (vectorTests (i .n) z) (l .1) in
       record {
-        structure = record {
-          some = g .some;
-          few = g .few;
-          starts = g .starts;
-          columns = g .columns;
-          row-order = g .row-order;
-          column-order = g .column-order;
-          lower = g .lower;
-          upper = g .upper;
-          work = g .work;
-          marks = g .marks;
-        };
+        structure = shaped-by f (pattern i) z (g .0) (m .0) (l .0) (v .1);
         values = eqb-true _ _ (p 0);
         right = eqb-true _ _ (p 1);
         reciprocals = eqb-true _ _ (q 0);
@@ -111,20 +107,19 @@ module _ (f : Form) (i : Input) (z : Sizes) (w : rowsWithin (i .n) ≡ true) whe
       }
 
 -- the marks were written to
-pub shaped-again : (f : Form) (i : Input) (l u : SideSizes) (d x w m m₁ : ℕ) → m₁ ≡ m
-    → StructureShaped f i (record { lower = l; upper = u; d = d; x = x; work = w; marks = m }) → StructureShaped f i (record { lower = l; upper = u; d = d; x = x; work = w; marks = m₁ })
-shaped-again f i l u d x w m m₁ e h = rw e h
+module _ (f : Form) (i : Input) (l u : SideSizes) (d x w m m₁ : ℕ) (e : m₁ ≡ m) where
+  pub shaped-again : StructureShaped f i (sizesOf l u d x w m) → StructureShaped f i (sizesOf l u d x w m₁)
+  shaped-again h = rw e h
 
-pub solve-again : (f : Form) (i : Input) (l u : SideSizes) (d x w m m₁ : ℕ) → m₁ ≡ m
-    → SolveShaped f i (record { lower = l; upper = u; d = d; x = x; work = w; marks = m }) → SolveShaped f i (record { lower = l; upper = u; d = d; x = x; work = w; marks = m₁ })
-solve-again f i l u d x w m m₁ e h = rw e h
+  pub solve-again : SolveShaped f i (sizesOf l u d x w m) → SolveShaped f i (sizesOf l u d x w m₁)
+  solve-again h = rw e h
 
 -- ---- what the questions and the structure pass ask for
 
 module _ (f : Form) (i : Input) (z : Sizes) (h : StructureShaped f i z) where
-  pub lent-of : Lent (i .n) (i .starts) (i .columns) (i .r) (i .c) (z .marks)
-  lent-of = record {
-    orders = record { few = h .few; row-order = h .row-order; column-order = h .column-order; slots = omega (arith, h .marks) };
+  pub lent-of : (room : ℕ) → z .marks ≡ room → Lent (i .n) (i .starts) (i .columns) (i .r) (i .c) room
+  lent-of room e = record {
+    orders = record { few = h .few; row-order = h .row-order; column-order = h .column-order; slots = omega (arith, h .marks, e) };
     starts = h .starts;
     columns = h .columns;
   }
@@ -141,10 +136,10 @@ module _ (f : Form) (i : Input) (z : Sizes) (h : StructureShaped f i z) where
     scratch = h .marks;
   }
 
-pub plain-lent : (i : Input) (ls li us ui : List ℕ) (lv uv d x w m : ℕ) → StructureShaped Plain i (plainSizes (length ls) (length li) lv (length us) (length ui) uv d x w m) → Structured i
+pub plain-lent : (i : Input) (ls li us ui : List ℕ) (lr lv ur uv d x w m : ℕ) → StructureShaped Plain i (sizesOf (sideOf (length ls) lr (length li) lv) (sideOf (length us) ur (length ui) uv) d x w m) → Structured i
     → PlainLent i ls li lv us ui uv m
-plain-lent i ls li us ui lv uv d x w m h g = record {
-  matrix = matrix-lent Plain i (plainSizes (length ls) (length li) lv (length us) (length ui) uv d x w m) h g;
+plain-lent i ls li us ui lr lv ur uv d x w m h g = record {
+  matrix = matrix-lent Plain i _ h g;
   lower = record { starts-size = h .lower .starts; runs-size = h .lower .starts; slots-fit = h .lower .index; values-fit = h .lower .values };
   upper = record { starts-size = h .upper .starts; runs-size = h .upper .starts; slots-fit = h .upper .index; values-fit = h .upper .values };
 }

@@ -7,7 +7,6 @@ use lib.Ieee.{Float}
 use Rattle.base.specs.Lists.{blank, nought}
 use Rattle.matrix.specs.Input.{Input, stored}
 use Rattle.outcome.specs.Buffers.{sideBuffers}
-use Rattle.base.specs.declared.Sizes.{Sizes}
 use Rattle.outcome.specs.Placed.{PlacedSide}
 use Rattle.questions.specs.Settled.{Structured}
 use Rattle.symbolic.specs.Pass.{SharedLent}
@@ -15,20 +14,9 @@ use Rattle.factor.specs.Factoring.{lists, Written, Starts}
 use Rattle.base.specs.declared.Counts.{Counts}
 use Rattle.base.specs.declared.Form.the-variants.{Shared}
 use Rattle.base.specs.declared.Side.the-variants.{Lower}
-use Rattle.stages.specs.Shaped.{StructureShaped, FactorDue}
+use Rattle.stages.specs.Shaped.{sideOf, sizesOf, StructureShaped, FactorDue}
 use Rattle.stages.specs.ShapedLaws.{matrix-lent}
 use Rattle.stages.specs.StageLaws.{blank-of, SideZero}
-
-abbrev pub sharedSizes : ℕ → ℕ → ℕ → ℕ → ℕ → ℕ → ℕ → ℕ → ℕ → ℕ → ℕ → ℕ → Sizes
-sharedSizes ls lr li lv us ur ui uv d x w m =
-    record {
-      lower = record { starts = ls; runs = lr; index = li; values = lv };
-      upper = record { starts = us; runs = ur; index = ui; values = uv };
-      d = d;
-      x = x;
-      work = w;
-      marks = m;
-    }
 
 -- 9 to 11 are passed: what the arithmetic asks for, and the lower lists that it leaves alone
 pub record SharedDue (i : Input) (ls lr li us ur ui : List ℕ) (w : Written) (x : ℕ) (k : Counts) : Type 0 where
@@ -38,9 +26,9 @@ pub record SharedDue (i : Input) (ls lr li us ur ui : List ℕ) (w : Written) (x
 -- ---- what the structure pass asks for
 
 pub shared-lent : (i : Input) (ls lr li us ur ui : List ℕ) (lv uv d x w m : ℕ)
-    → StructureShaped Shared i (sharedSizes (length ls) (length lr) (length li) lv (length us) (length ur) (length ui) uv d x w m) → Structured i → SharedLent i ls lr li lv us ur ui uv m
+    → StructureShaped Shared i (sizesOf (sideOf (length ls) (length lr) (length li) lv) (sideOf (length us) (length ur) (length ui) uv) d x w m) → Structured i → SharedLent i ls lr li lv us ur ui uv m
 shared-lent i ls lr li us ur ui lv uv d x w m h g = record {
-  matrix = matrix-lent Shared i (sharedSizes (length ls) (length lr) (length li) lv (length us) (length ur) (length ui) uv d x w m) h g;
+  matrix = matrix-lent Shared i _ h g;
   lower = record { starts-size = h .lower .starts; runs-size = h .lower .runs; slots-fit = h .lower .index; values-fit = h .lower .values };
   upper = record { starts-size = h .upper .starts; runs-size = h .upper .runs; slots-fit = h .upper .index; values-fit = h .upper .values };
 }

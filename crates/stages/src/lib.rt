@@ -1,28 +1,209 @@
-// What the calls share: zeros, 12 and 13, and the solution. The stages of a call, and what its questions settle for them, are in specs/.
+// What the calls share: questions 1 to 8, zeros, 12 and 13, and the solution. The stages of a call, and what its questions settle for them, are in specs/.
 ghost use mathlib.Core.Path.{_≡_};
-ghost use Prim.Native.Nat.{_+_};
+ghost use mathlib.Core.List.{[], _∷_};
+ghost use Prim.Native.Nat.{_+_, _≤_};
 ghost use lib.ListN.{length, drop};
+ghost use lib.Dec.{eqb};
+ghost use Rattle.base.specs.All.{all};
 ghost use Rattle.base.specs.Lists.{blank, nought};
-ghost use mathlib.Core.Bool.{true};
-ghost use mathlib.Core.List.{[]};
+ghost use Rattle.base.specs.Limits.{maxRows};
 ghost use Rattle.matrix.specs.Input.{inputOf, ownOrder};
-ghost use Rattle.matrix.specs.Questions.{askStructure, askSolve};
-ghost use Rattle.questions.specs.Lent.{Lent, SolveLent};
+ghost use Rattle.outcome.specs.Buffers.{sideTests, lowerTests, listTests, vectorTests, scratchTests};
+ghost use Rattle.outcome.specs.Solve.{shape};
 ghost use Rattle.symbolic.specs.Pass.{foundAnswer};
-ghost use Rattle.base.specs.declared.Answer.the-variants.{Refused};
-ghost use Rattle.stages.specs.Shaped.{SolutionDue, faultAsked};
+ghost use Rattle.stages.specs.Shaped.{structureShape, SolutionDue, faultAsked};
 ghost use Rattle.stages.specs.Branches.{isStop, isRefused, noCounts};
-ghost use Rattle.stages.specs.Asking.{Blanked};
+ghost use Rattle.stages.specs.Asking.{StructureAsking, SolveAsking};
 ghost use Rattle.base.specs.Scratch.{zFrom};
 use base::Answer;
 use base::Asked;
 use base::Counts;
+use base::Form;
 use base::Index;
 use base::Refusal;
+use base::SideSizes;
+use base::Sizes;
 use base::scratch;
 use factor::Factored;
+use matrix::Matrix;
+use matrix::Shaped;
 
-// The lists and the values of a side without run starts.
+// ---- questions 1 and 2, from the lengths of what a call is lent
+
+// Tells whether starts and orders are as long as stated. The maker of the matrix type has asked e.
+fn pattern_fits(n: usize, starts: usize, r: usize, c: usize) -> bool
+    requires { ⌜ n ≤ maxRows ⌝ }
+    ensures { λ t. ⌜ t ≡ all (eqb starts (n + 1) ∷ eqb r n ∷ eqb c n ∷ []) ⌝ }
+{
+    (starts == n + 1) & (r == n) & (c == n)
+}
+
+// Tells whether values and b are as long as stated.
+fn numbers_fit(n: usize, columns: usize, values: usize, b: usize) -> bool
+    ensures { λ t. ⌜ t ≡ all (eqb values columns ∷ eqb b n ∷ []) ⌝ }
+{
+    (values == columns) & (b == n)
+}
+
+// Tells whether a side is as long as stated, with run starts where the form has them.
+fn side_fits(form: Form, n: usize, side: SideSizes) -> bool
+    requires { ⌜ n ≤ maxRows ⌝ }
+    ensures { λ t. ⌜ t ≡ all (sideTests form n side) ⌝ }
+{
+    let stores = (side.starts == n + 1) & (side.index <= Matrix::MAX_SLOTS) & (side.values <= Matrix::MAX_SLOTS);
+    match form {
+        Form::Plain => stores,
+        Form::Shared => stores & (side.runs == n),
+        Form::ByRow => stores & (side.runs == n),
+    }
+}
+
+// Tells the same of the lower side, which the row form is not lent.
+fn lower_fits(form: Form, n: usize, side: SideSizes) -> bool
+    requires { ⌜ n ≤ maxRows ⌝ }
+    ensures { λ t. ⌜ t ≡ all (lowerTests form n side) ⌝ }
+{
+    match form {
+        Form::Plain => side_fits(form, n, side),
+        Form::Shared => side_fits(form, n, side),
+        Form::ByRow => true,
+    }
+}
+
+// Tells whether both sides are as long as stated.
+fn sides_fit(form: Form, n: usize, sizes: Sizes) -> bool
+    requires { ⌜ n ≤ maxRows ⌝ }
+    ensures { λ t. ⌜ t ≡ all (listTests form n sizes) ⌝ }
+{
+    let lower = sizes.lower;
+    let upper = sizes.upper;
+    let below = lower_fits(form, n, lower);
+    let above = side_fits(form, n, upper);
+    below & above
+}
+
+// Tells whether d and x are as long as stated.
+fn vectors_fit(n: usize, sizes: Sizes) -> bool
+    ensures { λ t. ⌜ t ≡ all (vectorTests n sizes) ⌝ }
+{
+    (sizes.d == n) & (sizes.x == n)
+}
+
+// Tells whether scratch is as long as stated: "3n binary64 and 8n + 8 32-bit slots".
+fn scratch_fits(n: usize, sizes: Sizes) -> bool
+    requires { ⌜ n ≤ maxRows ⌝ }
+    ensures { λ t. ⌜ t ≡ all (scratchTests n sizes) ⌝ }
+{
+    (sizes.work == 3 * n) & (sizes.marks == 8 * n + 8)
+}
+
+// Asks a structure call's 1 and 2.
+fn shape_structure(form: Form, n: usize, starts: &[u32], columns: &[Index], r: &[Index], c: &[Index], sizes: Sizes) -> Asked
+    ensures { λ a. ⌜ a ≡ structureShape form (inputOf n (now (starts .entry)) (now (columns .entry)) [] (now (r .entry)) (now (c .entry)) []) sizes ⌝ }
+{
+    let made = Matrix::new(n, columns.len());
+    if let Shaped::Unshaped(q) = made {
+        return Asked::Stop(q);
+    }
+    let pattern = pattern_fits(n, starts.len(), r.len(), c.len());
+    let lists = sides_fit(form, n, sizes);
+    let slots = scratch_fits(n, sizes);
+    if pattern & (lists & slots) {
+        return Asked::Pass;
+    }
+    Asked::Stop(Refusal::Lengths)
+}
+
+// Asks a solve's 1 and 2.
+fn shape_solve(
+    form: Form,
+    n: usize,
+    starts: &[u32],
+    columns: &[Index],
+    values: &[f64],
+    r: &[Index],
+    c: &[Index],
+    b: &[f64],
+    sizes: Sizes,
+) -> Asked
+    ensures { λ a. ⌜ a ≡ shape form (inputOf n (now (starts .entry)) (now (columns .entry)) (now (values .entry)) (now (r .entry)) (now (c .entry)) (now (b .entry))) sizes ⌝ }
+{
+    let made = Matrix::new(n, columns.len());
+    if let Shaped::Unshaped(q) = made {
+        return Asked::Stop(q);
+    }
+    let pattern = pattern_fits(n, starts.len(), r.len(), c.len());
+    let numbers = numbers_fit(n, columns.len(), values.len(), b.len());
+    let lists = sides_fit(form, n, sizes);
+    let vectors = vectors_fit(n, sizes);
+    let slots = scratch_fits(n, sizes);
+    if (pattern & numbers) & (lists & vectors & slots) {
+        return Asked::Pass;
+    }
+    Asked::Stop(Refusal::Lengths)
+}
+
+// ---- questions 1 to 8. 1 and 2 write nothing; where 3 to 8 stop a call, scratch is cleared.
+
+// Asks a structure call's questions, with `sizes` for what it writes.
+pub fn ask_structure(
+    form: Form,
+    n: usize,
+    starts: &[u32],
+    columns: &[Index],
+    r: &[Index],
+    c: &[Index],
+    sizes: Sizes,
+    work: &mut [f64],
+    marks: &mut [u32],
+) -> Asked
+    requires { ⌜ sizes .marks ≡ length (now marks) ⌝ }
+    ensures { λ a. ⌜ StructureAsking form (inputOf n (now (starts .entry)) (now (columns .entry)) [] (now (r .entry)) (now (c .entry)) []) sizes (now (work .entry)) (now (marks .entry)) (now (work .exit)) (now (marks .exit)) a ⌝ }
+{
+    let shape = shape_structure(form, n, starts, columns, r, c, sizes);
+    if stops(shape) {
+        return shape;
+    }
+    let a = questions::ask_structure(n, starts, columns, r, c, marks);
+    if stops(a) {
+        clear_scratch(work, marks);
+        return a;
+    }
+    a
+}
+
+// Asks a solve's questions, with `sizes` for what it writes.
+pub fn ask_solve(
+    form: Form,
+    n: usize,
+    starts: &[u32],
+    columns: &[Index],
+    values: &[f64],
+    r: &[Index],
+    c: &[Index],
+    b: &[f64],
+    sizes: Sizes,
+    work: &mut [f64],
+    marks: &mut [u32],
+) -> Asked
+    requires { ⌜ sizes .marks ≡ length (now marks) ⌝ }
+    ensures { λ a. ⌜ SolveAsking form (inputOf n (now (starts .entry)) (now (columns .entry)) (now (values .entry)) (now (r .entry)) (now (c .entry)) (now (b .entry))) sizes (now (work .entry)) (now (marks .entry)) (now (work .exit)) (now (marks .exit)) a ⌝ }
+{
+    let shape = shape_solve(form, n, starts, columns, values, r, c, b, sizes);
+    if stops(shape) {
+        return shape;
+    }
+    let a = questions::ask_solve(n, starts, columns, values, r, c, b, marks);
+    if stops(a) {
+        clear_scratch(work, marks);
+        return a;
+    }
+    a
+}
+
+// ---- zeros
+
+// Clears the lists and the values of a side without run starts.
 pub fn clear_side(starts: &mut [u32], index: &mut [Index], values: &mut [f64])
     ensures { λ _. ⌜ (now (starts .exit) ≡ blank 0 (now (starts .entry))) × (now (index .exit) ≡ blank 0 (now (index .entry))) × (now (values .exit) ≡ blank nought (now (values .entry))) ⌝ }
 {
@@ -31,6 +212,7 @@ pub fn clear_side(starts: &mut [u32], index: &mut [Index], values: &mut [f64])
     base::clear_f64(values);
 }
 
+// Clears scratch.
 pub fn clear_scratch(work: &mut [f64], marks: &mut [u32])
     ensures { λ _. ⌜ (now (work .exit) ≡ blank nought (now (work .entry))) × (now (marks .exit) ≡ blank 0 (now (marks .entry))) ⌝ }
 {
@@ -38,7 +220,7 @@ pub fn clear_scratch(work: &mut [f64], marks: &mut [u32])
     base::clear_u32(marks);
 }
 
-// The numbers of both sides and scratch.
+// Clears the numbers of both sides, and scratch.
 pub fn clear_numbers(
     lower_values: &mut [f64],
     upper_values: &mut [f64],
@@ -54,51 +236,9 @@ pub fn clear_numbers(
     clear_scratch(work, marks);
 }
 
-// A structure call's 3 to 8. Where they stop it, scratch is cleared.
-pub fn ask_structure(
-    n: usize,
-    starts: &[u32],
-    columns: &[Index],
-    r: &[Index],
-    c: &[Index],
-    work: &mut [f64],
-    marks: &mut [u32],
-) -> Asked
-    requires { ⌜ Lent n (now starts) (now columns) (now r) (now c) (length (now marks)) ⌝ }
-    ensures { λ a. ⌜ (a ≡ askStructure (inputOf n (now (starts .entry)) (now (columns .entry)) [] (now (r .entry)) (now (c .entry)) [])) × (isStop a ≡ true → Blanked (now (work .entry)) (now (marks .entry)) (now (work .exit)) (now (marks .exit))) ⌝ }
-{
-    let a = questions::ask_structure(n, starts, columns, r, c, marks);
-    if stops(a) {
-        clear_scratch(work, marks);
-        return a;
-    }
-    a
-}
+// ---- 12 and 13, and the solution
 
-// A solve's.
-pub fn ask_solve(
-    n: usize,
-    starts: &[u32],
-    columns: &[Index],
-    values: &[f64],
-    r: &[Index],
-    c: &[Index],
-    b: &[f64],
-    work: &mut [f64],
-    marks: &mut [u32],
-) -> Asked
-    requires { ⌜ SolveLent (inputOf n (now starts) (now columns) (now values) (now r) (now c) (now b)) (length (now marks)) ⌝ }
-    ensures { λ a. ⌜ (a ≡ askSolve (inputOf n (now (starts .entry)) (now (columns .entry)) (now (values .entry)) (now (r .entry)) (now (c .entry)) (now (b .entry)))) × (isStop a ≡ true → Blanked (now (work .entry)) (now (marks .entry)) (now (work .exit)) (now (marks .exit))) ⌝ }
-{
-    let a = questions::ask_solve(n, starts, columns, values, r, c, b, marks);
-    if stops(a) {
-        clear_scratch(work, marks);
-        return a;
-    }
-    a
-}
-
-// 12 and 13.
+// Asks 12 and 13 of what the arithmetic came to.
 pub fn fault_of(a: Factored) -> Asked
     ensures { λ o. ⌜ o ≡ faultAsked a ⌝ }
 {
@@ -109,7 +249,7 @@ pub fn fault_of(a: Factored) -> Asked
     }
 }
 
-// z stands in the last n slots of scratch.
+// Writes x from z, which stands in the last n slots of scratch.
 pub fn write_x(n: usize, c: &[Index], work: &[f64], x: &mut [f64])
     requires { ⌜ SolutionDue n (now c) (length (now work)) (length (now x)) ⌝ }
     ensures { λ _. ⌜ now (x .exit) ≡ ownOrder (now (c .entry)) n (drop (zFrom n) (now (work .entry))) ⌝ }
@@ -120,6 +260,7 @@ pub fn write_x(n: usize, c: &[Index], work: &[f64], x: &mut [f64])
 
 // ---- answers by a test. The calls branch on these: a match on an answer beside all buffers is dear to prove.
 
+// Tells whether questions stop the call.
 pub fn stops(a: Asked) -> bool
     ensures { λ b. ⌜ b ≡ isStop a ⌝ }
 {
@@ -129,6 +270,7 @@ pub fn stops(a: Asked) -> bool
     }
 }
 
+// Tells whether the structure pass refuses.
 pub fn refuses(a: Answer) -> bool
     ensures { λ b. ⌜ b ≡ isRefused a ⌝ }
 {
@@ -138,7 +280,7 @@ pub fn refuses(a: Answer) -> bool
     }
 }
 
-// The counts, or the refusal.
+// Gives the counts, or the refusal where questions stop the call.
 pub fn ended_by(a: Asked, counts: Counts) -> Answer
     ensures { λ r. ⌜ r ≡ foundAnswer a counts ⌝ }
 {
@@ -148,7 +290,7 @@ pub fn ended_by(a: Asked, counts: Counts) -> Answer
     }
 }
 
-// The refusal, where questions stop a call.
+// Gives the refusal of questions that stop the call.
 pub fn refusal(a: Asked) -> Answer
     ensures { λ r. ⌜ r ≡ foundAnswer a noCounts ⌝ }
 {

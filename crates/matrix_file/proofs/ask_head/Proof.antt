@@ -8,7 +8,6 @@ use Rattle.matrix_file.proofs.ask_head.Tie as tie
 use Rattle.matrix_file.proofs.ask_head.Reads as reads
 use Rattle.matrix_file.proofs.ask_head.Lts as lts
 use Rattle.matrix_file.proofs.fits_shape.Reads as fits-shape-reads
-use Rattle.matrix_file.proofs.rows_within.Reads as rows-within-reads
 
 rows-within-requires : tie.Need-rows-within-requires
 rows-within-requires c κs = search needs

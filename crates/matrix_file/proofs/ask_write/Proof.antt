@@ -6,7 +6,6 @@ use Rattle.matrix_file.proofs.ask_write.Tie as tie
 use Rattle.matrix_file.proofs.ask_write.Reads as reads
 use Rattle.matrix_file.proofs.ask_write.Lts as lts
 use Rattle.matrix_file.proofs.lengths_right.Reads as lengths-right-reads
-use Rattle.matrix_file.proofs.rows_within.Reads as rows-within-reads
 
 rows-within-requires : tie.Need-rows-within-requires
 rows-within-requires c κs = search needs

@@ -12,13 +12,13 @@ use Rattle.plain_form.proofs.solve_plain.Statement.{statement}
 use Rattle.plain_form.proofs.solve_plain.Tie as tie
 
 -- the questions, the pass that follows them, and the branches on its answer
-abbrev Asked : tie.After-stops → tie.After-ask-solve-plain
+abbrev Asked : tie.After-stops → tie.After-ask-solve
 Asked s = s .before .before .before .before .before
 
-abbrev Goes : tie.After-place-plain → tie.Else1
+abbrev Goes : tie.After-analyze-or-clear → tie.Else1
 Goes s = s .before .before .before .before .before .before
 
-abbrev Placed : tie.After-refuses → tie.After-place-plain
+abbrev Placed : tie.After-refuses → tie.After-analyze-or-clear
 Placed s = s .before .before .before .before .before .before .before .before .before .before .before
 
 abbrev Refusing : tie.After-slice-known22 → tie.Then2
@@ -27,85 +27,85 @@ Refusing s = s .before .before .before .before .before .before .before .before .
 abbrev Cleared : tie.After-slice-known22 → tie.After-clear-numbers
 Cleared s = s .before .before .before .before .before .before .before .before .before .before
 
-abbrev Solving : tie.After-slice-known32 → tie.After-solve-plain-factored
+abbrev Solving : tie.After-slice-known32 → tie.After-factor-and-solve
 Solving s = s .before .before .before .before .before .before .before .before .before .before .before .before .before .before .before .before .before .before .before .before
 
-abbrev Counted : tie.After-solve-plain-factored-arg10 → tie.After-counts
+abbrev Counted : tie.After-factor-and-solve-arg10 → tie.After-counts
 Counted s = s .before .before .before .before .before .before .before .before .before .before
 
 returns : tie.Need-returns
 returns c =
     let b = c .before in
-    solve-stops Plain _ _ _ _ _ _ _ _ _ _ _ (Asked (b .before) .ask-solve-plain .ensures) (sym (b .before .stops .ensures) ∙ b .if1 .taken) (c .refusal .ensures)
+    solve-stops Plain _ _ _ _ _ _ _ _ _ _ _ (Asked (b .before) .ask-solve .ensures) (sym (b .before .stops .ensures) ∙ b .if1 .taken) (c .refusal .ensures)
 
-place-plain-requires : tie.Need-place-plain-requires
-place-plain-requires c κs =
+analyze-or-clear-requires : tie.Need-analyze-or-clear-requires
+analyze-or-clear-requires c κs =
     let b = c .before .before .before .before .before in
-    let p = Asked (b .before) .ask-solve-plain in
+    let p = Asked (b .before) .ask-solve in
     let q = p .ensures .due (pass-of _ (sym (b .before .stops .ensures) ∙ b .if1 .left)) in
-    plain-lent _ _ _ _ _ _ _ _ _ _ _ (solve-again Plain _ _ _ _ _ _ _ _ (p .kept .1 .1 .1 .1 .1 .1 .1 .1 .1 .1 .1 .1 .1 .1 .1 .1 .0) (q .shaped) .structure) (pattern-structured _ (settled _ (q .passed) .structured))
+    plain-lent _ _ _ _ _ _ _ _ _ _ _ _ _ (solve-again Plain _ _ _ _ _ _ _ _ (p .kept .1 .1 .1 .1 .1 .1 .1 .1 .1 .1 .0) (q .shaped) .structure) (pattern-structured _ (settled _ (q .passed) .structured))
 
 returns-2 : tie.Need-returns-2
 returns-2 c =
     let r = Refusing c in
-    let p = Placed (r .before) .place-plain in
+    let p = Placed (r .before) .analyze-or-clear in
     let b = Goes (Placed (r .before)) in
-    let a = Asked (b .before) .ask-solve-plain in
+    let a = Asked (b .before) .ask-solve in
     plain-refused _ _ _ _ _ _ _ _ _ _ _ _ _ _ _ _ _ _ _ _ _ _ _ _ _ (a .ensures) (pass-of _ (sym (b .before .stops .ensures) ∙ b .if1 .left)) (p .ensures .0) (p .ensures .1)
-    (sym (r .before .refuses .ensures) ∙ r .if2 .taken) (a .kept .1 .1 .1 .1 .1 .1 .1 .1 .1 .1 .1 .1 .1 .1 .1 .0) (p .kept .1 .1 .1 .1 .1 .1 .1 .1 .1 .1 .1 .0 ∙ a .kept .1 .1 .1 .1 .1 .1 .1 .1 .1 .1 .1 .1 .1 .1 .1 .1 .0) (Cleared c .clear-numbers .ensures)
+    (sym (r .before .refuses .ensures) ∙ r .if2 .taken) (a .kept .1 .1 .1 .1 .1 .1 .1 .1 .1 .0) (p .kept .1 .1 .1 .1 .1 .1 .1 .1 .1 .1 .1 .0 ∙ a .kept .1 .1 .1 .1 .1 .1 .1 .1 .1 .1 .0) (Cleared c .clear-numbers .ensures)
 
-solve-plain-factored-requires : tie.Need-solve-plain-factored-requires
-solve-plain-factored-requires c κs =
+factor-and-solve-requires : tie.Need-factor-and-solve-requires
+factor-and-solve-requires c κs =
     let k = Counted c in
     let r = k .before in
-    let p = Placed (r .before) .place-plain in
+    let p = Placed (r .before) .analyze-or-clear in
     let b = Goes (Placed (r .before)) in
-    let a = Asked (b .before) .ask-solve-plain in
-    plain-due _ _ _ _ _ _ _ _ _ _ _ _ _ _ _ _ _ _ (a .ensures .due (pass-of _ (sym (b .before .stops .ensures) ∙ b .if1 .left))) (p .ensures .0) (done-with _ _ _ (r .before .refuses .ensures) (r .if2 .left) (k .counts .ensures)) (a .kept .1 .1 .1 .1 .1 .1 .1 .1 .1 .1 .1 .1 .1 .1 .1 .0) (p .kept .1 .1 .1 .1 .1 .1 .1 .1 .1 .1 .1 .0 ∙ a .kept .1 .1 .1 .1 .1 .1 .1 .1 .1 .1 .1 .1 .1 .1 .1 .1 .0)
+    let a = Asked (b .before) .ask-solve in
+    plain-due _ _ _ _ _ _ _ _ _ _ _ _ _ _ _ _ _ _ (a .ensures .due (pass-of _ (sym (b .before .stops .ensures) ∙ b .if1 .left))) (p .ensures .0) (done-with _ _ _ (r .before .refuses .ensures) (r .if2 .left) (k .counts .ensures)) (a .kept .1 .1 .1 .1 .1 .1 .1 .1 .1 .0) (p .kept .1 .1 .1 .1 .1 .1 .1 .1 .1 .1 .1 .0 ∙ a .kept .1 .1 .1 .1 .1 .1 .1 .1 .1 .1 .0)
 
 returns-3 : tie.Need-returns-3
 returns-3 c =
     let k = Counted (Solving c .before) in
     let r = k .before in
-    let p = Placed (r .before) .place-plain in
+    let p = Placed (r .before) .analyze-or-clear in
     let b = Goes (Placed (r .before)) in
-    let a = Asked (b .before) .ask-solve-plain in
+    let a = Asked (b .before) .ask-solve in
     plain-go _ _ _ _ _ _ _ _ _ _ _ _ _ _ _ _ _ _ _ _ _ _ (a .ensures) (pass-of _ (sym (b .before .stops .ensures) ∙ b .if1 .left)) (p .ensures .0)
     (done-with _ _ _ (r .before .refuses .ensures) (r .if2 .left) (k .counts .ensures))
-    (p .kept .1 .1 .1 .1 .1 .0) (p .kept .1 .1 .1 .1 .1 .1 .0) (p .kept .1 .1 .1 .1 .1 .1 .1 .1 .0) (p .kept .1 .1 .1 .1 .1 .1 .1 .1 .1 .0) (a .kept .1 .1 .1 .1 .1 .1 .1 .1 .1 .1 .1 .1 .1 .1 .1 .0) (p .kept .1 .1 .1 .1 .1 .1 .1 .1 .1 .1 .1 .0 ∙ a .kept .1 .1 .1 .1 .1 .1 .1 .1 .1 .1 .1 .1 .1 .1 .1 .1 .0) (Solving c .solve-plain-factored .ensures)
+    (p .kept .1 .1 .1 .1 .1 .0) (p .kept .1 .1 .1 .1 .1 .1 .0) (p .kept .1 .1 .1 .1 .1 .1 .1 .1 .0) (p .kept .1 .1 .1 .1 .1 .1 .1 .1 .1 .0) (a .kept .1 .1 .1 .1 .1 .1 .1 .1 .1 .0) (p .kept .1 .1 .1 .1 .1 .1 .1 .1 .1 .1 .1 .0 ∙ a .kept .1 .1 .1 .1 .1 .1 .1 .1 .1 .1 .0) (Solving c .factor-and-solve .ensures)
 
 -- the pass and the questions behind a refusal of the pass, and behind the arithmetic
-abbrev Before : tie.After-slice-known22 → tie.After-place-plain
+abbrev Before : tie.After-slice-known22 → tie.After-analyze-or-clear
 Before c = Placed (Refusing c .before)
 
-abbrev Earlier : tie.After-slice-known32 → tie.After-place-plain
+abbrev Earlier : tie.After-slice-known32 → tie.After-analyze-or-clear
 Earlier c = Placed (Counted (Solving c .before) .before .before)
 
 pub solve-plain-spec : {M : Type 1} → statement M
 solve-plain-spec =
     tie.close
     (tie.spec (λ c κs. search needs) (λ c κs. search needs) (λ c κs. search needs)
-    (λ c. Asked (c .before .before) .ask-solve-plain .kept .1 .1 .1 .1 .1 .1 .1 .1 .1 .1 .1 .1 .1 .1 .1 .0)
-    (λ c. Asked (c .before .before) .ask-solve-plain .kept .1 .1 .1 .1 .1 .1 .1 .1 .1 .1 .1 .1 .1 .1 .1 .1 .0)
-    returns place-plain-requires (λ c κs. search needs) (λ c κs. search needs)
-    (λ c. Before c .place-plain .kept .1 .1 .1 .1 .1 .0)
-    (λ c. Before c .place-plain .kept .1 .1 .1 .1 .1 .1 .0)
+    (λ c. Asked (c .before .before) .ask-solve .kept .1 .1 .1 .1 .1 .1 .1 .1 .1 .0)
+    (λ c. Asked (c .before .before) .ask-solve .kept .1 .1 .1 .1 .1 .1 .1 .1 .1 .1 .0)
+    returns analyze-or-clear-requires (λ c κs. search needs) (λ c κs. search needs)
+    (λ c. Before c .analyze-or-clear .kept .1 .1 .1 .1 .1 .0)
+    (λ c. Before c .analyze-or-clear .kept .1 .1 .1 .1 .1 .1 .0)
     (λ c. Cleared c .clear-numbers .kept .0)
-    (λ c. Before c .place-plain .kept .1 .1 .1 .1 .1 .1 .1 .1 .0)
-    (λ c. Before c .place-plain .kept .1 .1 .1 .1 .1 .1 .1 .1 .1 .0)
+    (λ c. Before c .analyze-or-clear .kept .1 .1 .1 .1 .1 .1 .1 .1 .0)
+    (λ c. Before c .analyze-or-clear .kept .1 .1 .1 .1 .1 .1 .1 .1 .1 .0)
     (λ c. Cleared c .clear-numbers .kept .1 .0)
     (λ c. Cleared c .clear-numbers .kept .1 .1 .0)
-    (λ c. Cleared c .clear-numbers .kept .1 .1 .1 .0 ∙ Asked (Goes (Before c) .before) .ask-solve-plain .kept .1 .1 .1 .1 .1 .1 .1 .1 .1 .1 .1 .1 .1 .1 .1 .0)
-    (λ c. Cleared c .clear-numbers .kept .1 .1 .1 .1 .0 ∙ Before c .place-plain .kept .1 .1 .1 .1 .1 .1 .1 .1 .1 .1 .1 .0 ∙ Asked (Goes (Before c) .before) .ask-solve-plain .kept .1 .1 .1 .1 .1 .1 .1 .1 .1 .1 .1 .1 .1 .1 .1 .1 .0)
-    returns-2 (λ c κs. search needs) solve-plain-factored-requires
-    (λ c. Solving c .solve-plain-factored .kept .1 .1 .1 .1 .1 .1 .1 .0 ∙ Earlier c .place-plain .kept .1 .1 .1 .1 .1 .0)
-    (λ c. Solving c .solve-plain-factored .kept .1 .1 .1 .1 .1 .1 .1 .1 .0 ∙ Earlier c .place-plain .kept .1 .1 .1 .1 .1 .1 .0)
-    (λ c. Solving c .solve-plain-factored .kept .1 .1 .1 .1 .1 .1 .1 .1 .1 .0)
-    (λ c. Solving c .solve-plain-factored .kept .1 .1 .1 .1 .1 .1 .1 .1 .1 .1 .0 ∙ Earlier c .place-plain .kept .1 .1 .1 .1 .1 .1 .1 .1 .0)
-    (λ c. Solving c .solve-plain-factored .kept .1 .1 .1 .1 .1 .1 .1 .1 .1 .1 .1 .0 ∙ Earlier c .place-plain .kept .1 .1 .1 .1 .1 .1 .1 .1 .1 .0)
-    (λ c. Solving c .solve-plain-factored .kept .1 .1 .1 .1 .1 .1 .1 .1 .1 .1 .1 .1 .0)
-    (λ c. Solving c .solve-plain-factored .kept .1 .1 .1 .1 .1 .1 .1 .1 .1 .1 .1 .1 .1 .0)
-    (λ c. Solving c .solve-plain-factored .kept .1 .1 .1 .1 .1 .1 .1 .1 .1 .1 .1 .1 .1 .1 .0)
-    (λ c. Solving c .solve-plain-factored .kept .1 .1 .1 .1 .1 .1 .1 .1 .1 .1 .1 .1 .1 .1 .1 .0 ∙ Asked (Goes (Earlier c) .before) .ask-solve-plain .kept .1 .1 .1 .1 .1 .1 .1 .1 .1 .1 .1 .1 .1 .1 .1 .0)
-    (λ c. Solving c .solve-plain-factored .kept .1 .1 .1 .1 .1 .1 .1 .1 .1 .1 .1 .1 .1 .1 .1 .1 .0 ∙ Earlier c .place-plain .kept .1 .1 .1 .1 .1 .1 .1 .1 .1 .1 .1 .0 ∙ Asked (Goes (Earlier c) .before) .ask-solve-plain .kept .1 .1 .1 .1 .1 .1 .1 .1 .1 .1 .1 .1 .1 .1 .1 .1 .0)
+    (λ c. Cleared c .clear-numbers .kept .1 .1 .1 .0 ∙ Asked (Goes (Before c) .before) .ask-solve .kept .1 .1 .1 .1 .1 .1 .1 .1 .1 .0)
+    (λ c. Cleared c .clear-numbers .kept .1 .1 .1 .1 .0 ∙ Before c .analyze-or-clear .kept .1 .1 .1 .1 .1 .1 .1 .1 .1 .1 .1 .0 ∙ Asked (Goes (Before c) .before) .ask-solve .kept .1 .1 .1 .1 .1 .1 .1 .1 .1 .1 .0)
+    returns-2 (λ c κs. search needs) factor-and-solve-requires
+    (λ c. Solving c .factor-and-solve .kept .1 .1 .1 .1 .1 .1 .1 .0 ∙ Earlier c .analyze-or-clear .kept .1 .1 .1 .1 .1 .0)
+    (λ c. Solving c .factor-and-solve .kept .1 .1 .1 .1 .1 .1 .1 .1 .0 ∙ Earlier c .analyze-or-clear .kept .1 .1 .1 .1 .1 .1 .0)
+    (λ c. Solving c .factor-and-solve .kept .1 .1 .1 .1 .1 .1 .1 .1 .1 .0)
+    (λ c. Solving c .factor-and-solve .kept .1 .1 .1 .1 .1 .1 .1 .1 .1 .1 .0 ∙ Earlier c .analyze-or-clear .kept .1 .1 .1 .1 .1 .1 .1 .1 .0)
+    (λ c. Solving c .factor-and-solve .kept .1 .1 .1 .1 .1 .1 .1 .1 .1 .1 .1 .0 ∙ Earlier c .analyze-or-clear .kept .1 .1 .1 .1 .1 .1 .1 .1 .1 .0)
+    (λ c. Solving c .factor-and-solve .kept .1 .1 .1 .1 .1 .1 .1 .1 .1 .1 .1 .1 .0)
+    (λ c. Solving c .factor-and-solve .kept .1 .1 .1 .1 .1 .1 .1 .1 .1 .1 .1 .1 .1 .0)
+    (λ c. Solving c .factor-and-solve .kept .1 .1 .1 .1 .1 .1 .1 .1 .1 .1 .1 .1 .1 .1 .0)
+    (λ c. Solving c .factor-and-solve .kept .1 .1 .1 .1 .1 .1 .1 .1 .1 .1 .1 .1 .1 .1 .1 .0 ∙ Asked (Goes (Earlier c) .before) .ask-solve .kept .1 .1 .1 .1 .1 .1 .1 .1 .1 .0)
+    (λ c. Solving c .factor-and-solve .kept .1 .1 .1 .1 .1 .1 .1 .1 .1 .1 .1 .1 .1 .1 .1 .1 .0 ∙ Earlier c .analyze-or-clear .kept .1 .1 .1 .1 .1 .1 .1 .1 .1 .1 .1 .0 ∙ Asked (Goes (Earlier c) .before) .ask-solve .kept .1 .1 .1 .1 .1 .1 .1 .1 .1 .1 .0)
     returns-3)

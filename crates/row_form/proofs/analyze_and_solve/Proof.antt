@@ -1,0 +1,98 @@
+use mathlib.Core.Path.{sym, _∙_}
+use Rattle.questions.specs.SettledLaws.{settled}
+use Rattle.stages.specs.ShapedLaws.{pattern-structured}
+use Rattle.row_form.proofs.Row.{row-lent, row-due, row-solution, row-refused, row-fault, row-solved}
+use native.Mathlib.Omega.{arith}
+use borrow.Author.Needs.{needs}
+use Rattle.row_form.proofs.analyze_and_solve.Statement.{statement}
+use Rattle.row_form.proofs.analyze_and_solve.Tie as tie
+
+-- the pass, the arithmetic, and the branches on their answers
+abbrev Begin : tie.After-find-row-arg4 → tie.Start
+Begin s = s .before .before .before .before .before .before .before .before .before .before .before .before .before .before .before .before .before .before
+
+abbrev Placed : tie.After-refuses → tie.After-find-row
+Placed s = s .before .before .before .before .before .before .before .before .before
+
+abbrev Goes : tie.After-factor-row-arg7 → tie.Else1
+Goes s = s .before .before .before .before .before .before .before
+
+abbrev Computed : tie.After-fault-of → tie.After-factor-row
+Computed s = s .before .before .before .before .before .before .before .before .before
+
+abbrev Sound : tie.After-write-x-arg2 → tie.Else2
+Sound s = s .before .before
+
+abbrev Written : tie.After-slice-known17 → tie.After-write-x
+Written s = s .before .before
+
+find-row-requires : tie.Need-find-row-requires
+find-row-requires c κs = let h = Begin c .pre in row-lent _ _ _ _ _ _ _ _ _ _ (h .shaped .structure) (pattern-structured _ (settled _ (h .passed) .structured))
+
+returns : tie.Need-returns
+returns c = row-refused _ _ _ _ _ _ _ _ _ _ _ _ _ (Placed (c .before) .find-row .ensures) (sym (c .before .refuses .ensures) ∙ c .if1 .taken)
+
+factor-row-requires : tie.Need-factor-row-requires
+factor-row-requires c κs =
+    let g = Goes c in
+    let p = Placed (g .before) in
+    row-due _ _ _ _ _ _ _ _ _ _ _ _ _ _ (Begin (p .before) .pre) (p .find-row .ensures) (sym (g .before .refuses .ensures) ∙ g .if1 .left) (p .find-row .kept .1 .1 .1 .1 .1 .1 .1 .1 .1 .0)
+
+-- the arithmetic, and the pass before it
+abbrev Faulted : tie.After-refusal → tie.After-factor-row
+Faulted c = Computed (c .before .before .before)
+
+abbrev Solving : tie.After-write-x-arg2 → tie.After-factor-row
+Solving c = Computed (Sound c .before .before)
+
+abbrev Solved : tie.After-slice-known17 → tie.After-factor-row
+Solved c = Solving (Written c .before)
+
+abbrev Earlier : tie.After-factor-row → tie.After-find-row
+Earlier s = Placed (Goes (s .before) .before)
+
+returns-2 : tie.Need-returns-2
+returns-2 c =
+    let b = c .before in
+    let k = Faulted c in
+    let g = Goes (k .before) in
+    row-fault _ _ _ _ _ _ _ _ _ _ _ _ _ (Earlier k .find-row .ensures) (sym (g .before .refuses .ensures) ∙ g .if1 .left) _ _ _ _ _ (k .factor-row .ensures) (b .before .before .fault-of .ensures) _
+    (sym (b .before .stops .ensures) ∙ b .if2 .taken) (c .refusal .ensures)
+
+write-x-requires : tie.Need-write-x-requires
+write-x-requires c κs = let k = Solving c in row-solution _ _ _ (Begin (Earlier k .before) .pre) (k .factor-row .kept .1 .1 .1 .1 .1 .1 .1 .1 .1 .1 .1 .1 .0)
+
+returns-3 : tie.Need-returns-3
+returns-3 c =
+    let b = Sound (Written c .before) in
+    let k = Solved c in
+    let g = Goes (k .before) in
+    row-solved _ _ _ _ _ _ _ _ _ _ _ _ _ (Earlier k .find-row .ensures) (sym (g .before .refuses .ensures) ∙ g .if1 .left) _ _ _ _ _ (k .factor-row .ensures) (b .before .before .fault-of .ensures) _
+    (sym (b .before .stops .ensures) ∙ b .if2 .left) (Written c .write-x .ensures)
+
+pub analyze-and-solve-spec : {M : Type 1} → statement M
+analyze-and-solve-spec =
+    tie.close
+    (tie.spec find-row-requires (λ c κs. search needs)
+    (λ c. Placed (c .before) .find-row .kept .1 .1 .1 .1 .1 .0)
+    (λ c. Placed (c .before) .find-row .kept .1 .1 .1 .1 .1 .1 .0)
+    (λ c. Placed (c .before) .find-row .kept .1 .1 .1 .1 .1 .1 .1 .0)
+    (λ c. Placed (c .before) .find-row .kept .1 .1 .1 .1 .1 .1 .1 .1 .1 .0)
+    returns factor-row-requires (λ c κs. search needs) (λ c κs. search needs) (λ c κs. search needs)
+    (λ c. Earlier (Faulted c) .find-row .kept .1 .1 .1 .1 .1 .0)
+    (λ c. Earlier (Faulted c) .find-row .kept .1 .1 .1 .1 .1 .1 .0)
+    (λ c. Earlier (Faulted c) .find-row .kept .1 .1 .1 .1 .1 .1 .1 .0)
+    (λ c. Faulted c .factor-row .kept .1 .1 .1 .1 .1 .1 .1 .1 .1 .1 .0)
+    (λ c. Faulted c .factor-row .kept .1 .1 .1 .1 .1 .1 .1 .1 .1 .1 .1 .0)
+    (λ c. Faulted c .factor-row .kept .1 .1 .1 .1 .1 .1 .1 .1 .1 .1 .1 .1 .0)
+    (λ c. Faulted c .factor-row .kept .1 .1 .1 .1 .1 .1 .1 .1 .1 .1 .1 .1 .1 .0 ∙ Earlier (Faulted c) .find-row .kept .1 .1 .1 .1 .1 .1 .1 .1 .1 .0)
+    returns-2 write-x-requires
+    (λ c. Earlier (Solved c) .find-row .kept .1 .1 .1 .1 .1 .0)
+    (λ c. Earlier (Solved c) .find-row .kept .1 .1 .1 .1 .1 .1 .0)
+    (λ c. Earlier (Solved c) .find-row .kept .1 .1 .1 .1 .1 .1 .1 .0)
+    (λ c. Solved c .factor-row .kept .1 .1 .1 .1 .1 .1 .1 .1 .1 .1 .0)
+    (λ c. Solved c .factor-row .kept .1 .1 .1 .1 .1 .1 .1 .1 .1 .1 .1 .0)
+    (λ c. Written c .write-x .kept .1 .1 .1 .0)
+    (λ c. Solved c .factor-row .kept .1 .1 .1 .1 .1 .1 .1 .1 .1 .1 .1 .1 .0)
+    (λ c. Solved c .factor-row .kept .1 .1 .1 .1 .1 .1 .1 .1 .1 .1 .1 .1 .1 .0 ∙ Earlier (Solved c) .find-row .kept .1 .1 .1 .1 .1 .1 .1 .1 .1 .0)
+    returns-3)
