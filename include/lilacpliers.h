@@ -1,7 +1,13 @@
-/* Lilacpliers: sparse elimination. The C interface of the static library libcapi.a.
+/* Lilacpliers: sparse elimination. The C interface of the static library libcapi.a, which is for x86-64 only.
  *
- * Every buffer is lent by the caller as a pointer and a length in slots; buffers must not overlap. The library
- * allocates nothing and keeps nothing between calls.
+ * Every buffer is lent by the caller as a pointer and a length in slots; a buffer of length 0 may be NULL. A buffer
+ * that a call writes, the report too, must overlap no other buffer of that call. Buffers that it only reads may
+ * overlap: r and c may be one array. The library allocates nothing and keeps nothing between calls.
+ *
+ * The caller's floating-point environment must be the default of IEEE 754: rounding to nearest, no flush to zero, no
+ * denormals as zero, no traps. In another one numbers and answers may be others than promised here (n = 1, b = 1 and
+ * the value 2^-1023 give x = 2^1023, but LP_ZERO_PIVOT where denormals are zero), and with a trap for overflow a
+ * refusal LP_OVERFLOW becomes a signal.
  *
  * Matrix, orders, right side:
  *   n        rows, 1 to LP_MAX_ROWS
@@ -30,7 +36,7 @@
  * above the diagonal, report[3] the products; they are 0 after a refusal. Slots beyond report[3] are never written.
  *
  * What the buffers hold afterwards, unless a call says otherwise:
- *   LP_ROWS, LP_LENGTHS                nothing was written
+ *   LP_ROWS, LP_LENGTHS                nothing but the report was written
  *   LP_STARTS to LP_REPEATED           scratch is zero, all else untouched
  *   LP_NULL_PIVOT to LP_OVERFLOW       scratch is zero, and so is every other buffer but x that the call writes
  *   done                               scratch is zero, and so are the unused slots of what the call writes
@@ -46,12 +52,16 @@
 extern "C" {
 #endif
 
-/* The limits. */
+/* The version of this interface. It is raised whenever a function, a number or what a buffer holds changes, so that
+ * a caller can refuse to be compiled against another one. */
+#define LP_VERSION 1
+
+/* The limits of n, of e and of the slots of a store. */
 #define LP_MAX_ROWS 4096
 #define LP_MAX_ENTRIES 65536
 #define LP_MAX_SLOTS 1048576
 
-/* The number of each refusal, and the place it names. */
+/* What a call returns: the number of each refusal, and behind the colon the place it names. */
 #define LP_DONE 0
 #define LP_ROWS 1             /* n is not within 1 to LP_MAX_ROWS */
 #define LP_LENGTHS 2          /* a length is not as stated, or e or a store is over its limit */
@@ -70,12 +80,12 @@ extern "C" {
 #define LP_BLOCK 17           /* a block's number or checks are wrong: its number */
 #define LP_FILE_SHAPE 18      /* e is over its limit, or blocks and closing zeros do not fit n and e */
 
-/* Sides of the diagonal, for lp_list_plain and lp_list_shared. */
+/* Sides of the diagonal, for lp_list_plain and lp_list_shared. Every number but LP_LOWER is the upper side. */
 #define LP_LOWER 0
 #define LP_UPPER 1
 
-/* Finds the fill and places its lists, lower rows and upper lists one after another.
- * Asks 1 to 5, 7 to 11. Writes list starts, index stores, value stores (all zero) and scratch. */
+/* Finds the fill and places its lists in the plain form: lower rows and upper lists, one after another.
+ * Asks 1 to 5, then 7 to 11. Writes list starts, index stores, value stores (all zero) and scratch. */
 uint32_t lp_structure_plain(
     size_t n,
     const uint32_t *starts, size_t starts_len,
@@ -92,8 +102,8 @@ uint32_t lp_structure_plain(
     uint32_t *scratch_u32, size_t scratch_u32_len,
     uint64_t *report, size_t report_len);
 
-/* The same in the shared form: lower columns and upper lists, sharing index slots.
- * Asks 1 to 5, 7 to 11. Writes list starts, run starts, index stores, value stores (all zero) and scratch. */
+/* Finds the fill and places its lists in the shared form: lower columns and upper lists, sharing index slots.
+ * Asks 1 to 5, then 7 to 11. Writes list starts, run starts, index stores, value stores (all zero) and scratch. */
 uint32_t lp_structure_shared(
     size_t n,
     const uint32_t *starts, size_t starts_len,
@@ -112,7 +122,7 @@ uint32_t lp_structure_shared(
     uint32_t *scratch_u32, size_t scratch_u32_len,
     uint64_t *report, size_t report_len);
 
-/* Structure, factors and one solution, plain form.
+/* Finds structure, factors and one solution, in the plain form.
  * Asks 1 to 13. Writes list starts, index and value stores, d, x and scratch. */
 uint32_t lp_solve_plain(
     size_t n,
@@ -134,7 +144,7 @@ uint32_t lp_solve_plain(
     uint32_t *scratch_u32, size_t scratch_u32_len,
     uint64_t *report, size_t report_len);
 
-/* Structure, factors and one solution, shared form.
+/* Finds structure, factors and one solution, in the shared form.
  * Asks 1 to 13. Writes list starts, run starts, index and value stores, d, x and scratch. */
 uint32_t lp_solve_shared(
     size_t n,
@@ -158,8 +168,9 @@ uint32_t lp_solve_shared(
     uint32_t *scratch_u32, size_t scratch_u32_len,
     uint64_t *report, size_t report_len);
 
-/* One solution without keeping L: the row form. It is lent the shared form's upper side and d as working room.
- * Asks 1 to 9, 11 to 13. Writes the upper side, d, x and scratch; afterwards all of it but x is zero, also when done. */
+/* Finds one solution without keeping L: the row form. It is lent the shared form's upper side and d as working room.
+ * Asks 1 to 9, then 11 to 13. Writes the upper side, d, x and scratch; afterwards all of it but x is zero, also when
+ * it is done. */
 uint32_t lp_solve_row(
     size_t n,
     const uint32_t *starts, size_t starts_len,
@@ -178,8 +189,8 @@ uint32_t lp_solve_row(
     uint32_t *scratch_u32, size_t scratch_u32_len,
     uint64_t *report, size_t report_len);
 
-/* The list of a side (LP_LOWER: row `place` of the plain form; LP_UPPER) as a part of that side's index store:
- * report[0] is its offset there, report[1] its length. An n out of its limits, a wrong length on either side, a
+/* Finds a list of the plain form, LP_LOWER: row `place`, else upper list `place`, as a part of that side's index
+ * store: report[0] is its offset there, report[1] its length. An n out of its limits, a wrong length on either side, a
  * place not below n, list starts that fall there, or a list outside its store give offset 0 and length 0.
  * Returns 0 always and writes nothing but the report. */
 uint32_t lp_list_plain(
@@ -190,7 +201,8 @@ uint32_t lp_list_plain(
     const uint16_t *upper_index, size_t upper_index_len,
     uint64_t *report, size_t report_len);
 
-/* The same for the shared form; LP_LOWER gives column `place`. */
+/* Finds a list of the shared form, LP_LOWER: column `place`, else upper list `place`, as lp_list_plain does; its
+ * offset is its run start. */
 uint32_t lp_list_shared(
     uint32_t side, size_t place, size_t n,
     const uint32_t *lower_starts, size_t lower_starts_len,
@@ -201,14 +213,16 @@ uint32_t lp_list_shared(
     const uint16_t *upper_index, size_t upper_index_len,
     uint64_t *report, size_t report_len);
 
-/* n and e of a matrix file: report[1] and report[2], 0 after a refusal.
- * Asks 16, 17, 1, 18. Writes nothing but the report. */
+/* Finds n and e of a matrix file: report[1] and report[2], 0 after a refusal.
+ * Asks 16, 17, 1 and 18. Writes nothing but the report. */
 uint32_t lp_file_shape(
     const uint8_t *file, size_t file_len,
     uint64_t *report, size_t report_len);
 
 /* Reads a matrix file into buffers of n + 1, e, e, n, n and n slots, as lp_file_shape tells n and e.
- * Asks 16, 17, 1, 18, 2; what the file holds is not judged. A refusal writes nothing but the report. */
+ * Asks 16, 17, 1, 18 and 2; what the file holds is not judged. A number of the file that is any NaN becomes a NaN
+ * whose bits are the compiler's choice: the same code unoptimised may give it the other sign.
+ * A refusal writes nothing but the report. */
 uint32_t lp_read_matrix(
     const uint8_t *file, size_t file_len,
     uint32_t *starts, size_t starts_len,
@@ -219,9 +233,9 @@ uint32_t lp_read_matrix(
     double *b, size_t b_len,
     uint64_t *report, size_t report_len);
 
-/* Writes a matrix file. Its length is 512 times (12 + 16n + 10e) / 504, rounded up; e is columns_len.
- * Asks 1, 18 (e over its limit), 2 (any length, the file's too); what the matrix holds is not judged, and every NaN
- * is written as 7FF8000000000000. A refusal writes nothing but the report. */
+/* Writes a matrix file. Its length is 512 times the quotient (12 + 16n + 10e) / 504 rounded up; e is columns_len.
+ * Asks 1, 18 (e over its limit) and 2 (any length, the file's too); what the matrix holds is not judged, and every
+ * NaN is written as 7FF8000000000000. A refusal writes nothing but the report. */
 uint32_t lp_write_matrix(
     size_t n,
     const uint32_t *starts, size_t starts_len,

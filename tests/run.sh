@@ -1,6 +1,7 @@
 #!/usr/bin/env bash
-# Runs the tests outside the proofs: solve.sh as the README calls it, another solver against the library (where crates/capi is there), the C header,
-# the benchmark's own solver, and the Matrix Market tool. Ends with one line 'N passed, M failed'.
+# Runs the tests outside the proofs: solve.sh as the README calls it, another solver against the library and the
+# program, faults planted for that comparison to find, the C header, the benchmark's own solver, and the Matrix Market
+# tool. Nothing is left out: what is missing counts as failed. Ends with one line 'N passed, M failed'.
 set -u
 cd "$(dirname "$0")/.." || exit 1
 
@@ -12,47 +13,54 @@ note() {
     failed=$((failed + 1))
 }
 
-# Runs the checks, shows what they print, and adds up their closing line.
+# Runs a program of checks, shows what it prints, and adds up its closing line.
 checks() {
-    local log line m
+    local log line status m
     log=$(mktemp)
     (cd tests && cargo run --release --offline --quiet "$@") >"$log" 2>&1
+    status=$?
     cat "$log" >&2
     line=$(grep -aE '^[0-9]+ passed, [0-9]+ failed' "$log" | tail -n 1)
     rm -f "$log"
     if [ -z "$line" ]; then
-        note "checks" "no closing line"
+        note "checks $*" "no closing line"
         return
     fi
     passed=$((passed + ${line%% passed*}))
     m=${line#*, }
-    failed=$((failed + ${m%% failed*}))
+    m=${m%% failed*}
+    failed=$((failed + m))
+    if [ "$status" -ne 0 ] && [ "$m" -eq 0 ]; then
+        note "checks $*" "ended with status $status"
+    fi
 }
 
-if [ -d crates/capi ]; then
-    rt staticlib capi >&2 || note "capi" "the static library was not built"
-    checks --features library
-else
-    checks
-fi
+# Runs a command that passes or fails as a whole.
+one() {
+    local name=$1 fault=$2
+    shift 2
+    if "$@" >&2; then
+        passed=$((passed + 1))
+    else
+        note "$name" "$fault"
+    fi
+}
 
-if [ "$(sh solve.sh 2>/dev/null)" = "$(cat crates/solve/stdout)" ]; then
-    passed=$((passed + 1))
-else
-    note "solve.sh" "does not print the paper's three lines"
-fi
+paper_lines() {
+    [ "$(sh solve.sh)" = "$(printf '%s\n' 'n 2 lower 1 upper 1 products 1' 'x 0 3FF0000000000000' 'x 1 4000000000000000')" ]
+}
 
-if (cd bench && cargo test --release --offline --quiet >&2); then
-    passed=$((passed + 1))
-else
-    note "bench" "its solver differs from the reference"
-fi
+# The program and the library come first, since the checks run them; an older library must not stand in for one that
+# cannot be built.
+rm -f target/staticlib/libcapi.a
+one "solve.sh" "does not print the paper's three lines" paper_lines
+one "capi" "the static library was not built" rt staticlib capi
 
-if python3 -B -m unittest discover -s tools >&2; then
-    passed=$((passed + 1))
-else
-    note "tools" "the Matrix Market tool fails its tests"
-fi
+checks --features library
+checks --features standin --bin planted
+
+one "bench" "its solver differs from the reference" sh -c 'cd bench && cargo test --release --offline --quiet'
+one "tools" "the Matrix Market tool fails its tests" sh -c 'cd tools && python3 -B -m unittest test_mtx'
 
 echo "$passed passed, $failed failed"
 [ "$failed" -eq 0 ]

@@ -1,9 +1,18 @@
-/* Solves the paper's 2 by 2 file through the C interface: exit status 0 if every answer is as the paper has it. */
+/* Solves the paper's 2 by 2 file through the C interface, tries NULL for buffers of length 0, and shows what another
+ * floating-point environment changes. The exit status is 0 if every answer is as the header promises. */
 #include "lilacpliers.h"
 
+#include <setjmp.h>
+#include <signal.h>
 #include <stdio.h>
 #include <string.h>
+#include <xmmintrin.h>
 
+#if LP_VERSION != 1
+#error "this test is written for version 1 of the interface"
+#endif
+
+#define NONE NULL, 0
 #define LENGTH(list) (sizeof(list) / sizeof((list)[0]))
 #define LENT(list) (list), LENGTH(list)
 
@@ -80,6 +89,13 @@ static void plain_form(void)
     expect(lower.values[0] == 1.0 && upper.values[0] == 2.0 && d[0] == 0.5 && d[1] == 0.5, "factors");
     expect(lp_list_plain(LP_LOWER, 1, N, LENT(lower.starts), LENT(lower.index), LENT(upper.starts), LENT(upper.index),
                          LENT(report)) == LP_DONE && report[0] == 0 && report[1] == 1, "lower row 1");
+    expect(lp_list_plain(LP_LOWER, 0, N, LENT(lower.starts), LENT(lower.index), LENT(upper.starts), LENT(upper.index),
+                         LENT(report)) == LP_DONE && report[1] == 0, "lower row 0");
+    const uint32_t sides[] = {LP_UPPER, 2, 256, UINT32_MAX};
+    for (size_t i = 0; i < LENGTH(sides); i++)
+        expect(lp_list_plain(sides[i], 0, N, LENT(lower.starts), LENT(lower.index), LENT(upper.starts),
+                             LENT(upper.index), LENT(report)) == LP_DONE && report[0] == 0 && report[1] == 1,
+               "every side number but LP_LOWER is the upper side");
     expect(lp_structure_plain(N, LENT(starts), LENT(columns), LENT(order), LENT(order),
                               LENT(lower.starts), LENT(lower.index), LENT(lower.values),
                               LENT(upper.starts), LENT(upper.index), LENT(upper.values),
@@ -116,11 +132,117 @@ static void row_form(void)
     expect(d[0] == 0.0 && upper.values[0] == 0.0 && upper.index[0] == 0, "the row form leaves zeros");
 }
 
+/* Solves value * x = b, which needs no slots: all four stores are NULL. */
+static uint32_t solve_one(double value, double b, double *solution)
+{
+    const uint32_t one_row[2] = {0, 1};
+    const uint16_t zero[1] = {0};
+    uint32_t lower_starts[2], upper_starts[2], marks[16];
+    double pivot[1], work[3];
+    return lp_solve_plain(1, LENT(one_row), LENT(zero), &value, 1, LENT(zero), LENT(zero), &b, 1,
+                          LENT(lower_starts), NONE, NONE, LENT(upper_starts), NONE, NONE,
+                          LENT(pivot), solution, 1, LENT(work), LENT(marks), NONE);
+}
+
+/* A buffer of length 0 may be NULL in every call. (The tests in Rust try each buffer by itself.) */
+static void nulls(void)
+{
+    double solution = 0.0;
+    expect(solve_one(2.0, 8.0, &solution) == LP_DONE && solution == 4.0, "n = 1 with NULL stores and report");
+    expect(lp_solve_plain(0, NONE, NONE, NONE, NONE, NONE, NONE, NONE, NONE, NONE, NONE, NONE, NONE, NONE, NONE, NONE,
+                          NONE, NONE) == LP_ROWS, "plain solve, n = 0, all NULL");
+    expect(lp_solve_plain(1, NONE, NONE, NONE, NONE, NONE, NONE, NONE, NONE, NONE, NONE, NONE, NONE, NONE, NONE, NONE,
+                          NONE, NONE) == LP_LENGTHS, "plain solve, all NULL");
+    expect(lp_solve_shared(1, NONE, NONE, NONE, NONE, NONE, NONE, NONE, NONE, NONE, NONE, NONE, NONE, NONE, NONE, NONE,
+                           NONE, NONE, NONE, NONE) == LP_LENGTHS, "shared solve, all NULL");
+    expect(lp_solve_row(1, NONE, NONE, NONE, NONE, NONE, NONE, NONE, NONE, NONE, NONE, NONE, NONE, NONE, NONE,
+                        NONE) == LP_LENGTHS, "row solve, all NULL");
+    expect(lp_structure_plain(1, NONE, NONE, NONE, NONE, NONE, NONE, NONE, NONE, NONE, NONE, NONE, NONE,
+                              NONE) == LP_LENGTHS, "plain structure, all NULL");
+    expect(lp_structure_shared(1, NONE, NONE, NONE, NONE, NONE, NONE, NONE, NONE, NONE, NONE, NONE, NONE, NONE, NONE,
+                               NONE) == LP_LENGTHS, "shared structure, all NULL");
+    expect(lp_list_plain(LP_UPPER, 0, 1, NONE, NONE, NONE, NONE, NONE) == LP_DONE, "plain list, all NULL");
+    expect(lp_list_shared(LP_UPPER, 0, 1, NONE, NONE, NONE, NONE, NONE, NONE, NONE) == LP_DONE,
+           "shared list, all NULL");
+    expect(lp_file_shape(NONE, NONE) == LP_FILE_LENGTH, "shape, all NULL");
+    expect(lp_read_matrix(NONE, NONE, NONE, NONE, NONE, NONE, NONE, NONE) == LP_FILE_LENGTH, "read, all NULL");
+    expect(lp_write_matrix(1, NONE, NONE, NONE, NONE, NONE, NONE, NONE, NONE) == LP_LENGTHS, "write, all NULL");
+}
+
+/* Bits of MXCSR, the register of the floating-point environment. */
+enum {
+    FLAGS = 0x003F,
+    DENORMALS_ARE_ZERO = 0x0040,
+    ZERO_DIVISION_MASKED = 0x0200,
+    OVERFLOW_MASKED = 0x0400,
+    DEFAULT = 0x1F80,
+    ROUND_UP = 0x4000,
+    FLUSH_TO_ZERO = 0x8000
+};
+
+/* solve_one in another environment; the default one is there again afterwards. */
+static uint32_t solve_in(unsigned environment, double value, double b, double *solution)
+{
+    _mm_setcsr(environment);
+    uint32_t number = solve_one(value, b, solution);
+    _mm_setcsr(DEFAULT);
+    return number;
+}
+
+/* The default environment gives x, and the other one does not. */
+static void expect_other(unsigned environment, double value, double x, const char *what)
+{
+    double solution = 0.0;
+    expect(solve_in(DEFAULT, value, 1.0, &solution) == LP_DONE && solution == x, "the default environment");
+    solution = -1.0;
+    uint32_t number = solve_in(environment, value, 1.0, &solution);
+    expect(number != LP_DONE || solution != x, what);
+}
+
+static jmp_buf before_trap;
+
+static void trapped(int signal_number)
+{
+    longjmp(before_trap, signal_number);
+}
+
+/* Whether solving with the value ends in a trap. */
+static int traps(unsigned environment, double value)
+{
+    double solution;
+    void (*usual)(int) = signal(SIGFPE, trapped);
+    int signal_number = setjmp(before_trap);
+    if (signal_number == 0)
+        solve_in(environment, value, 1.0, &solution);
+    _mm_setcsr(DEFAULT);
+    signal(SIGFPE, usual);
+    return signal_number == SIGFPE;
+}
+
+static void environments(void)
+{
+    double solution = 0.0;
+    expect((_mm_getcsr() & ~(unsigned)FLAGS) == DEFAULT, "a program starts in the default environment");
+    expect_other(DEFAULT | FLUSH_TO_ZERO | DENORMALS_ARE_ZERO, 0x1p-1023, 0x1p1023, "flushing changes 2^-1023");
+    expect_other(DEFAULT | DENORMALS_ARE_ZERO, 0x1p-1023, 0x1p1023, "denormals as zero change 2^-1023");
+    expect_other(DEFAULT | FLUSH_TO_ZERO, 0x1p1023, 0x1p-1023, "flush to zero changes 2^1023");
+    expect_other(DEFAULT | ROUND_UP, 3.0, 0x1.5555555555555p-2, "rounding up changes 3");
+    expect(solve_in(DEFAULT | DENORMALS_ARE_ZERO, 0x1p-1023, 1.0, &solution) == LP_ZERO_PIVOT,
+           "where denormals are zero, 2^-1023 is a zero pivot");
+    expect(solve_in(DEFAULT, 0x1p-1024, 1.0, &solution) == LP_OVERFLOW, "2^-1024 overflows");
+    expect(!traps(DEFAULT, 0x1p-1024), "the default environment does not trap");
+    expect(traps(DEFAULT & ~OVERFLOW_MASKED, 0x1p-1024), "with a trap for overflow 2^-1024 ends in a signal");
+    expect(!traps(DEFAULT & ~ZERO_DIVISION_MASKED, 0x1p-1024) && !traps(DEFAULT & ~ZERO_DIVISION_MASKED, 0.0),
+           "nothing is divided by zero");
+}
+
 int main(void)
 {
     file_and_back();
     plain_form();
     shared_form();
     row_form();
+    nulls();
+    environments();
     return failures == 0 ? 0 : 1;
 }

@@ -2,6 +2,7 @@
 use crate::model::*;
 use std::fmt;
 
+/// What differs, as it is printed.
 #[derive(Clone, Debug, PartialEq)]
 pub struct Difference {
     pub what: String,
@@ -15,13 +16,15 @@ impl fmt::Display for Difference {
     }
 }
 
-/// Ok, or the first difference.
+/// Nothing where all is as expected, or the first difference.
 pub type Compared = Result<(), Difference>;
 
+/// Reports a difference between what was found and what was expected.
 pub fn differ<T>(what: impl Into<String>, found: impl fmt::Debug, expected: impl fmt::Debug) -> Result<T, Difference> {
     Err(Difference { what: what.into(), found: format!("{found:?}"), expected: format!("{expected:?}") })
 }
 
+/// Compares two values.
 pub fn same<T: PartialEq + fmt::Debug>(what: &str, found: &T, expected: &T) -> Compared {
     if found == expected {
         return Ok(());
@@ -29,6 +32,15 @@ pub fn same<T: PartialEq + fmt::Debug>(what: &str, found: &T, expected: &T) -> C
     differ(what, found, expected)
 }
 
+/// Compares a count with the least that will do.
+pub fn at_least(what: &str, found: u64, least: u64) -> Compared {
+    if found >= least {
+        return Ok(());
+    }
+    differ(what, found, format!("at least {least}"))
+}
+
+/// Compares two lists slot by slot.
 pub fn numbers<T: PartialEq + fmt::Debug>(name: &str, found: &[T], expected: &[T]) -> Compared {
     same(&format!("length of {name}"), &found.len(), &expected.len())?;
     for (slot, (a, b)) in found.iter().zip(expected).enumerate() {
@@ -39,12 +51,12 @@ pub fn numbers<T: PartialEq + fmt::Debug>(name: &str, found: &[T], expected: &[T
     Ok(())
 }
 
-/// Bit by bit, the payload of a NaN too.
+/// Compares two lists of numbers bit by bit, the payload of a NaN too.
 pub fn floats(name: &str, found: &[f64], expected: &[f64]) -> Compared {
     float_slots(name, found, expected, |a, b| a.to_bits() == b.to_bits())
 }
 
-/// Bit by bit, but one NaN is as good as another.
+/// Compares two lists of numbers bit by bit, but one NaN is as good as another.
 pub fn floats_one_nan(name: &str, found: &[f64], expected: &[f64]) -> Compared {
     float_slots(name, found, expected, |a, b| a.to_bits() == b.to_bits() || (a.is_nan() && b.is_nan()))
 }
@@ -67,7 +79,7 @@ fn stores(name: &str, found: &Store, expected: &Store) -> Compared {
     floats(&format!("{name} value store"), &found.values, &expected.values)
 }
 
-/// Every buffer that a call may write.
+/// Compares every buffer that a call may write.
 pub fn buffers(found: &Buffers, expected: &Buffers) -> Compared {
     stores("lower", &found.lower, &expected.lower)?;
     stores("upper", &found.upper, &expected.upper)?;
@@ -77,7 +89,7 @@ pub fn buffers(found: &Buffers, expected: &Buffers) -> Compared {
     numbers("scratch u32", &found.scratch_u32, &expected.scratch_u32)
 }
 
-/// The parts of a matrix as a file holds them; with `one_nan`, one NaN is as good as another.
+/// Compares the parts of a matrix as a file holds them; with `one_nan`, one NaN is as good as another.
 pub fn matrices(found: &Input, expected: &Input, one_nan: bool) -> Compared {
     let compare = if one_nan { floats_one_nan } else { floats };
     numbers("starts", &found.starts, &expected.starts)?;

@@ -3,6 +3,7 @@
 use crate::compare::{self, differ, Compared, Difference};
 use crate::model::*;
 use crate::reference::Lists;
+use std::cell::Cell;
 
 /// The functions as the header declares them: `lent` and `out` stand for a pointer and a length.
 pub mod raw {
@@ -77,6 +78,15 @@ macro_rules! call {
 
 const MARGIN: usize = 16;
 
+thread_local! {
+    static NULLS: Cell<bool> = const { Cell::new(false) };
+}
+
+/// From now on a buffer of length 0 is lent as NULL, or else as a place between its margins.
+pub fn lend_nulls(nulls: bool) {
+    NULLS.set(nulls);
+}
+
 /// A copy of a lent buffer with slots on both sides that no call may touch.
 struct Guarded<T> {
     cells: Vec<T>,
@@ -92,6 +102,9 @@ impl<T: Copy + PartialEq> Guarded<T> {
     }
 
     fn pointer(&mut self) -> *mut T {
+        if NULLS.get() && self.length() == 0 {
+            return std::ptr::null_mut();
+        }
         self.cells[MARGIN..].as_mut_ptr()
     }
 
@@ -326,7 +339,7 @@ impl Loan {
         }
     }
 
-    /// The call itself and nothing else: its number.
+    /// Runs the call itself and nothing else, and returns its number.
     pub fn run(&mut self) -> u32 {
         let (n, lent, given, report) = (self.n, &mut self.lent, &mut self.given, &mut self.report);
         match self.call {
@@ -380,7 +393,7 @@ fn solve(form: Form, n: usize, m: &mut GuardedInput, g: &mut GuardedBuffers, rep
     }
 }
 
-/// Offset and length of a list's part of its index store.
+/// Looks a list up: offset and length of its part of the index store.
 pub fn lookup(lists: &Lists, side: Side, place: usize) -> Result<(usize, usize), Difference> {
     let mut l = GuardedStore::new(&lists.lower);
     let mut u = GuardedStore::new(&lists.upper);
@@ -402,7 +415,7 @@ pub fn lookup(lists: &Lists, side: Side, place: usize) -> Result<(usize, usize),
     Ok((offset as usize, length as usize))
 }
 
-/// n and e of a matrix file, or its refusal.
+/// Finds n and e of a matrix file, or its refusal.
 pub fn shape(file: &[u8]) -> Result<Result<(usize, usize), Refusal>, Difference> {
     let mut lent = guard_u8(file);
     let mut report = Report::new(4, 3);

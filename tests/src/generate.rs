@@ -248,7 +248,7 @@ fn break_order(random: &mut Random, n: usize, order: &mut [u16]) {
     order[slot] = random.pick(&[n as u16, u16::MAX, other, other, far]);
 }
 
-/// A column a second time in its row, at another entry of the row.
+/// Puts a column into its row a second time, at another entry.
 fn repeat_column(random: &mut Random, input: &mut Input) {
     let row = random.below(input.n);
     let from = input.starts[row] as usize;
@@ -259,7 +259,7 @@ fn repeat_column(random: &mut Random, input: &mut Input) {
     }
 }
 
-/// Takes a row's entries out.
+/// Takes the entries of a row out.
 fn empty_row(random: &mut Random, input: &mut Input) {
     let row = random.below(input.n);
     let from = input.starts[row] as usize;
@@ -271,7 +271,7 @@ fn empty_row(random: &mut Random, input: &mut Input) {
     }
 }
 
-/// One fault that a question before 9 may meet. (A second one may make the first moot.)
+/// Makes one fault that a question before 9 may meet. A second one may make the first moot.
 fn break_input(random: &mut Random, input: &mut Input) {
     let e = input.columns.len();
     let n = input.n;
@@ -513,7 +513,7 @@ fn disturb(random: &mut Random, n: usize, buffers: &mut Buffers) {
     }
 }
 
-/// New values over the same pattern.
+/// Draws new values over the same pattern.
 fn new_values(random: &mut Random, input: &mut Input) {
     let kind = random.pick(&VALUES);
     let n = input.n;
@@ -553,7 +553,7 @@ fn wrong_length(random: &mut Random, case: &mut Case) {
     }
 }
 
-/// A store, or the columns, one over the limit. (Large, so seldom done.)
+/// Makes a store, or the columns, one slot too long. It is large, so seldom done.
 fn over_limit(random: &mut Random, case: &mut Case) {
     if !random.per_mille(100) {
         return;
@@ -572,7 +572,7 @@ fn over_limit(random: &mut Random, case: &mut Case) {
 }
 
 /// Takes away what the call is not lent.
-fn only_lent(case: &mut Case) {
+pub fn only_lent(case: &mut Case) {
     let (input, buffers) = (&mut case.input, &mut case.buffers);
     match case.call {
         Call::Structure(_) => {
@@ -669,7 +669,7 @@ fn change_at(random: &mut Random, store: &mut Store, place: usize) {
     }
 }
 
-/// Lists to look up: side and place besides.
+/// Lists to look up, with the side and the place.
 pub fn lookup_case(random: &mut Random) -> (Lists, Side, usize) {
     let form = random.pick(&[Form::Plain, Form::Shared]);
     let mut case = case_of(random, Call::Refactor(form));

@@ -1,7 +1,7 @@
 //! Matrices that are made by a rule: the test load of request 1, tridiagonal systems, grids.
 use crate::model::Input;
 
-/// Rows of (column, value) as a matrix with orders 0, 1, ...
+/// The matrix of rows of (column, value), with orders 0, 1, ...
 pub fn from_rows(rows: &[Vec<(usize, f64)>], b: &[f64]) -> Input {
     let n = rows.len();
     let mut input = Input { n, b: b.to_vec(), ..Input::default() };
@@ -36,7 +36,7 @@ pub fn test_load(n: usize, seed: u16) -> Input {
     from_rows(&rows, &vec![1.0; n])
 }
 
-/// 4 on the diagonal, -1 beside it.
+/// A tridiagonal system: 4 on the diagonal, -1 beside it.
 pub fn tridiagonal(n: usize) -> Input {
     let rows: Vec<Vec<(usize, f64)>> = (0..n)
         .map(|k| {

@@ -1,10 +1,13 @@
 //! What the calls are lent and what they answer.
 
-/// The greatest n, e and number of slots of a store.
+/// The greatest n.
 pub const MAX_ROWS: usize = 4_096;
+/// The greatest e.
 pub const MAX_ENTRIES: usize = 65_536;
+/// The greatest number of slots of a store.
 pub const MAX_SLOTS: usize = 1_048_576;
 
+/// The three storage forms.
 #[derive(Clone, Copy, PartialEq, Eq, Debug)]
 pub enum Form {
     Plain,
@@ -12,6 +15,7 @@ pub enum Form {
     Row,
 }
 
+/// The two sides of the diagonal.
 #[derive(Clone, Copy, PartialEq, Eq, Debug)]
 pub enum Side {
     Lower,
@@ -28,6 +32,7 @@ pub enum Call {
 }
 
 impl Call {
+    /// The call's storage form.
     pub fn form(self) -> Form {
         match self {
             Call::Structure(f) | Call::Solve(f) | Call::Refactor(f) | Call::Resolve(f) => f,
@@ -81,6 +86,7 @@ pub struct Buffers {
 }
 
 impl Buffers {
+    /// The buffers of a side, to be read.
     pub fn side(&self, side: Side) -> &Store {
         match side {
             Side::Lower => &self.lower,
@@ -88,6 +94,7 @@ impl Buffers {
         }
     }
 
+    /// The buffers of a side, to be written.
     pub fn side_mut(&mut self, side: Side) -> &mut Store {
         match side {
             Side::Lower => &mut self.lower,
@@ -96,6 +103,7 @@ impl Buffers {
     }
 }
 
+/// The filled positions below and above the diagonal, and the products.
 #[derive(Clone, Copy, PartialEq, Eq, Debug, Default)]
 pub struct Counts {
     pub lower: u64,
@@ -110,6 +118,7 @@ pub struct Refusal {
     pub place: u64,
 }
 
+/// Ends with a refusal.
 pub fn refuse<T>(number: u32, place: usize) -> Result<T, Refusal> {
     Err(Refusal { number, place: place as u64 })
 }
@@ -144,6 +153,7 @@ pub struct Slots {
 }
 
 impl Slots {
+    /// The same number of slots for each store.
     pub fn all(count: usize) -> Slots {
         Slots { lower_index: count, lower_values: count, upper_index: count, upper_values: count }
     }

@@ -1,10 +1,12 @@
 //! A small generator of pseudo-random numbers (splitmix64): the same seed gives the same numbers everywhere.
 
+/// The state of a generator.
 pub struct Random {
     state: u64,
 }
 
 impl Random {
+    /// A generator that starts from the seed.
     pub fn new(seed: u64) -> Random {
         Random { state: seed }
     }
@@ -16,6 +18,7 @@ impl Random {
         Random { state: state ^ case }
     }
 
+    /// The next 64 random bits.
     pub fn bits(&mut self) -> u64 {
         self.state = self.state.wrapping_add(0x9E37_79B9_7F4A_7C15);
         let mut z = self.state;
@@ -42,15 +45,17 @@ impl Random {
         self.below(1000) < parts
     }
 
+    /// One of the values, each as likely.
     pub fn pick<T: Copy>(&mut self, from: &[T]) -> T {
         from[self.below(from.len())]
     }
 
-    /// From 0 to 1, 1 excluded.
+    /// A number from 0 to 1, 1 excluded.
     pub fn unit(&mut self) -> f64 {
         (self.bits() >> 11) as f64 / (1u64 << 53) as f64
     }
 
+    /// Puts the list into a random order.
     pub fn shuffle<T>(&mut self, list: &mut [T]) {
         for i in (1..list.len()).rev() {
             let j = self.below(i + 1);
@@ -58,6 +63,7 @@ impl Random {
         }
     }
 
+    /// The numbers 0 to n - 1 in a random order.
     pub fn permutation(&mut self, n: usize) -> Vec<usize> {
         let mut order: Vec<usize> = (0..n).collect();
         self.shuffle(&mut order);

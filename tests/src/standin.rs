@@ -1,16 +1,74 @@
-//! The reference behind the C interface, to try the comparison without the library. The environment variable
-//! LILACPLIERS_FAULT plants a fault by its name, which the comparison must find.
+//! The reference behind the C interface, with a fault planted that the comparison must find.
 use crate::model::*;
 use crate::reference::{self, matrix_file, Lists};
+use std::cell::Cell;
 
-fn fault(name: &str) -> bool {
-    std::env::var("LILACPLIERS_FAULT").is_ok_and(|planted| planted == name)
+/// The faults that can be planted, each small and met by some inputs only.
+#[derive(Clone, Copy, PartialEq, Eq, Debug)]
+pub enum Fault {
+    /// After 13 a scratch slot is not zero.
+    Scratch,
+    /// 12 names the place behind the pivot's.
+    Place,
+    /// One of more than three products is not counted.
+    Products,
+    /// The last bit of the shared form's first number of x is wrong.
+    LastBit,
+    /// The last slot of the upper index store has its last bit set.
+    UnusedSlot,
+    /// After 13 d begins with -0.
+    NegativeZero,
+    /// A list of two entries is handed back one slot too late.
+    Lookup,
+    /// 17 names block 0.
+    Block,
+}
+
+/// Every fault.
+pub const FAULTS: [Fault; 8] = [
+    Fault::Scratch,
+    Fault::Place,
+    Fault::Products,
+    Fault::LastBit,
+    Fault::UnusedSlot,
+    Fault::NegativeZero,
+    Fault::Lookup,
+    Fault::Block,
+];
+
+thread_local! {
+    static PLANTED: Cell<Option<Fault>> = const { Cell::new(None) };
+}
+
+/// From now on the stand-in has this fault, or none.
+pub fn plant(fault: Option<Fault>) {
+    PLANTED.set(fault);
+}
+
+fn has(fault: Fault) -> bool {
+    PLANTED.get() == Some(fault)
 }
 
 fn put_report(report: &mut [u64], slots: &[u64]) {
     for (to, from) in report.iter_mut().zip(slots) {
         *to = *from;
     }
+}
+
+/// A lent buffer; it may be NULL where its length is 0.
+unsafe fn lent<'a, T>(pointer: *const T, length: usize) -> &'a [T] {
+    if length == 0 {
+        return &[];
+    }
+    std::slice::from_raw_parts(pointer, length)
+}
+
+/// A written buffer; it may be NULL where its length is 0.
+unsafe fn out<'a, T>(pointer: *mut T, length: usize) -> &'a mut [T] {
+    if length == 0 {
+        return &mut [];
+    }
+    std::slice::from_raw_parts_mut(pointer, length)
 }
 
 /// Defines an exported function: `lent` and `out` are slices made of a pointer and a length.
@@ -29,11 +87,11 @@ macro_rules! export {
     };
     (@ $name:ident [$($param:tt)*] [$($make:stmt;)*] $arg:ident: lent $kind:ty, $($rest:tt)*) => {
         export! { @ $name [$($param)* $arg: *const $kind, length: usize,]
-            [$($make;)* let $arg = std::slice::from_raw_parts($arg, length);] $($rest)* }
+            [$($make;)* let $arg = lent($arg, length);] $($rest)* }
     };
     (@ $name:ident [$($param:tt)*] [$($make:stmt;)*] $arg:ident: out $kind:ty, $($rest:tt)*) => {
         export! { @ $name [$($param)* $arg: *mut $kind, length: usize,]
-            [$($make;)* let $arg = std::slice::from_raw_parts_mut($arg, length);] $($rest)* }
+            [$($make;)* let $arg = out($arg, length);] $($rest)* }
     };
     ($name:ident: $($rest:tt)*) => { export! { @ $name [] [] $($rest)* } };
 }
@@ -97,26 +155,26 @@ fn run(call: Call, input: Input, mut lower: Lent, mut upper: Lent, rest: Rest) -
 
 /// The planted faults of the calls.
 fn spoil(call: Call, mut answer: Answer, buffers: &mut Buffers) -> Answer {
-    if fault("scratch") && answer.number == 13 {
+    if has(Fault::Scratch) && answer.number == 13 {
         buffers.scratch_f64[0] = 1.0;
     }
-    if fault("place") && answer.number == 12 {
+    if has(Fault::Place) && answer.number == 12 {
         answer.place += 1;
     }
-    if fault("products") && answer.number == 0 && answer.counts.products > 3 {
+    if has(Fault::Products) && answer.number == 0 && answer.counts.products > 3 {
         answer.counts.products -= 1;
     }
-    if fault("last-bit") && answer.number == 0 && call.form() == Form::Shared {
+    if has(Fault::LastBit) && answer.number == 0 && call.form() == Form::Shared {
         if let Some(x) = buffers.x.first_mut() {
             *x = f64::from_bits(x.to_bits() ^ 1);
         }
     }
-    if fault("unused-slot") && answer.number == 0 {
+    if has(Fault::UnusedSlot) && answer.number == 0 {
         if let Some(slot) = buffers.upper.index.last_mut() {
             *slot |= 1;
         }
     }
-    if fault("negative-zero") && answer.number == 13 {
+    if has(Fault::NegativeZero) && answer.number == 13 {
         buffers.d.iter_mut().take(1).for_each(|d| *d = -0.0);
     }
     answer
@@ -195,7 +253,7 @@ us: out u32, ur: out u32, ui: out u16, uv: out f64, d: out f64, x: out f64, sf: 
 fn find(form: Form, side: u32, place: usize, n: usize, lower: Store, upper: Store, report: &mut [u64]) -> u32 {
     let side = if side == 0 { Side::Lower } else { Side::Upper };
     let (mut offset, length) = reference::lookup(&Lists { form, n, lower, upper }, side, place);
-    if fault("lookup") && length == 2 {
+    if has(Fault::Lookup) && length == 2 {
         offset += 1;
     }
     put_report(report, &[offset as u64, length as u64]);
@@ -221,7 +279,7 @@ export! { lp_file_shape: file: lent u8, report: out u64,
             put_report(report, &[0, n as u64, e as u64]);
             0
         }
-        Err(q) if fault("block") && q.number == 17 => {
+        Err(q) if has(Fault::Block) && q.number == 17 => {
             put_report(report, &[0, 0, 0]);
             17
         }

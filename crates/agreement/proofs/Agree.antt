@@ -1,42 +1,41 @@
 -- Demand 3 proved: the three solves answer alike, and what they answer.
-use mathlib.Core.Path.{_≡_, refl, sym, ap, ap₂, _∙_, subst}
-use mathlib.Core.Bool.{Bool, true, false, not, _&&_, true≢false}
+use mathlib.Core.Path.{_≡_, refl, sym, ap, _∙_, subst, fun-ext}
+use mathlib.Core.Bool.{true, true≢false}
 use mathlib.Core.Logic.{_⊎_, inl, inr, _↔_}
-use mathlib.Core.List.{List}
-use lib.Ieee.{Float}
-use Prim.Native.Nat.{ℕ, zero, suc, _+_, _≤_, _<_}
+use Prim.Native.Nat.{ℕ, zero, _≤_, _<_}
 use native.Mathlib.Omega.{arith}
 use native.Mathlib.Decide.{decLt}
-use Rattle.fill.specs.Fill.{Pattern, Walk, filled}
+use Rattle.fill.specs.Fill.{filled}
 use Rattle.fill.specs.RowRule.{diagonal-walk}
 use Rattle.base.specs.First.{first}
-use Rattle.base.specs.FirstLaws.{first-at, first-all, first-none, first-found}
-use Rattle.arithmetic.specs.Arith.{Fault, zeroPivot, overflow, Out, ok, met, Result}
-use Rattle.arithmetic.specs.Listing.{Meets}
-use Rattle.arithmetic.specs.ListingLaws.{solved-meets, solved-value}
+use Rattle.base.specs.FirstLaws.{first-none, first-found}
+use Rattle.arithmetic.specs.Arith.{Fault, zeroPivot, overflow, Out, ok, met, Result, wholeRun}
+use Rattle.arithmetic.specs.Meets.{Meets, judged-meets, judged-value}
 use Rattle.base.specs.declared.Found.{Found}
 use Rattle.base.specs.declared.Found.the-variants.{At, Nothing}
 use Rattle.base.specs.declared.Counts.{Counts}
 use Rattle.base.specs.declared.Refusal.{Refusal}
-use Rattle.base.specs.declared.Refusal.the-variants.{NullPivot}
 use Rattle.base.specs.declared.Asked.{Asked}
 use Rattle.base.specs.declared.Asked.the-variants.{Pass, Stop}
 use Rattle.base.specs.declared.Answer.{Answer}
 use Rattle.base.specs.declared.Answer.the-variants.{Done, Refused}
 use Rattle.matrix.specs.Input.{Input, stored, ownOrder}
-use Rattle.outcome.specs.Solve.{system, listed, faultOf, earlier, left, solve}
+use Rattle.outcome.specs.Calls.{SolvesPlain, SolvesShared, SolvesByRow}
+use Rattle.outcome.specs.Solve.{system, listed, faultOf, earlier, solve, Solves}
 use Rattle.outcome.specs.Structure.{counts, fits, askPlaces}
-use Rattle.agreement.specs.Demand.{operations, result, WalkBack, FirstNull, AllBack, Stated, Lacks, Short, Alike, Told, Demand3}
+use Rattle.agreement.specs.Demand.{operations, result, WalkBack, FirstNull, AllBack, Stated, Short, Roomy, Passed, byForm, FormsAgree}
 use Rattle.base.specs.declared.Form.{Form}
 use Rattle.base.specs.declared.Form.the-variants.{Plain, Shared, ByRow}
 use Rattle.base.specs.declared.Side.{Side}
-use Rattle.outcome.specs.Buffers.{Buffers, sizes, sideOf, bufferTests, Outcome}
-use Rattle.base.specs.declared.Sizes.{Sizes}
-use Rattle.base.specs.Answers.{numberOf, placeOf, numberOfAnswer, countsOf, spot, absent, placeOfAnswer}
+use lib.Ieee.{Float}
+use mathlib.Core.List.{List}
+use Rattle.outcome.specs.Buffers.{plainBuffers, sharedBuffers, rowBuffers, Buffers, sizes, Outcome}
+use Rattle.base.specs.Answers.{numberOf, numberOfAnswer, countsOf, absent, placeOfAnswer}
 use Rattle.base.specs.Tests.{not-true, not-false, by-test}
-use Rattle.outcome.proofs.Asking.{stop-pass, stop-inj, number-some, Within}
+use Rattle.outcome.proofs.Asking.{number-some, Within}
 use Rattle.outcome.proofs.Places.{null, nullAt, wants, wanting, Fails, unfilled, lack, places-pass, places-stop, lack-stops, only-null}
-use Rattle.outcome.proofs.Answers.{verdict, answered, faulted, solve-answer, solve-x, solve-left, Early, earlier-early, ofMatrix, earlier-stated}
+use Rattle.outcome.proofs.Ends.{solve-ends}
+use Rattle.outcome.proofs.Answers.{verdict, solve-answer, solve-x, Early, earlier-early, ofMatrix, earlier-stated}
 
 back→ : (i : Input) (k : ℕ) → WalkBack i k → filled (stored i) k k ≡ true
 back→ i k = diagonal-walk (stored i) k .1
@@ -72,7 +71,7 @@ fits-unless f i s room p k l full side =
     by-test (fits f side (stored i) (i .n) (sizes s) k) (λ e. e)
     (λ e. absurd (room (record { passed = p; k = k; below = l; filled = λ j a. →back i j (full j a); side = side; lacks = wants f (stored i) (i .n) (sizes s) side k e })))
 
-pub answer-is : (f : Form) (i : Input) (s : Buffers) → Stated f i s → (Short f i s → ⊥) → solve f i s .answer ≡ expected i
+answer-is : (f : Form) (i : Input) (s : Buffers) → Stated f i s → (Short f i s → ⊥) → solve f i s .answer ≡ expected i
 unfolding Stated
 answer-is f i s h room = solve-answer f i s ∙ go (earlier f i (sizes s)) refl
   where
@@ -82,24 +81,6 @@ answer-is f i s h room = solve-answer f i s ∙ go (earlier f i (sizes s)) refl
     go : (a : Asked) → earlier f i (sizes s) ≡ a → verdict (earlier f i (sizes s)) (askPlaces f (stored i) (i .n) (sizes s) (i .n)) (listed i) (counts i) ≡ expected i
     go (Stop q) e = rw (← same, e)
     go Pass e = rw (← same, e, only-null f (stored i) (i .n) (sizes s) (i .n) (fits-unless f i s room e))
-
--- ---- alike
-
-ok-same : (o : Out Result) (a b : Result) → o ≡ ok a → o ≡ ok b → a ≡ b
-ok-same o a b e h = cc
-
-pub alike : (f g : Form) (i : Input) (s t : Buffers) → Stated f i s → Stated g i t → (Short f i s → ⊥) → (Short g i t → ⊥) → Alike (solve f i s) (solve g i t)
-alike f g i s t h k p q =
-    let e : solve f i s .answer ≡ solve g i t .answer = answer-is f i s h p ∙ sym (answer-is g i t k q) in
-    record {
-      same-number = ap numberOfAnswer e;
-      same-place = ap placeOfAnswer e;
-      same-counts = ap countsOf e;
-      same-bits = λ z.
-          let a = solve-x f i s z in
-          let b = solve-x g i t (ap numberOfAnswer (sym e) ∙ z) in
-          a .2 ∙ ap (λ (r : Result). ownOrder (i .c) (i .n) (r .z)) (ok-same (listed i) (a .0) (b .0) (a .1) (b .1)) ∙ sym (b .2);
-    }
 
 -- ---- what is told
 
@@ -115,70 +96,51 @@ zero-over j k e = let z : _≡_ {A = ℕ} 0 1 = cc in omega arith
 ok-met : (a : Result) (q : Fault) → _≡_ {A = Out Result} (ok a) (met q) → ⊥
 ok-met a q e = let z : _≡_ {A = ℕ} 0 1 = cc in omega arith
 
--- the same with the elimination that stops at its first fault
-record Heard (i : Input) (o : Outcome Answer) : Type 0 where
-  null : (numberOfAnswer (o .answer) ≡ 9) ↔ ((k : ℕ) × (k < i .n) × (WalkBack i k → ⊥))
-  null-first : numberOfAnswer (o .answer) ≡ 9 → FirstNull i (placeOfAnswer (o .answer))
-  zero : (k : ℕ) → ((numberOfAnswer (o .answer) ≡ 12) × (placeOfAnswer (o .answer) ≡ k)) ↔ (AllBack i × (listed i ≡ met (zeroPivot k)))
-  over : (k : ℕ) → ((numberOfAnswer (o .answer) ≡ 13) × (placeOfAnswer (o .answer) ≡ k)) ↔ (AllBack i × (listed i ≡ met (overflow k)))
-  solution : (numberOfAnswer (o .answer) ≡ 0) ↔ (AllBack i × ((q : Fault) → listed i ≡ met q → ⊥))
-  bits : numberOfAnswer (o .answer) ≡ 0 → (a : Result) × (listed i ≡ ok a) × (o .buffers .x ≡ ownOrder (i .c) (i .n) (a .z)) × (countsOf (o .answer) ≡ counts i)
+-- the same of an answer, with the elimination that stops at its first fault
+record Heard (i : Input) (a : Answer) : Type 0 where
+  null : (numberOfAnswer a ≡ 9) ↔ ((k : ℕ) × (k < i .n) × (WalkBack i k → ⊥))
+  null-first : numberOfAnswer a ≡ 9 → FirstNull i (placeOfAnswer a)
+  zero : (k : ℕ) → ((numberOfAnswer a ≡ 12) × (placeOfAnswer a ≡ k)) ↔ (AllBack i × (listed i ≡ met (zeroPivot k)))
+  over : (k : ℕ) → ((numberOfAnswer a ≡ 13) × (placeOfAnswer a ≡ k)) ↔ (AllBack i × (listed i ≡ met (overflow k)))
+  solution : (numberOfAnswer a ≡ 0) ↔ (AllBack i × ((q : Fault) → listed i ≡ met q → ⊥))
 
-module _ (i : Input) (o : Outcome Answer) where
-  -- the solution stands in x
-  abbrev Held : Type 0
-  Held = numberOfAnswer (o .answer) ≡ 0 → (a : Result) × (listed i ≡ ok a) × (o .buffers .x ≡ ownOrder (i .c) (i .n) (a .z))
-
-  told-null : (k : ℕ) → nulls i ≡ At k → o .answer ≡ Refused (nullAt k) → Heard i o
-  told-null k f e =
-      let n = null-found i k f in
-      record {
-        null = (λ h. (k, n .below, n .none), λ h. ap numberOfAnswer e);
-        null-first = λ h. subst (FirstNull i) (sym (ap placeOfAnswer e)) n;
-        zero = λ j. (λ h. absurd (omega (arith, ap numberOfAnswer e, h .0)), λ h. absurd (n .none (h .0 k (n .below))));
-        over = λ j. (λ h. absurd (omega (arith, ap numberOfAnswer e, h .0)), λ h. absurd (n .none (h .0 k (n .below))));
-        solution = (λ h. absurd (omega (arith, ap numberOfAnswer e, h)), λ h. absurd (n .none (h .0 k (n .below))));
-        bits = λ h. absurd (omega (arith, ap numberOfAnswer e, h));
-      }
-
-  told-zero : (k : ℕ) → AllBack i → listed i ≡ met (zeroPivot k) → o .answer ≡ Refused (faultOf (zeroPivot k)) → Heard i o
-  told-zero k all l e =
-      record {
-        null = (λ h. absurd (omega (arith, ap numberOfAnswer e, h)), λ h. absurd (h .2 (all (h .0) (h .1))));
-        null-first = λ h. absurd (omega (arith, ap numberOfAnswer e, h));
-        zero = λ j. (λ h. (all, l ∙ ap (λ (m : ℕ). met (zeroPivot m)) (sym (ap placeOfAnswer e) ∙ h .1)), λ h. (ap numberOfAnswer e, ap placeOfAnswer e ∙ met-zero k j (sym l ∙ h .1)));
-        over = λ j. (λ h. absurd (omega (arith, ap numberOfAnswer e, h .0)), λ h. absurd (zero-over k j (sym l ∙ h .1)));
-        solution = (λ h. absurd (omega (arith, ap numberOfAnswer e, h)), λ h. absurd (h .1 (zeroPivot k) l));
-        bits = λ h. absurd (omega (arith, ap numberOfAnswer e, h));
-      }
-
-  told-over : (k : ℕ) → AllBack i → listed i ≡ met (overflow k) → o .answer ≡ Refused (faultOf (overflow k)) → Heard i o
-  told-over k all l e =
-      record {
-        null = (λ h. absurd (omega (arith, ap numberOfAnswer e, h)), λ h. absurd (h .2 (all (h .0) (h .1))));
-        null-first = λ h. absurd (omega (arith, ap numberOfAnswer e, h));
-        zero = λ j. (λ h. absurd (omega (arith, ap numberOfAnswer e, h .0)), λ h. absurd (zero-over j k (sym (h .1) ∙ l)));
-        over = λ j. (λ h. (all, l ∙ ap (λ (m : ℕ). met (overflow m)) (sym (ap placeOfAnswer e) ∙ h .1)), λ h. (ap numberOfAnswer e, ap placeOfAnswer e ∙ met-over k j (sym l ∙ h .1)));
-        solution = (λ h. absurd (omega (arith, ap numberOfAnswer e, h)), λ h. absurd (h .1 (overflow k) l));
-        bits = λ h. absurd (omega (arith, ap numberOfAnswer e, h));
-      }
-
-  told-done : (a : Result) → AllBack i → listed i ≡ ok a → o .answer ≡ Done (counts i) → Held → Heard i o
-  told-done a all l e x =
-      record {
-        null = (λ h. absurd (omega (arith, ap numberOfAnswer e, h)), λ h. absurd (h .2 (all (h .0) (h .1))));
-        null-first = λ h. absurd (omega (arith, ap numberOfAnswer e, h));
-        zero = λ j. (λ h. absurd (omega (arith, ap numberOfAnswer e, h .0)), λ h. absurd (ok-met a (zeroPivot j) (sym l ∙ h .1)));
-        over = λ j. (λ h. absurd (omega (arith, ap numberOfAnswer e, h .0)), λ h. absurd (ok-met a (overflow j) (sym l ∙ h .1)));
-        solution = (λ h. (all, λ q m. ok-met a q (sym l ∙ m)), λ h. ap numberOfAnswer e);
-        bits = λ h. (x h .0, x h .1, x h .2, ap countsOf e);
-      }
-
-  told-by : (f : Found) (l : Out Result) → nulls i ≡ f → listed i ≡ l → o .answer ≡ verdict Pass (absent f nullAt) l (counts i) → Held → Heard i o
-  told-by (At k) l g h e x = told-null k g e
-  told-by Nothing (met (zeroPivot k)) g h e x = told-zero k (null-none i g) h e
-  told-by Nothing (met (overflow k)) g h e x = told-over k (null-none i g) h e
-  told-by Nothing (ok a) g h e x = told-done a (null-none i g) h e x
+told : (i : Input) (f : Found) (l : Out Result) → nulls i ≡ f → listed i ≡ l → Heard i (verdict Pass (absent f nullAt) l (counts i))
+told i (At k) l g e =
+    let n = null-found i k g in
+    record {
+      null = (λ h. (k, n .below, n .none), λ h. refl);
+      null-first = λ h. n;
+      zero = λ j. (λ h. absurd (omega (arith, h .0)), λ h. absurd (n .none (h .0 k (n .below))));
+      over = λ j. (λ h. absurd (omega (arith, h .0)), λ h. absurd (n .none (h .0 k (n .below))));
+      solution = (λ h. absurd (omega arith), λ h. absurd (n .none (h .0 k (n .below))));
+    }
+told i Nothing (met (zeroPivot k)) g e =
+    let all = null-none i g in
+    record {
+      null = (λ h. absurd (omega arith), λ h. absurd (h .2 (all (h .0) (h .1))));
+      null-first = λ h. absurd (omega arith);
+      zero = λ j. (λ h. (all, e ∙ ap (λ (m : ℕ). met (zeroPivot m)) (h .1)), λ h. (refl, met-zero k j (sym e ∙ h .1)));
+      over = λ j. (λ h. absurd (omega (arith, h .0)), λ h. absurd (zero-over k j (sym e ∙ h .1)));
+      solution = (λ h. absurd (omega arith), λ h. absurd (h .1 (zeroPivot k) e));
+    }
+told i Nothing (met (overflow k)) g e =
+    let all = null-none i g in
+    record {
+      null = (λ h. absurd (omega arith), λ h. absurd (h .2 (all (h .0) (h .1))));
+      null-first = λ h. absurd (omega arith);
+      zero = λ j. (λ h. absurd (omega (arith, h .0)), λ h. absurd (zero-over j k (sym (h .1) ∙ e)));
+      over = λ j. (λ h. (all, e ∙ ap (λ (m : ℕ). met (overflow m)) (h .1)), λ h. (refl, met-over k j (sym e ∙ h .1)));
+      solution = (λ h. absurd (omega arith), λ h. absurd (h .1 (overflow k) e));
+    }
+told i Nothing (ok a) g e =
+    let all = null-none i g in
+    record {
+      null = (λ h. absurd (omega arith), λ h. absurd (h .2 (all (h .0) (h .1))));
+      null-first = λ h. absurd (omega arith);
+      zero = λ j. (λ h. absurd (omega (arith, h .0)), λ h. absurd (ok-met a (zeroPivot j) (sym e ∙ h .1)));
+      over = λ j. (λ h. absurd (omega (arith, h .0)), λ h. absurd (ok-met a (overflow j) (sym e ∙ h .1)));
+      solution = (λ h. (all, λ q m. ok-met a q (sym e ∙ m)), λ h. refl);
+    }
 
 and-both : {A B C : Type 0} → B ↔ C → (A × B) ↔ (A × C)
 and-both e = (λ h. (h .0, e .0 (h .1)), λ h. (h .0, e .1 (h .1)))
@@ -188,30 +150,28 @@ join e h = (λ a. h .0 (e .0 a), λ c. e .1 (h .1 c))
 
 listed-meets : (i : Input) (q : Fault) → (listed i ≡ met q) ↔ Meets (operations i) q
 unfolding listed operations
-listed-meets i q = solved-meets (system i) q
+listed-meets i q = judged-meets (wholeRun (system i)) q
 
 listed-result : (i : Input) (a : Result) → listed i ≡ ok a → result i ≡ a
 unfolding listed result
-listed-result i a e = solved-value (system i) a e
+listed-result i a e = judged-value (wholeRun (system i)) a e
 
-heard-told : (i : Input) (o : Outcome Answer) → Heard i o → Told i o
-heard-told i o h =
-    record {
-      null = h .null;
-      null-first = h .null-first;
-      zero = λ k. join (h .zero k) (and-both (listed-meets i (zeroPivot k)));
-      over = λ k. join (h .over k) (and-both (listed-meets i (overflow k)));
-      solution = join (h .solution) (and-both (λ n q m. n q (listed-meets i q .1 m), λ n q m. n q (listed-meets i q .0 m)));
-      bits = λ e. let b = h .bits e in b .2 ∙ ap (λ (a : Result). ownOrder (i .c) (i .n) (a .z)) (sym (listed-result i (b .0) (b .1)));
-      counted = λ e. h .bits e .3;
-    }
-
-pub told : (f : Form) (i : Input) (s : Buffers) → Stated f i s → (Short f i s → ⊥) → earlier f i (sizes s) ≡ Pass → Told i (solve f i s)
+heard : (f : Form) (i : Input) (s : Buffers) → Stated f i s → Roomy f i s → Passed f i s → Heard i (solve f i s .answer)
 unfolding Stated
-told f i s h room p =
-    heard-told i (solve f i s) (told-by i (solve f i s) (nulls i) (listed i) refl refl
-    (answer-is f i s h room ∙ ap (λ (a : Asked). verdict a (absent (nulls i) nullAt) (listed i) (counts i)) (sym (earlier-stated f i (sizes s) h) ∙ p))
-    (solve-x f i s))
+heard f i s h room p =
+    subst (Heard i) (sym (answer-is f i s h room ∙ ap (λ (a : Asked). verdict a (absent (nulls i) nullAt) (listed i) (counts i)) (sym (earlier-stated f i (sizes s) h) ∙ p)))
+    (told i (nulls i) (listed i) refl refl)
+
+-- a solution's counts are the paper's
+counts-told : (a b : Asked) (o : Out Result) (c : Counts) → numberOfAnswer (verdict a b o c) ≡ 0 → countsOf (verdict a b o c) ≡ c
+counts-told (Stop q) b o c e = absurd (number-some q e)
+counts-told Pass (Stop q) o c e = absurd (number-some q e)
+counts-told Pass Pass (met q) c e = absurd (number-some (faultOf q) e)
+counts-told Pass Pass (ok a) c e = refl
+
+-- x after a solution is what the listed operations come to
+bits-told : (f : Form) (i : Input) (s : Buffers) → numberOfAnswer (solve f i s .answer) ≡ 0 → solve f i s .buffers .x ≡ ownOrder (i .c) (i .n) (result i .z)
+bits-told f i s e = let b = solve-x f i s e in b .2 ∙ ap (λ (a : Result). ownOrder (i .c) (i .n) (a .z)) (sym (listed-result i (b .0) (b .1)))
 
 -- ---- short of slots
 
@@ -281,26 +241,53 @@ short-told f i s = (from, to)
 early-told : (a b : Asked) (o : Out Result) (c : Counts) (q : Refusal) → a ≡ Stop q → verdict a b o c ≡ Refused q
 early-told a b o c q e = rw e
 
--- "For every matrix, orders and right side, the solves .., with buffers of the stated lengths, whatever these held before, and none of the three short of slots, .."
-pub demand-3 : (i : Input) (s : Form → Buffers) → ((f : Form) → Stated f i (s f)) → ((f : Form) → Short f i (s f) → ⊥) → Demand3 i s
+-- "For every matrix, orders and right side, the solves .., with buffers of the stated lengths, whatever these held before, .."
+pub solves-agree : (i : Input) (s : Form → Buffers) → ((f : Form) → Stated f i (s f)) → FormsAgree i s (λ f. solve f i (s f) .answer) (λ f. solve f i (s f) .buffers)
 unfolding Stated
-demand-3 i s h room =
+solves-agree i s h =
     record {
-      alike = λ f g. alike f g i (s f) (s g) (h f) (h g) (room f) (room g);
+      same-answer = same;
+      same-bits = λ f g r q z. bits-told f i (s f) z ∙ sym (bits-told g i (s g) (ap numberOfAnswer (sym (same f g r q)) ∙ z));
+      untouched = λ f. solve-ends f i (s f) .x;
       early = λ f q e. solve-answer f i (s f) ∙ early-told _ (askPlaces f (stored i) (i .n) (sizes (s f)) (i .n)) (listed i) (counts i) q e;
       asked = λ f g. earlier-stated f i (sizes (s f)) (h f) ∙ sym (earlier-stated g i (sizes (s g)) (h g));
-      told = λ f. told f i (s f) (h f) (room f);
+      null = λ f r p. heard f i (s f) (h f) r p .null;
+      null-first = λ f r p. heard f i (s f) (h f) r p .null-first;
+      zero = λ f r p k. join (heard f i (s f) (h f) r p .zero k) (and-both (listed-meets i (zeroPivot k)));
+      over = λ f r p k. join (heard f i (s f) (h f) r p .over k) (and-both (listed-meets i (overflow k)));
+      solution = λ f r p. join (heard f i (s f) (h f) r p .solution) (and-both (λ n q m. n q (listed-meets i q .1 m), λ n q m. n q (listed-meets i q .0 m)));
+      bits = λ f. bits-told f i (s f);
+      counted = λ f e. ap countsOf (solve-answer f i (s f)) ∙ counts-told (earlier f i (sizes (s f))) (askPlaces f (stored i) (i .n) (sizes (s f)) (i .n)) (listed i) (counts i) (ap numberOfAnswer (sym (solve-answer f i (s f))) ∙ e);
+      short = λ f. short-told f i (s f);
     }
+  where
+    same : (f g : Form) → Roomy f i (s f) → Roomy g i (s g) → solve f i (s f) .answer ≡ solve g i (s g) .answer
+    same f g r q = answer-is f i (s f) (h f) r ∙ sym (answer-is g i (s g) (h g) q)
 
--- ---- what the buffers held before does not count, only their lengths
+-- the same of whatever answers and buffers meet the three contracts
+calls-agree : (i : Input) (s : Form → Buffers) (a : Form → Answer) (t : Form → Buffers) → ((f : Form) → Stated f i (s f)) → ((f : Form) → Solves f i (s f) (a f) (t f)) → FormsAgree i s a t
+calls-agree i s a t h e = subst (λ (o : Form → Outcome Answer). FormsAgree i s (λ f. o f .answer) (λ f. o f .buffers)) (sym (fun-ext e)) (solves-agree i s h)
 
-pub forgets : (f : Form) (i : Input) (s t : Buffers) → sizes s ≡ sizes t
-    → (solve f i s .answer ≡ solve f i t .answer) × (numberOfAnswer (solve f i s .answer) ≡ 0 → solve f i s .buffers ≡ solve f i t .buffers)
-forgets f i s t e =
-    let same = solve-answer f i s ∙ ap (λ (z : Sizes). verdict (earlier f i z) (askPlaces f (stored i) (i .n) z (i .n)) (listed i) (counts i)) e ∙ sym (solve-answer f i t) in (
-      same,
-      λ h.
-          let a = solve-left f i s h in
-          let b = solve-left f i t (ap numberOfAnswer (sym same) ∙ h) in
-          a .2 ∙ ap₂ (left f i) e (ok-same (listed i) (a .0) (b .0) (a .1) (b .1)) ∙ sym (b .2),
-    )
+-- ---- the three calls
+
+pub by-form : (P : Form → Type 0) → P Plain → P Shared → P ByRow → (f : Form) → P f
+by-form P p s r Plain = p
+by-form P p s r Shared = s
+by-form P p s r ByRow = r
+
+-- of what `solve_plain`, `solve_shared` and `solve_row` ensure, for one input and any lists of the stated lengths
+pub forms-agree : {i : Input} {a₁ a₂ a₃ : Answer}
+    {ls₁ li₁ us₁ ui₁ m₁ ls₁' li₁' us₁' ui₁' m₁' : List ℕ} {lv₁ uv₁ d₁ x₁ w₁ lv₁' uv₁' d₁' x₁' w₁' : List Float}
+    {ls₂ lr₂ li₂ us₂ ur₂ ui₂ m₂ ls₂' lr₂' li₂' us₂' ur₂' ui₂' m₂' : List ℕ} {lv₂ uv₂ d₂ x₂ w₂ lv₂' uv₂' d₂' x₂' w₂' : List Float}
+    {us₃ ur₃ ui₃ m₃ us₃' ur₃' ui₃' m₃' : List ℕ} {uv₃ d₃ x₃ w₃ uv₃' d₃' x₃' w₃' : List Float}
+    → SolvesPlain i ls₁ li₁ lv₁ us₁ ui₁ uv₁ d₁ x₁ w₁ m₁ a₁ ls₁' li₁' lv₁' us₁' ui₁' uv₁' d₁' x₁' w₁' m₁'
+    → SolvesShared i ls₂ lr₂ li₂ lv₂ us₂ ur₂ ui₂ uv₂ d₂ x₂ w₂ m₂ a₂ ls₂' lr₂' li₂' lv₂' us₂' ur₂' ui₂' uv₂' d₂' x₂' w₂' m₂'
+    → SolvesByRow i us₃ ur₃ ui₃ uv₃ d₃ x₃ w₃ m₃ a₃ us₃' ur₃' ui₃' uv₃' d₃' x₃' w₃' m₃'
+    → Stated Plain i (plainBuffers ls₁ li₁ lv₁ us₁ ui₁ uv₁ d₁ x₁ w₁ m₁)
+    → Stated Shared i (sharedBuffers ls₂ lr₂ li₂ lv₂ us₂ ur₂ ui₂ uv₂ d₂ x₂ w₂ m₂)
+    → Stated ByRow i (rowBuffers us₃ ur₃ ui₃ uv₃ d₃ x₃ w₃ m₃)
+    → FormsAgree i
+    (byForm (plainBuffers ls₁ li₁ lv₁ us₁ ui₁ uv₁ d₁ x₁ w₁ m₁) (sharedBuffers ls₂ lr₂ li₂ lv₂ us₂ ur₂ ui₂ uv₂ d₂ x₂ w₂ m₂) (rowBuffers us₃ ur₃ ui₃ uv₃ d₃ x₃ w₃ m₃))
+    (byForm a₁ a₂ a₃)
+    (byForm (plainBuffers ls₁' li₁' lv₁' us₁' ui₁' uv₁' d₁' x₁' w₁' m₁') (sharedBuffers ls₂' lr₂' li₂' lv₂' us₂' ur₂' ui₂' uv₂' d₂' x₂' w₂' m₂') (rowBuffers us₃' ur₃' ui₃' uv₃' d₃' x₃' w₃' m₃'))
+forms-agree p s r lp ls lr = calls-agree _ _ _ _ (by-form _ lp ls lr) (by-form _ p s r)

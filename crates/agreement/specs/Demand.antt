@@ -1,23 +1,22 @@
--- Demand 3 in words, as types: what the three solves owe each other and the paper.
+-- Demand 3 in words, as types: what the three solves owe each other and the paper. Definitions only.
 use mathlib.Core.Path.{_≡_}
 use mathlib.Core.Bool.{true}
 use mathlib.Core.Logic.{_⊎_, _↔_}
 use mathlib.Core.List.{List}
 use Prim.Native.Nat.{ℕ, suc, _≤_, _<_}
-use lib.Ieee.{Float}
 use Rattle.fill.specs.Fill.{Walk}
 use Rattle.base.specs.All.{all}
 use Rattle.base.specs.Answers.{numberOfAnswer, placeOfAnswer, countsOf}
-use Rattle.arithmetic.specs.Arith.{Fault, zeroPivot, overflow, Result}
-use Rattle.arithmetic.specs.Listing.{Event, Meets, wholeRun}
+use Rattle.arithmetic.specs.Arith.{Event, Fault, zeroPivot, overflow, Result, wholeRun}
+use Rattle.arithmetic.specs.Meets.{Meets}
 use Rattle.matrix.specs.Input.{Input, stored, ownOrder}
 use Rattle.outcome.specs.Forms.{indexNeed, valueNeed}
-use Rattle.outcome.specs.Buffers.{Buffers, sizes, sideOf, bufferTests, Outcome}
+use Rattle.outcome.specs.Buffers.{Buffers, sizes, sideOf, bufferTests}
 use Rattle.outcome.specs.Structure.{counts}
-use Rattle.outcome.specs.Solve.{system, earlier, solve}
+use Rattle.outcome.specs.Solve.{system, earlier}
 use Rattle.base.specs.declared.Form.{Form}
+use Rattle.base.specs.declared.Form.the-variants.{Plain, Shared, ByRow}
 use Rattle.base.specs.declared.Side.{Side}
-use Rattle.base.specs.declared.Asked.{Asked}
 use Rattle.base.specs.declared.Asked.the-variants.{Pass, Stop}
 use Rattle.base.specs.declared.Refusal.{Refusal}
 use Rattle.base.specs.declared.Answer.{Answer}
@@ -64,34 +63,42 @@ pub record Short (f : Form) (i : Input) (s : Buffers) : Type 0 where
   pub side : Side
   pub lacks : Lacks f i s side k
 
--- "answer alike: the same solution bits .. with the same three counts, or the same refusal number at the same place"
-pub record Alike (a b : Outcome Answer) : Type 0 where
-  pub same-number : numberOfAnswer (a .answer) ≡ numberOfAnswer (b .answer)
-  pub same-place : placeOfAnswer (a .answer) ≡ placeOfAnswer (b .answer)
-  pub same-counts : countsOf (a .answer) ≡ countsOf (b .answer)
-  pub same-bits : numberOfAnswer (a .answer) ≡ 0 → a .buffers .x ≡ b .buffers .x
+-- one thing for each form
+abbrev pub byForm : {A : Type 0} → A → A → A → Form → A
+byForm p s r Plain = p
+byForm p s r Shared = s
+byForm p s r ByRow = r
 
--- "Once the paper's earlier questions are passed, the answer is .."
-pub record Told (i : Input) (o : Outcome Answer) : Type 0 where
-  -- ".. null pivot exactly when some place has no such walk back to itself,"
-  pub null : (numberOfAnswer (o .answer) ≡ 9) ↔ ((k : ℕ) × (k < i .n) × (WalkBack i k → ⊥))
-  -- "at the first such place;"
-  pub null-first : numberOfAnswer (o .answer) ≡ 9 → FirstNull i (placeOfAnswer (o .answer))
-  -- "failing that, zero pivot or overflow exactly when the listed operations meet one, whichever they meet first and at the place where they do;"
-  pub zero : (k : ℕ) → ((numberOfAnswer (o .answer) ≡ 12) × (placeOfAnswer (o .answer) ≡ k)) ↔ (AllBack i × Meets (operations i) (zeroPivot k))
-  pub over : (k : ℕ) → ((numberOfAnswer (o .answer) ≡ 13) × (placeOfAnswer (o .answer) ≡ k)) ↔ (AllBack i × Meets (operations i) (overflow k))
-  -- "and failing that, a solution."
-  pub solution : (numberOfAnswer (o .answer) ≡ 0) ↔ (AllBack i × ((q : Fault) → Meets (operations i) q → ⊥))
-  -- "the same solution bits, those of demand 2, with the same three counts, .. those the paper defines"
-  pub bits : numberOfAnswer (o .answer) ≡ 0 → o .buffers .x ≡ ownOrder (i .c) (i .n) (result i .z)
-  pub counted : numberOfAnswer (o .answer) ≡ 0 → countsOf (o .answer) ≡ counts i
+-- "none of the three short of slots": asked below of the forms at hand only
+abbrev pub Roomy : Form → Input → Buffers → Type 0
+Roomy f i s = Short f i s → ⊥
 
--- Demand 3, of a matrix with its orders and right side, and of the buffers lent to each form
-pub record Demand3 (i : Input) (s : Form → Buffers) : Type 0 where
-  -- "the solves in the plain, shared and row-at-a-time forms .. answer alike"
-  pub alike : (f g : Form) → Alike (solve f i (s f)) (solve g i (s g))
-  -- an earlier question that is answered no is the answer; the forms put the same ones
-  pub early : (f : Form) (q : Refusal) → earlier f i (sizes (s f)) ≡ Stop q → solve f i (s f) .answer ≡ Refused q
+-- "the paper's earlier questions are passed"
+abbrev pub Passed : Form → Input → Buffers → Type 0
+Passed f i s = earlier f i (sizes s) ≡ Pass
+
+-- Demand 3 of the answers a and the buffers t at exit, for one input i and the buffers s at entry
+pub record FormsAgree (i : Input) (s : Form → Buffers) (a : Form → Answer) (t : Form → Buffers) : Type 0 where
+  -- "the solves in the plain, shared and row-at-a-time forms .. answer alike: .. the same three counts, or the same refusal number at the same place"
+  pub same-answer : (f g : Form) → Roomy f i (s f) → Roomy g i (s g) → a f ≡ a g
+  -- "the same solution bits"
+  pub same-bits : (f g : Form) → Roomy f i (s f) → Roomy g i (s g) → numberOfAnswer (a f) ≡ 0 → t f .x ≡ t g .x
+  -- "x is untouched by every refusal": each x is that of its own entry
+  pub untouched : (f : Form) → 1 ≤ numberOfAnswer (a f) → t f .x ≡ s f .x
+  -- an earlier question that is answered no is the answer, short of slots or not; the forms put the same ones
+  pub early : (f : Form) (q : Refusal) → earlier f i (sizes (s f)) ≡ Stop q → a f ≡ Refused q
   pub asked : (f g : Form) → earlier f i (sizes (s f)) ≡ earlier g i (sizes (s g))
-  -- "Once the paper's earlier questions are passed, .."
-  pub told : (f : Form) → earlier f i (sizes (s f)) ≡ Pass → Told i (solve f i (s f))
+  -- "Once the paper's earlier questions are passed, the answer is null pivot exactly when some place has no such walk back to itself,"
+  pub null : (f : Form) → Roomy f i (s f) → Passed f i (s f) → (numberOfAnswer (a f) ≡ 9) ↔ ((k : ℕ) × (k < i .n) × (WalkBack i k → ⊥))
+  -- "at the first such place;"
+  pub null-first : (f : Form) → Roomy f i (s f) → Passed f i (s f) → numberOfAnswer (a f) ≡ 9 → FirstNull i (placeOfAnswer (a f))
+  -- "failing that, zero pivot or overflow exactly when the listed operations meet one, whichever they meet first and at the place where they do;"
+  pub zero : (f : Form) → Roomy f i (s f) → Passed f i (s f) → (k : ℕ) → ((numberOfAnswer (a f) ≡ 12) × (placeOfAnswer (a f) ≡ k)) ↔ (AllBack i × Meets (operations i) (zeroPivot k))
+  pub over : (f : Form) → Roomy f i (s f) → Passed f i (s f) → (k : ℕ) → ((numberOfAnswer (a f) ≡ 13) × (placeOfAnswer (a f) ≡ k)) ↔ (AllBack i × Meets (operations i) (overflow k))
+  -- "and failing that, a solution."
+  pub solution : (f : Form) → Roomy f i (s f) → Passed f i (s f) → (numberOfAnswer (a f) ≡ 0) ↔ (AllBack i × ((q : Fault) → Meets (operations i) q → ⊥))
+  -- "those of demand 2, with the same three counts, .. those the paper defines"
+  pub bits : (f : Form) → numberOfAnswer (a f) ≡ 0 → t f .x ≡ ownOrder (i .c) (i .n) (result i .z)
+  pub counted : (f : Form) → numberOfAnswer (a f) ≡ 0 → countsOf (a f) ≡ counts i
+  -- "A form is short of slots exactly when ..": 10 or 11, of each form by itself
+  pub short : (f : Form) → ((numberOfAnswer (a f) ≡ 10) ⊎ (numberOfAnswer (a f) ≡ 11)) ↔ Short f i (s f)

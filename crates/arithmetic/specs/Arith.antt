@@ -1,56 +1,69 @@
--- The arithmetic of the elimination, "The arithmetic" and questions 12 and 13 of the paper, over IEEE 754's binary64 as lib.Ieee has it.
--- Definitions only. A check `c` looks at the result of each rounded operation: `any` takes every result, `at k` refuses one that is not finite.
+-- The arithmetic of the elimination: "The arithmetic" and questions 12 and 13 of the paper, over IEEE 754's binary64 as lib.Ieee has it. Definitions only.
+-- A step is a run: the results of its rounded operations and the pivots asked for, in the order listed, whatever they are, and what it comes to.
+-- The answer is judged by the first of them that is bad.
 use Prim.Native.Nat.{ℕ, zero, suc}
-use mathlib.Core.Bool.{Bool, true, false, cond}
+use mathlib.Core.Bool.{Bool, false, not, cond}
 use mathlib.Core.List.{List, [], _∷_, _++_}
 use lib.ListN.{getD, set, replicate}
 use lib.IntN.{pos}
 use lib.Ieee.{Float, nan, fin, binary64, sub, mul, div, eq}
-use Rattle.base.specs.Lists.{nought}
 use lib.Ieee.Scale.{finite}
+use Rattle.base.specs.Lists.{nought, pairs}
 
--- ---- an answer: a value, or what the operations met first, and the place at work
-infixl 20 _>>=_
--- questions 12 and 13, the two that the arithmetic puts
+-- ---- runs
+
+-- at place k: "a result is that of each rounded operation listed", and a pivot before it is divided by
+pub data Event : Type 0 where
+  result : ℕ → Float → Event
+  pivoted : ℕ → Float → Event
+
+pub record Run (A : Type 0) : Type 0 where
+  pub events : List Event
+  pub value : A
+
+abbrev pub give : {A : Type 0} → A → Run A
+give a = record { events = []; value = a }
+
+infixl 20 _▸_
+-- a run, and then the run that goes on from its value
+abbrev pub _▸_ : {A B : Type 0} → Run A → (A → Run B) → Run B
+_▸_ m f = record { events = m .events ++ f (m .value) .events; value = f (m .value) .value }
+
+abbrev pub op : ℕ → Float → Run Float
+op k v = record { events = result k v ∷ []; value = v }
+
+abbrev pub asked : ℕ → Float → Run Float
+asked k v = record { events = pivoted k v ∷ []; value = v }
+
+-- ---- questions 12 and 13
 pub data Fault : Type 0 where
   zeroPivot : ℕ → Fault
   overflow : ℕ → Fault
 
+-- "a zero of either sign": -0 equals +0
+abbrev pub vanishes : Float → Bool
+vanishes p = eq p nought
+
+abbrev pub bad : Event → Bool
+bad (result k v) = not (finite v)
+bad (pivoted k v) = vanishes v
+
+abbrev pub fault : Event → Fault
+fault (result k v) = overflow k
+fault (pivoted k v) = zeroPivot k
+
+-- a value, or the fault that the operations meet first
 pub data Out (A : Type 0) : Type 0 where
   ok : A → Out A
   met : Fault → Out A
 
-abbrev pub _>>=_ : {A B : Type 0} → Out A → (A → Out B) → Out B
-_>>=_ (ok a) f = f a
-_>>=_ (met q) f = met q
+abbrev pub firstBad : {A : Type 0} → List Event → A → Out A
+firstBad [] a = ok a
+firstBad (e ∷ es) a = cond (bad e) (met (fault e)) (firstBad es a)
 
--- ---- floats
-
--- 1
-abbrev pub one : Float
-one = fin false 1 (pos 0)
-
--- what is asked of the result of a rounded operation
-abbrev pub Check : Type 0
-Check = Float → Out Float
-
-abbrev pub any : Check
-any x = ok x
-
--- question 13 at place k
-abbrev pub at : ℕ → Check
-at k x = cond (finite x) (ok x) (met (overflow k))
-
--- question 12 at place k: a zero of either sign, since -0 equals +0. (A floor under the pivots changes `vanishes` alone.)
-abbrev pub vanishes : Float → Bool
-vanishes p = eq p nought
-
-abbrev pub pivot : ℕ → Float → Out Float
-pivot k p = cond (vanishes p) (met (zeroPivot k)) (ok p)
-
--- v − a·b: a product and a difference, each rounded once
-abbrev pub less : Check → Float → Float → Float → Out Float
-less c v a b = c (mul binary64 a b) >>= λ p. c (sub binary64 v p)
+-- "of 12 and 13, whichever the arithmetic meets first"
+unfoldable pub judged : {A : Type 0} → Run A → Out A
+judged m = firstBad (m .events) (m .value)
 
 -- ---- the structure and the values, by elimination place
 pub record System : Type 0 where
@@ -79,7 +92,7 @@ pub record Given : Type 0 where
 abbrev pub given : System → List Row → Given
 given S rows = record { upper = S .upper; u = λ i. getD rows i none .u; y = λ i. getD rows i none .y }
 
--- the working row and its sum; the multipliers so far
+-- the multipliers so far, the working row and its sum
 pub record Work : Type 0 where
   pub l : List Float
   pub w : List Float
@@ -87,78 +100,89 @@ pub record Work : Type 0 where
 
 -- ---- place k
 
--- step 1: the entries of row k over w. (Entries of one column that are to be added up change this alone.)
-unfoldable pub load : Check → List (ℕ × Float) → List Float → Out (List Float)
-load c [] w = ok w
-load c (e ∷ es) w = load c es (set w (e .0) (e .1))
+-- v − a·b: "Multiply and subtract are two roundings"
+abbrev pub lessRun : ℕ → Float → Float → Float → Run Float
+lessRun k v a b = op k (mul binary64 a b) ▸ λ p. op k (sub binary64 v p)
 
-unfoldable pub start : Check → System → ℕ → Out Work
-unfolding load
-start c S k = load c (S .entries k) (replicate (S .n) nought) >>= λ w. ok (record { l = []; w = w; s = S .rhs k })
+-- "the entries of M'", over w
+unfoldable pub loadRun : ℕ → List (ℕ × Float) → List Float → Run (List Float)
+loadRun k [] w = give w
+loadRun k (e ∷ es) w = loadRun k es (set w (e .0) (e .1))
 
--- w(j) = w(j) − m·u for the listed j
-unfoldable pub subtract : Check → Float → List ℕ → List Float → List Float → Out (List Float)
-subtract c m [] us w = ok w
-subtract c m (j ∷ js) [] w = ok w
-subtract c m (j ∷ js) (u ∷ us) w = less c (getD w j nan) m u >>= λ v. subtract c m js us (set w j v)
+-- "1. w = +0 at each filled position of row k, then the entries of M'. s = b(r(k))."
+unfoldable pub step1 : System → ℕ → Run Work
+unfolding loadRun
+step1 S k = loadRun k (S .entries k) (replicate (S .n) nought) ▸ λ w. give (record { l = []; w = w; s = S .rhs k })
 
--- step 2 at i: m = w(i), s = s − m·y(i), w(j) = w(j) − m·u(i, j) for j in T(i)
-unfoldable pub stepAt : Check → Given → ℕ → Work → Out Work
-unfolding subtract
-stepAt c G i a =
+-- "for j in T(i), ascending, w(j) = w(j) − m·u(i, j)": j and u(i, j)
+unfoldable pub subtractRun : ℕ → Float → List (ℕ × Float) → List Float → Run (List Float)
+subtractRun k m [] w = give w
+subtractRun k m (e ∷ es) w = lessRun k (getD w (e .0) nan) m (e .1) ▸ λ v. subtractRun k m es (set w (e .0) v)
+
+-- "m = w(i), kept as L(k, i); s = s − m·y(i); for j in T(i) .."
+unfoldable pub stepRun : ℕ → Given → ℕ → Work → Run Work
+unfolding subtractRun
+stepRun k G i a =
     let m = getD (a .w) i nan in
-    less c (a .s) m (G .y i) >>= λ s. subtract c m (G .upper i) (G .u i) (a .w) >>= λ w. ok (record { l = a .l ++ (m ∷ []); w = w; s = s })
+    lessRun k (a .s) m (G .y i) ▸ λ s.
+    subtractRun k m (pairs (G .upper i) (G .u i)) (a .w) ▸ λ w.
+    give (record { l = a .l ++ (m ∷ []); w = w; s = s })
 
-unfoldable pub steps : Check → Given → List ℕ → Work → Out Work
-unfolding stepAt
-steps c G [] a = ok a
-steps c G (i ∷ is) a = stepAt c G i a >>= steps c G is
+-- "2. For i in lower row k, ascending: .."
+unfoldable pub step2 : ℕ → Given → List ℕ → Work → Run Work
+unfolding stepRun
+step2 k G [] a = give a
+step2 k G (i ∷ is) a = stepRun k G i a ▸ step2 k G is
 
--- step 3
-unfoldable pub scaled : Check → Float → List Float → List ℕ → Out (List Float)
-scaled c d w [] = ok []
-scaled c d w (j ∷ js) = c (mul binary64 (getD w j nan) d) >>= λ u. scaled c d w js >>= λ us. ok (u ∷ us)
+-- "u(k, j) = w(j)·d(k), ascending"
+unfoldable pub scaledRun : ℕ → Float → List Float → List ℕ → Run (List Float)
+scaledRun k d w [] = give []
+scaledRun k d w (j ∷ js) = op k (mul binary64 (getD w j nan) d) ▸ λ u. scaledRun k d w js ▸ λ us. give (u ∷ us)
 
-unfoldable pub finish : Check → ℕ → List ℕ → Work → Out Row
-unfolding scaled
-finish c k above a =
-    pivot k (getD (a .w) k nan) >>= λ p.
-    c (div binary64 one p) >>= λ d.
-    c (mul binary64 (a .s) d) >>= λ y.
-    scaled c d (a .w) above >>= λ u.
-    ok (record { l = a .l; d = d; y = y; u = u })
+abbrev pub one : Float
+one = fin false 1 (pos 0)
 
-unfoldable pub row : System → List Row → ℕ → Out Row
-unfolding start steps finish
-row S rows k = start (at k) S k >>= λ a. steps (at k) (given S rows) (S .lower k) a >>= finish (at k) k (S .upper k)
+-- "3. Zero pivot if w(k) is a zero of either sign. d(k) = 1 / w(k), y(k) = s·d(k), then u(k, j) .."
+unfoldable pub step3 : ℕ → List ℕ → Work → Run Row
+unfolding scaledRun
+step3 k above a =
+    asked k (getD (a .w) k nan) ▸ λ p.
+    op k (div binary64 one p) ▸ λ d.
+    op k (mul binary64 (a .s) d) ▸ λ y.
+    scaledRun k d (a .w) above ▸ λ u.
+    give (record { l = a .l; d = d; y = y; u = u })
 
--- ---- places k, k + 1, .., as many as f
-unfoldable pub forward : System → ℕ → ℕ → List Row → Out (List Row)
-unfolding row
-forward S zero k rows = ok rows
-forward S (suc f) k rows = row S rows k >>= λ r. forward S f (suc k) (rows ++ (r ∷ []))
+-- "Place k, in this order"
+unfoldable pub rowRun : System → List Row → ℕ → Run Row
+unfolding step1 step2 step3
+rowRun S rows k = step1 S k ▸ λ a. step2 k (given S rows) (S .lower k) a ▸ step3 k (S .upper k)
 
--- ---- back: t − the sum of u·z(j) for the listed j
-unfoldable pub rest : Check → Float → List ℕ → List Float → List Float → Out Float
-rest c t [] us z = ok t
-rest c t (j ∷ js) [] z = ok t
-rest c t (j ∷ js) (u ∷ us) z = less c t u (getD z j nan) >>= λ t. rest c t js us z
+-- places k, k + 1, .., as many as f
+unfoldable pub forwardRun : System → ℕ → ℕ → List Row → Run (List Row)
+unfolding rowRun
+forwardRun S zero k rows = give rows
+forwardRun S (suc f) k rows = rowRun S rows k ▸ λ r. forwardRun S f (suc k) (rows ++ (r ∷ []))
 
--- places k − 1, .., 0
-unfoldable pub back : Given → ℕ → List Float → Out (List Float)
-unfolding rest
-back G zero z = ok z
-back G (suc k) z = rest (at k) (G .y k) (G .upper k) (G .u k) z >>= λ t. back G k (set z k t)
+-- "t = t − u(k, j)·z(j)" for the listed j and u(k, j)
+unfoldable pub restRun : ℕ → Float → List (ℕ × Float) → List Float → Run Float
+restRun k t [] z = give t
+restRun k t (e ∷ es) z = lessRun k t (e .1) (getD z (e .0) nan) ▸ λ t. restRun k t es z
 
--- the factors, row by row, and z, whose place k is x(c(k))
+-- "Back, from k = n − 1: t = y(k); for j in T(k), ascending, t = t − u(k, j)·z(j); z(k) = t": places k − 1, .., 0
+unfoldable pub backRun : Given → ℕ → List Float → Run (List Float)
+unfolding restRun
+backRun G zero z = give z
+backRun G (suc k) z = restRun k (G .y k) (pairs (G .upper k) (G .u k)) z ▸ λ t. backRun G k (set z k t)
+
+-- the factors, row by row, and z: "x(c(k)) = t"
 pub record Result : Type 0 where
   pub rows : List Row
   pub z : List Float
 
--- the listed operations in the order listed, up to the first fault
-unfoldable pub solved : System → Out Result
-unfolding forward back
-solved S =
-    forward S (S .n) 0 [] >>= λ rows.
-    back (given S rows) (S .n) (replicate (S .n) nought) >>= λ z.
-    ok (record { rows = rows; z = z })
+-- all listed operations, "in the order listed, back steps included"
+unfoldable pub wholeRun : System → Run Result
+unfolding forwardRun backRun
+wholeRun S =
+    forwardRun S (S .n) 0 [] ▸ λ rows.
+    backRun (given S rows) (S .n) (replicate (S .n) nought) ▸ λ z.
+    give (record { rows = rows; z = z })

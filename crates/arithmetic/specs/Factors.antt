@@ -7,7 +7,8 @@ use native.Mathlib.Decide.{decLt}
 use lib.ListN.{length, getD, replicate, length-append, List·getD-append}
 use lib.Seq.{getD-at}
 use lib.Ieee.{Float, nan, binary64, sub, mul, div}
-use Rattle.arithmetic.specs.Arith.{Fault, Out, ok, met, _>>=_, Check, pivot, less, System, Row, none, Given, given, Work, load, subtract, stepAt, scaled, finish, row, forward, back, Result, solved, one, at, start, steps}
+use Rattle.arithmetic.specs.Arith.{Fault, Out, ok, met, System, Row, none, Given, given, Work, Result, one}
+use Rattle.arithmetic.specs.Stopping.{_>>=_, Check, pivot, less, load, subtract, stepAt, scaled, finish, row, forward, back, solved, at, start, steps}
 use Rattle.base.specs.Lists.{nought}
 
 pub bind-ok : {A B : Type 0} (o : Out A) (f : A → Out B) (b : B) → (o >>= f) ≡ ok b → (a : A) × (o ≡ ok a) × (f a ≡ ok b)

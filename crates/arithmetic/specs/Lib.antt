@@ -1,7 +1,8 @@
 pub mod Arith
 pub mod Again
-pub mod Listing
+pub mod Meets
+pub mod Stopping
+pub mod StoppingLaws
 pub mod RowEnd
-pub mod ListingLaws
 pub mod Factors
 pub mod Sticky

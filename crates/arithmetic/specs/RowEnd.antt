@@ -5,7 +5,8 @@ use mathlib.Core.List.{List, [], _∷_, _++_}
 use lib.ListN.{getD}
 use lib.Ieee.{Float, nan, binary64, mul}
 use lib.Ieee.Scale.{finite}
-use Rattle.arithmetic.specs.Arith.{Out, ok, met, overflow, _>>=_, Work, Row, finish, at}
+use Rattle.arithmetic.specs.Arith.{Out, ok, met, overflow, Work, Row}
+use Rattle.arithmetic.specs.Stopping.{_>>=_, finish, at}
 
 -- the test at a row's end: the sum, and the listed slots
 abbrev pub finiteOn : List ℕ → List Float → Bool

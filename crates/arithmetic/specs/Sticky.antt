@@ -13,7 +13,8 @@ use lib.Seq.{getD-set-same, getD-set-other, set-out}
 use lib.Ieee.{Float, nan, inf, fin, Format, binary64, neg, add, sub, mul, div}
 use lib.Ieee.Scale.{finite}
 use Rattle.arithmetic.specs.RowEnd.{finiteOn, finiteAll, quiet, products}
-use Rattle.arithmetic.specs.Arith.{Out, ok, _>>=_, Check, any, less, System, Row, Given, given, Work, subtract, stepAt, scaled, finish, row, rest, at, start, steps, met, overflow}
+use Rattle.arithmetic.specs.Arith.{Out, ok, System, Row, Given, given, Work, met, overflow}
+use Rattle.arithmetic.specs.Stopping.{_>>=_, Check, any, less, subtract, stepAt, scaled, finish, row, rest, at, start, steps}
 
 -- ---- floats
 

@@ -1,1 +1,1 @@
-// The arithmetic of the elimination: definitions in specs/Arith and specs/Listing, laws beside them. No code.
+// The arithmetic of the elimination: definitions in specs/Arith and specs/Again, laws beside them. No code.

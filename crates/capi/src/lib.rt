@@ -1,4 +1,5 @@
 // The C interface. Slices pass as pointer and length; a call answers its number and fills the report as far as it goes.
+// Each function passes on to the call that it names.
 ghost use mathlib.Core.Path.{_≡_};
 ghost use Prim.Native.Nat.{_≤_};
 ghost use mathlib.Core.List.{List, [], _∷_};
@@ -8,12 +9,12 @@ ghost use Rattle.matrix.specs.Input.{inputOf};
 ghost use Rattle.outcome.specs.Buffers.{plainBuffers, sharedBuffers, rowBuffers};
 ghost use Rattle.outcome.specs.Structure.{structure};
 ghost use Rattle.outcome.specs.Solve.{solve};
-ghost use Rattle.lookup.specs.Lookup as lookups;
+ghost use Rattle.lookup.specs.Lookup.{sideLists};
 ghost use Rattle.matrix_file.specs.MatrixFile.{listsOf, opened, readOutcome, writeOutcome};
-ghost use Rattle.report.specs.Report.{answerSlots, Told, ToldEnd, numberOfShape, shapeSlots, spanSlots, sideNumbered, placeIn};
+ghost use Rattle.report.specs.Report.{Told, ToldEnd, numberOfShape, shapeSlots, listSlots};
 use base::Index;
-use matrix::Shaped;
 
+// The fill and its lists, lower rows and T(k) one after another.
 #[no_mangle]
 pub extern "C" fn lp_structure_plain(
     n: usize,
@@ -54,6 +55,7 @@ pub extern "C" fn lp_structure_plain(
     report::put_answer(report, a)
 }
 
+// Structure, factors and one solution in the plain form.
 #[no_mangle]
 pub extern "C" fn lp_solve_plain(
     n: usize,
@@ -102,6 +104,7 @@ pub extern "C" fn lp_solve_plain(
     report::put_answer(report, a)
 }
 
+// The fill and its lists, lower columns and T(k) sharing index slots.
 #[no_mangle]
 pub extern "C" fn lp_structure_shared(
     n: usize,
@@ -146,6 +149,7 @@ pub extern "C" fn lp_structure_shared(
     report::put_answer(report, a)
 }
 
+// Structure, factors and one solution in the shared form.
 #[no_mangle]
 pub extern "C" fn lp_solve_shared(
     n: usize,
@@ -198,6 +202,7 @@ pub extern "C" fn lp_solve_shared(
     report::put_answer(report, a)
 }
 
+// One solution by rows, L not kept.
 #[no_mangle]
 pub extern "C" fn lp_solve_row(
     n: usize,
@@ -242,6 +247,7 @@ pub extern "C" fn lp_solve_row(
     report::put_answer(report, a)
 }
 
+// The list of a side at a place in the plain form: offset in its index store and length.
 #[no_mangle]
 pub extern "C" fn lp_list_plain(
     side: u32,
@@ -254,20 +260,21 @@ pub extern "C" fn lp_list_plain(
     report: &mut [u64],
 ) -> u32
     ensures { λ q. ⌜ q ≡ 0 ⌝ }
-    ensures { λ _. ⌜ now (report .exit) ≡ sets (now (report .entry)) 0 (spanSlots (lookups.spanIn (sideNumbered side) (placeIn place) n 1 (lookups.listsOf (now («lower_starts» .entry)) (now («lower_starts» .entry)) (now («lower_index» .entry))) (lookups.listsOf (now («upper_starts» .entry)) (now («upper_starts» .entry)) (now («upper_index» .entry))))) ⌝ }
+    ensures { λ _. ⌜ now (report .exit) ≡ sets (now (report .entry)) 0 (listSlots Form.Plain side place n (sideLists (now («lower_starts» .entry)) (now («lower_starts» .entry)) (now («lower_index» .entry))) (sideLists (now («upper_starts» .entry)) (now («upper_starts» .entry)) (now («upper_index» .entry)))) ⌝ }
 {
-    let s = lookup::span_plain(
-        report::side_of(side),
-        report::place_of(place),
+    report::list_plain(
+        side,
+        place,
         n,
         lower_starts,
         lower_index,
         upper_starts,
         upper_index,
-    );
-    report::put_span(report, s)
+        report,
+    )
 }
 
+// The same in the shared form.
 #[no_mangle]
 pub extern "C" fn lp_list_shared(
     side: u32,
@@ -282,11 +289,11 @@ pub extern "C" fn lp_list_shared(
     report: &mut [u64],
 ) -> u32
     ensures { λ q. ⌜ q ≡ 0 ⌝ }
-    ensures { λ _. ⌜ now (report .exit) ≡ sets (now (report .entry)) 0 (spanSlots (lookups.spanIn (sideNumbered side) (placeIn place) n 0 (lookups.listsOf (now («lower_starts» .entry)) (now («lower_runs» .entry)) (now («lower_index» .entry))) (lookups.listsOf (now («upper_starts» .entry)) (now («upper_runs» .entry)) (now («upper_index» .entry))))) ⌝ }
+    ensures { λ _. ⌜ now (report .exit) ≡ sets (now (report .entry)) 0 (listSlots Form.Shared side place n (sideLists (now («lower_starts» .entry)) (now («lower_runs» .entry)) (now («lower_index» .entry))) (sideLists (now («upper_starts» .entry)) (now («upper_runs» .entry)) (now («upper_index» .entry)))) ⌝ }
 {
-    let s = lookup::span_shared(
-        report::side_of(side),
-        report::place_of(place),
+    report::list_shared(
+        side,
+        place,
         n,
         lower_starts,
         lower_runs,
@@ -294,28 +301,20 @@ pub extern "C" fn lp_list_shared(
         upper_starts,
         upper_runs,
         upper_index,
-    );
-    report::put_span(report, s)
+        report,
+    )
 }
 
+// n and e of a matrix file.
 #[no_mangle]
 pub extern "C" fn lp_file_shape(file: &[u8], report: &mut [u64]) -> u32
     ensures { λ q. ⌜ q ≡ numberOfShape (opened (now (file .entry))) ⌝ }
     ensures { λ _. ⌜ now (report .exit) ≡ sets (now (report .entry)) 0 (shapeSlots (opened (now (file .entry)))) ⌝ }
 {
-    let found = matrix_file::matrix_file_shape(file);
-    match found {
-        Shaped::Shape(m) => {
-            report::put_all(report, &[0, m.rows as u64, m.entries as u64]);
-            0
-        }
-        Shaped::Unshaped(q) => {
-            report::put_all(report, &[q.place() as u64, 0, 0]);
-            q.number()
-        }
-    }
+    report::file_shape(file, report)
 }
 
+// A matrix file read into lent buffers.
 #[no_mangle]
 pub extern "C" fn lp_read_matrix(
     file: &[u8],
@@ -330,10 +329,10 @@ pub extern "C" fn lp_read_matrix(
     ensures { λ q. ⌜ ToldEnd (readOutcome (now (file .entry)) (listsOf (now (starts .entry)) (now (columns .entry)) (now (values .entry)) (now (r .entry)) (now (c .entry)) (now (b .entry))))
         (now (report .entry)) (now (report .exit)) (listsOf (now (starts .exit)) (now (columns .exit)) (now (values .exit)) (now (r .exit)) (now (c .exit)) (now (b .exit))) q ⌝ }
 {
-    let a = matrix_file::read_matrix(file, starts, columns, values, r, c, b);
-    report::put_end(report, a)
+    report::read_matrix(file, starts, columns, values, r, c, b, report)
 }
 
+// A matrix written as a file.
 #[no_mangle]
 pub extern "C" fn lp_write_matrix(
     n: usize,
@@ -349,6 +348,5 @@ pub extern "C" fn lp_write_matrix(
     ensures { λ q. ⌜ ToldEnd (writeOutcome (inputOf n (now (starts .entry)) (now (columns .entry)) (now (values .entry)) (now (r .entry)) (now (c .entry)) (now (b .entry))) (now (file .entry)))
         (now (report .entry)) (now (report .exit)) (now (file .exit)) q ⌝ }
 {
-    let a = matrix_file::write_matrix(n, starts, columns, values, r, c, b, file);
-    report::put_end(report, a)
+    report::write_matrix(n, starts, columns, values, r, c, b, file, report)
 }

@@ -1,64 +1,243 @@
--- n = 0 and 4,097 are refused with 1 by every call, whatever else is lent; 4,096 never is.
+-- Question 1 of every call that takes an n, whatever else it is lent.
 use mathlib.Core.Path.{_≡_, refl, sym, ap, _∙_}
-use mathlib.Core.Bool.{Bool, true, false}
-use mathlib.Core.Logic.{_⊎_, inl, inr}
-use mathlib.Core.List.{List}
-use Prim.Native.Nat.{ℕ}
+use mathlib.Core.Bool.{Bool, true, false, _&&_}
+use mathlib.Core.List.{List, []}
+use Prim.Native.Nat.{ℕ, _+_, _-_, _≤_, _<_}
 use native.Mathlib.Omega.{arith}
+use borrow.Author.Tests.{le-leb}
+use lib.ListN.{length, getD}
+use lib.Dec.{leb, eqb}
+use lib.Ieee.{Float}
 use Rattle.base.specs.All.{all}
-use Rattle.base.specs.Answers.{numberOf, holds}
-use Rattle.base.specs.Limits.{rowsWithin}
-use Rattle.matrix.specs.Input.{Input}
-use Rattle.outcome.specs.Buffers.{Buffers, askShape, Outcome, ended, stop}
-use Rattle.outcome.specs.Structure.{structure}
-use Rattle.outcome.specs.Solve.{shape, solve}
-use Rattle.outcome.specs.Refactor.{refactor}
-use Rattle.outcome.specs.Resolve.{resolve}
-use Rattle.outcome.proofs.Asking.{stop-inj}
+use Rattle.base.specs.First.{first}
+use Rattle.base.specs.Lists.{listAt}
+use Rattle.base.specs.Answers.{numberOf, numberOfAnswer, numberOfEnd, spot, holds}
+use Rattle.base.specs.Limits.{maxEntries, rowsWithin}
+use Rattle.matrix.specs.Input.{Input, stored}
+use Rattle.matrix.specs.Shape.{shapeOf}
+use Rattle.matrix.specs.Questions.{askStructure, askSolve, askRight}
+use Rattle.arithmetic.specs.Again.{solvedAgain}
+use Rattle.arithmetic.specs.Arith.{Fault, zeroPivot, overflow, Out, ok, met, Result}
+use Rattle.blocks.specs.Blocks.{askBlocks, wholeBlocks, firstWrong}
+use Rattle.matrix_file.specs.MatrixFile.{nOf, eOf, fitsShape, fileLength, lengthsRight, listsRight, askHead, askFile, shaped, opened, askRead, askLengths, askWrite, left, outcome, Lists, readOutcome, writeOutcome}
+use Rattle.lookup.specs.Lookup as lookup
+use Rattle.lookup.specs.LookupLaws.{both-no, both-yes, span-unfit, part-is}
+use Rattle.outcome.specs.Buffers.{Buffers, sizes, askShape, Outcome, ended, stop}
+use Rattle.outcome.specs.Structure.{askPlaces, structure}
+use Rattle.outcome.specs.Solve.{faultOf, listed, concluded, shape, solve}
+use Rattle.outcome.specs.Refactor.{differs, askPresented, refactored, refactor}
+use Rattle.outcome.specs.Resolve.{badAt, askFactors, factorsOf, resolved, resolve}
+use Rattle.outcome.proofs.Asking.{Within, within-wide, within-holds, within-absent, within-then}
+use Rattle.outcome.proofs.Answers.{structure-within, solve-within, right-within, places-within}
+use Rattle.cases.specs.Boundary.{Refuses, Passes}
+use Rattle.matrix.specs.declared.Matrix.{Matrix}
+use Rattle.matrix.specs.declared.Shaped.the-variants.{Shape, Unshaped}
 use Rattle.base.specs.declared.Form.{Form}
+use Rattle.base.specs.declared.Side.{Side}
+use Rattle.base.specs.declared.Place.{Place}
 use Rattle.base.specs.declared.Refusal.{Refusal}
-use Rattle.base.specs.declared.Refusal.the-variants.{Rows, Lengths}
+use Rattle.base.specs.declared.Refusal.the-variants.{Rows, Lengths, FileShape, FileLength, Block, OtherStructure, BadFactors}
 use Rattle.base.specs.declared.Asked.{Asked}
 use Rattle.base.specs.declared.Asked.the-variants.{Pass, Stop}
 use Rattle.base.specs.declared.Answer.the-variants.{Refused}
 use Rattle.base.specs.declared.Ended.the-variants.{Declined}
 
-abbrev pub Outside : ℕ → Type 0
-Outside n = (n ≡ 0) ⊎ (n ≡ 4097)
-
-outside : (n : ℕ) → Outside n → rowsWithin n ≡ false
-outside n (inl e) = rw e
-outside n (inr e) = rw e
-
-refused : (n : ℕ) (tests : List Bool) → Outside n → askShape n tests ≡ Stop Rows
-unfolding askShape
-refused n tests o = rw (outside n o)
+-- ---- an n that is refused
 
 first-stop : {A : Type 0} (r : Refusal → A) (a : Asked) (s : Buffers) (rest : Outcome A) (q : Refusal) → a ≡ Stop q → stop r a s rest ≡ ended (r q) s
 first-stop r a s rest q e = rw e
 
-module _ (f : Form) (i : Input) (s : Buffers) (o : Outside (i .n)) where
-  pub structure-1 : structure f i s ≡ ended (Refused Rows) s
-  unfolding structure
-  structure-1 = first-stop Refused _ s _ Rows (refused (i .n) _ o)
-
-  pub solve-1 : solve f i s ≡ ended (Refused Rows) s
-  unfolding solve shape
-  solve-1 = first-stop Refused _ s _ Rows (refused (i .n) _ o)
-
-  pub refactor-1 : refactor f i s ≡ ended (Declined Rows) s
-  unfolding refactor shape
-  refactor-1 = first-stop Declined _ s _ Rows (refused (i .n) _ o)
-
-  pub resolve-1 : resolve f i s ≡ ended (Declined Rows) s
-  unfolding resolve
-  resolve-1 = first-stop Declined _ s _ Rows (refused (i .n) _ o)
-
-lengths-only : (t : Bool) (q : Refusal) → holds t Lengths ≡ Stop q → numberOf q ≡ 2
-lengths-only true q e = absurd (let z : _≡_ {A = ℕ} 0 1 = cc in omega arith)
-lengths-only false q e = ap numberOf (sym (stop-inj Lengths q e))
-
--- with n = 4,096 questions 1 and 2 are passed, or 2 is answered no
-pub most-rows : (tests : List Bool) (q : Refusal) → askShape 4096 tests ≡ Stop q → numberOf q ≡ 2
+shape-1 : (n : ℕ) (tests : List Bool) → rowsWithin n ≡ false → askShape n tests ≡ Stop Rows
 unfolding askShape
-most-rows tests q e = lengths-only (all tests) q e
+shape-1 n tests o = rw o
+
+head-1 : (file : List ℕ) (n e : ℕ) → rowsWithin n ≡ false → askHead file n e ≡ Stop Rows
+unfolding askHead
+head-1 file n e o = rw o
+
+file-1 : (file : List ℕ) → askBlocks file ≡ Pass → rowsWithin (nOf file) ≡ false → askFile file ≡ Stop Rows
+unfolding askFile
+file-1 file p o = rw p (head-1 file (nOf file) (eOf file) o)
+
+read-1 : (file : List ℕ) (l : Lists) → askFile file ≡ Stop Rows → askRead file l ≡ Stop Rows
+unfolding askRead
+read-1 file l e = rw e
+
+write-1 : (i : Input) (len : ℕ) → rowsWithin (i .n) ≡ false → askWrite i len ≡ Stop Rows
+unfolding askWrite askLengths
+write-1 i len o = rw o
+
+made-1 : (n e : ℕ) → rowsWithin n ≡ false → shapeOf n e ≡ Unshaped Rows
+unfolding shapeOf
+made-1 n e o = rw o
+
+declined : {A : Type 0} (a : Asked) (new old : A) (q : Refusal) → a ≡ Stop q → outcome a new old ≡ left (Declined q) old
+declined a new old q e = rw e
+
+span-1 : (side : Side) (k : Place) (n extra : ℕ) (l u : lookup.Lists) → rowsWithin n ≡ false → lookup.spanIn side k n extra l u ≡ lookup.spanFrom 0 0
+unfolding lookup.spanIn
+span-1 side k n extra l u o = sym (span-unfit _ k n _ _ _ (sym (both-no n extra _ _ _ _ _ _ o)))
+
+none-1 : (side : Side) (k : Place) (n extra : ℕ) (l u : lookup.Lists) → rowsWithin n ≡ false → lookup.lookup side k n extra l u ≡ []
+unfolding lookup.lookup lookup.within
+none-1 side k n extra l u o = rw (span-1 side k n extra l u o)
+
+module _ (n : ℕ) (o : rowsWithin n ≡ false) where
+  out : (m : ℕ) → m ≡ n → rowsWithin m ≡ false
+  out m e = ap rowsWithin e ∙ o
+
+  pub refuses : Refuses n
+  unfolding structure solve shape refactor resolve opened readOutcome writeOutcome
+  refuses =
+      record {
+        structures = λ f i s e. first-stop Refused _ s _ Rows (shape-1 (i .n) _ (out (i .n) e));
+        solves = λ f i s e. first-stop Refused _ s _ Rows (shape-1 (i .n) _ (out (i .n) e));
+        refactors = λ f i s e. first-stop Declined _ s _ Rows (shape-1 (i .n) _ (out (i .n) e));
+        resolves = λ f i s e. first-stop Declined _ s _ Rows (shape-1 (i .n) _ (out (i .n) e));
+        makes = λ e. made-1 n e o;
+        opens = λ file p e. ap (λ (a : Asked). shaped a (record { rows = nOf file; entries = eOf file })) (file-1 file p (out (nOf file) e));
+        reads = λ file l p e. declined (askRead file l) _ l Rows (read-1 file l (file-1 file p (out (nOf file) e)));
+        writes = λ i file e. declined (askWrite i (length file)) _ file Rows (write-1 i (length file) (out (i .n) e));
+        looks = λ side k extra l u. (span-1 side k n extra l u o, none-1 side k n extra l u o);
+      }
+
+-- ---- an n that passes
+
+-- no refusal of these questions is 1
+abbrev Later : Asked → Type 0
+Later a = Within 2 18 a
+
+module _ {A : Type 0} (number : A → ℕ) (refuse : Refusal → A) (told : (q : Refusal) → number (refuse q) ≡ numberOf q) where
+  -- three questions, and what follows
+  never : (a b c : Asked) (s t u : Buffers) (o : Outcome A) → Later a → Later b → Later c → (number (o .answer) ≡ 1 → ⊥) → number (stop refuse a s (stop refuse b t (stop refuse c u o)) .answer) ≡ 1 → ⊥
+  unfolding Within
+  never Pass Pass Pass s t u o v w x h e = h e
+  never Pass Pass (Stop q) s t u o v w x h e = omega (arith, x q refl, told q)
+  never Pass (Stop q) c s t u o v w x h e = omega (arith, w q refl, told q)
+  never (Stop q) b c s t u o v w x h e = omega (arith, v q refl, told q)
+
+later : (lo hi : ℕ) (a : Asked) → 2 ≤ lo → hi ≤ 18 → Within lo hi a → Later a
+later lo hi a l h w = within-wide lo hi 2 18 a l h w
+
+shape-later : (n : ℕ) (tests : List Bool) → rowsWithin n ≡ true → Later (askShape n tests)
+unfolding askShape
+shape-later n tests o = rw o (within-holds 2 18 (all tests) Lengths (omega arith) (omega arith))
+
+head-later : (file : List ℕ) (n e : ℕ) → rowsWithin n ≡ true → Within 16 18 (askHead file n e)
+unfolding askHead
+head-later file n e o = rw o (within-holds 16 18 (fitsShape file n e) FileShape (omega arith) (omega arith))
+
+blocks-later : (file : List ℕ) → Within 16 18 (askBlocks file)
+unfolding askBlocks
+blocks-later file =
+    within-then 16 18 _ _ (within-holds 16 18 (wholeBlocks (length file)) FileLength (omega arith) (omega arith)) (within-absent 16 18 (firstWrong file) Block (λ k. omega arith) (λ k. omega arith))
+
+file-later : (file : List ℕ) → rowsWithin (nOf file) ≡ true → Within 16 18 (askFile file)
+unfolding askFile
+file-later file o = within-then 16 18 (askBlocks file) (askHead file (nOf file) (eOf file)) (blocks-later file) (head-later file (nOf file) (eOf file) o)
+
+read-later : (file : List ℕ) (l : Lists) → rowsWithin (nOf file) ≡ true → Later (askRead file l)
+unfolding askRead
+read-later file l o =
+    within-then 2 18 (askFile file) (holds (listsRight (nOf file) (eOf file) l) Lengths) (later 16 18 _ (omega arith) (omega arith) (file-later file o)) (within-holds 2 18 (listsRight (nOf file) (eOf file) l) Lengths (omega arith) (omega arith))
+
+lengths-later : (n e s v r c b len : ℕ) → rowsWithin n ≡ true → Later (askLengths n e s v r c b len)
+unfolding askLengths
+lengths-later n e s v r c b len o =
+    rw o (within-then 2 18 (holds (leb e maxEntries) FileShape) (holds (lengthsRight n e s e v r c b && eqb len (fileLength n e)) Lengths)
+    (within-holds 2 18 (leb e maxEntries) FileShape (omega arith) (omega arith)) (within-holds 2 18 (lengthsRight n e s e v r c b && eqb len (fileLength n e)) Lengths (omega arith) (omega arith)))
+
+write-later : (i : Input) (len : ℕ) → rowsWithin (i .n) ≡ true → Later (askWrite i len)
+unfolding askWrite
+write-later i len o = lengths-later (i .n) _ _ _ _ _ _ len o
+
+made : (n e : ℕ) → rowsWithin n ≡ true → e ≤ maxEntries → shapeOf n e ≡ Shape (record { rows = n; entries = e })
+unfolding shapeOf
+made n e o l = rw (o, le-leb e maxEntries l)
+
+not-shaped : (a : Asked) (m : Matrix) → Within 16 18 a → shaped a m ≡ Unshaped Rows → ⊥
+unfolding Within
+not-shaped Pass m w e = let z : _≡_ {A = ℕ} 0 1 = cc in omega arith
+not-shaped (Stop q) m w e = let r : q ≡ Rows = cc in omega (arith, w q refl, ap numberOf r)
+
+not-left : {A : Type 0} (a : Asked) (new old : A) → Later a → numberOfEnd (outcome a new old .answer) ≡ 1 → ⊥
+unfolding Within
+not-left Pass new old w e = omega arith
+not-left (Stop q) new old w e = omega (arith, w q refl)
+
+looked : (side : Side) (k : Place) (n extra : ℕ) (l u : lookup.Lists) → rowsWithin n ≡ true
+    → lookup.sized n extra (length (l .starts)) (length (l .runs)) (length (l .index)) ≡ true
+    → lookup.sized n extra (length (u .starts)) (length (u .runs)) (length (u .index)) ≡ true
+    → k .0 < n → (o : lookup.Lists) → o ≡ lookup.ofSide side l u → getD (o .starts) (k .0) 0 ≤ getD (o .starts) (k .0 + 1) 0
+    → getD (o .runs) (k .0) 0 + (getD (o .starts) (k .0 + 1) 0 - getD (o .starts) (k .0) 0) ≤ length (o .index)
+    → lookup.lookup side k n extra l u ≡ listAt (o .index) (o .runs) (o .starts) (k .0)
+unfolding lookup.lookup lookup.spanIn
+looked side k n extra l u r a b h o e f g =
+    rw (← both-yes n extra _ _ _ _ _ _ true true r (sym a) (sym b), ← e) (part-is k n (o .starts) (o .runs) (o .index) h f g)
+
+fault-not : (q : Fault) → numberOf (faultOf q) ≡ 1 → ⊥
+fault-not (zeroPivot k) e = omega arith
+fault-not (overflow k) e = omega arith
+
+module _ (f : Form) (i : Input) (s : Buffers) where
+  concluded-not : (o : Out Result) → numberOfAnswer (concluded f i (sizes s) (s .x) o .answer) ≡ 1 → ⊥
+  concluded-not (ok a) e = omega arith
+  concluded-not (met q) e = fault-not q e
+
+  refactored-not : (o : Out Result) → numberOfEnd (refactored f i s o .answer) ≡ 1 → ⊥
+  refactored-not (ok a) e = omega arith
+  refactored-not (met q) e = fault-not q e
+
+  resolved-not : (o : Out (List Float)) → numberOfEnd (resolved i s o .answer) ≡ 1 → ⊥
+  resolved-not (ok a) e = omega arith
+  resolved-not (met q) e = fault-not q e
+
+  presented : Later (askPresented f (stored i) (i .n) s)
+  unfolding askPresented
+  presented = within-absent 2 18 (first (differs f (stored i) (i .n) s) (i .n)) (λ k. OtherStructure (spot k)) (λ k. omega arith) (λ k. omega arith)
+
+  factored : Later (askFactors f (i .n) s)
+  unfolding askFactors
+  factored = within-absent 2 18 (first (badAt f (i .n) s) (i .n)) (λ k. BadFactors (spot k)) (λ k. omega arith) (λ k. omega arith)
+
+  placed : Later (askPlaces f (stored i) (i .n) (sizes s) (i .n))
+  placed = later 9 11 _ (omega arith) (omega arith) (places-within f (stored i) (i .n) (sizes s) (i .n))
+
+  solved : Later (askSolve i)
+  solved = later 3 8 _ (omega arith) (omega arith) (solve-within i)
+
+  module _ (o : rowsWithin (i .n) ≡ true) where
+    structure-not : numberOfAnswer (structure f i s .answer) ≡ 1 → ⊥
+    unfolding structure
+    structure-not = never numberOfAnswer Refused (λ q. refl) _ (askStructure i) _ _ _ _ _ (shape-later (i .n) _ o) (later 3 8 _ (omega arith) (omega arith) (structure-within i)) placed (λ e. omega arith)
+
+    solve-not : numberOfAnswer (solve f i s .answer) ≡ 1 → ⊥
+    unfolding solve shape
+    solve-not = never numberOfAnswer Refused (λ q. refl) _ (askSolve i) _ _ _ _ _ (shape-later (i .n) _ o) solved placed (concluded-not (listed i))
+
+    refactor-not : numberOfEnd (refactor f i s .answer) ≡ 1 → ⊥
+    unfolding refactor shape
+    refactor-not = never numberOfEnd Declined (λ q. refl) _ (askSolve i) _ _ _ _ _ (shape-later (i .n) _ o) solved presented (refactored-not (listed i))
+
+    resolve-not : numberOfEnd (resolve f i s .answer) ≡ 1 → ⊥
+    unfolding resolve
+    resolve-not = never numberOfEnd Declined (λ q. refl) _ (askRight (i .n) (i .r) (i .c) (i .b)) _ _ _ _ _ (shape-later (i .n) _ o) (later 5 6 _ (omega arith) (omega arith) (right-within (i .n) (i .r) (i .c) (i .b))) factored (resolved-not (solvedAgain (factorsOf f i s)))
+
+module _ (n : ℕ) (o : rowsWithin n ≡ true) where
+  in-limits : (m : ℕ) → m ≡ n → rowsWithin m ≡ true
+  in-limits m e = ap rowsWithin e ∙ o
+
+  pub passes : Passes n
+  unfolding opened readOutcome writeOutcome
+  passes =
+      record {
+        structures = λ f i s e. structure-not f i s (in-limits (i .n) e);
+        solves = λ f i s e. solve-not f i s (in-limits (i .n) e);
+        refactors = λ f i s e. refactor-not f i s (in-limits (i .n) e);
+        resolves = λ f i s e. resolve-not f i s (in-limits (i .n) e);
+        makes = λ e. made n e o;
+        opens = λ file e. not-shaped (askFile file) _ (file-later file (in-limits (nOf file) e));
+        reads = λ file l e. not-left (askRead file l) _ l (read-later file l (in-limits (nOf file) e));
+        writes = λ i file e. not-left (askWrite i (length file)) _ file (write-later i (length file) (in-limits (i .n) e));
+        looks = λ side k extra l u. looked side k n extra l u o;
+      }

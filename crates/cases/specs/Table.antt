@@ -1,5 +1,4 @@
 -- The boundary graphs of the paper as one table: an input, a form, the slots of its stores, and what must come out. Definitions only.
-use mathlib.Core.Bool.{Bool}
 use mathlib.Core.List.{List, [], _∷_, _++_, map}
 use Prim.Native.Nat.{ℕ, _+_, _*_}
 use lib.ListN.{replicate}
@@ -155,6 +154,7 @@ boundary =
     ∷ arrowSolved Shared (slots 2 3 2 3) (1 ∷ 2 ∷ []) (1 ∷ 2 ∷ [])
     ∷ arrowSolved ByRow (slots 0 0 2 3) [] []
     ∷ arrowRefused Plain (slots 3 3 2 3) 11 1
+    ∷ arrowRefused Plain (slots 3 3 3 2) 11 1
     ∷ arrowRefused Plain (slots 2 3 3 3) 10 2
     ∷ arrowRefused Shared (slots 2 3 1 3) 11 0
     ∷ arrowRefused Shared (slots 3 2 3 3) 10 1

@@ -1,7 +1,6 @@
 -- Report 114's 5 by 5 example and its 3 by 3 grid in two orders: patterns only. Definitions only.
-use mathlib.Core.List.{List, [], _∷_, map}
+use mathlib.Core.List.{List, [], _∷_}
 use Prim.Native.Nat.{ℕ}
-use lib.Ieee.{nan}
 use Rattle.matrix.specs.Input.{Input, stored}
 use Rattle.outcome.specs.Forms.{indexNeed}
 use Rattle.outcome.specs.Structure.{counts}

@@ -8,10 +8,10 @@ use native.Mathlib.Omega.{arith}
 use lib.ListN.{length, getD, take, drop, set, drop-of-length-le, length-drop}
 use lib.Seq.{sets, drop-cons, length-take-le}
 use lib.Ieee.{Float}
-use Rattle.base.specs.Lists.{listAt, rowOf}
-use Rattle.marks.specs.Marks.{ListIn}
-use Rattle.numeric.specs.Stores.{Below}
-use Rattle.factor.specs.Factoring.{OwnRow, lowerIn, LowerAt, Keepable}
+use Rattle.base.specs.declared.OwnNumber.{OwnNumber}
+use Rattle.base.specs.declared.Place.{Place}
+use Rattle.lent.specs.Reading.{ListIn, Below, ownAt}
+use Rattle.factor.specs.Factoring.{lowerIn, LowerAt, Keepable}
 use Rattle.base.specs.Scratch.{listFrom}
 
 module _ (l s : List ℕ) (at p : ℕ) where
@@ -26,25 +26,17 @@ module _ (l s : List ℕ) (at p : ℕ) where
 
 -- ---- own row r(k)
 
-module _ (starts r : List ℕ) (k i : ℕ) (e : i ≡ getD r k 0) where
-  pub own-list : (columns : List ℕ) → OwnRow starts r (length columns) k → ListIn columns starts starts i
-  own-list columns h = rw e (record { has-run = omega (arith, h .starts-at); has-start = h .starts-at; rise = h .row .up; inside = omega (arith, h .row .up, h .row .within) })
+module _ (r : List ℕ) (k : Place) (row : OwnNumber) (e : row ≡ ownAt r k) where
+  pub own-list : (starts : List ℕ) (slots : ℕ) → ListIn starts starts slots (getD r (k .0) 0) → ListIn starts starts slots (row .0)
+  own-list starts slots h = rw e h
 
-  pub own-bounds : (entries from to : ℕ) → from ≡ getD starts i 0 → to ≡ getD starts (i + 1) 0 → OwnRow starts r entries k → (from ≤ to) × (to ≤ entries)
-  own-bounds entries from to ef et h = rw (ef, et, e) (h .row .up, h .row .within)
-
-  pub own-part : {A : Type 0} (store : List A) (from to : ℕ) → from ≡ getD starts i 0 → to ≡ getD starts (i + 1) 0
-      → take (to - from) (drop from store) ≡ rowOf starts store (getD r k 0)
-  unfolding listAt
-  own-part store from to ef et = rw (ef, et, e)
+  pub own-right : (size : ℕ) → getD r (k .0) 0 < size → row .0 < size
+  own-right size h = rw e h
 
 -- ---- a part by its length
 
 pub part-from : {A : Type 0} (s : List A) (from m : ℕ) → take (from + m - from) (drop from s) ≡ take m (drop from s)
 part-from s from m = let e : from + m - from ≡ m = omega arith in rw e
-
-pub region-part : {A : Type 0} (s : List A) (n : ℕ) → take (2 * n - n) (drop n s) ≡ take n (drop n s)
-region-part s n = let e : 2 * n - n ≡ n = omega arith in rw e
 
 -- what keeping L by rows asks
 pub keep-ready : (n k below : ℕ) (starts : List ℕ) (slots : ℕ) (work : List Float) (marks : List ℕ) (from : ℕ) (lower : List ℕ) → from ≡ getD starts k 0 → lower ≡ lowerIn n below marks

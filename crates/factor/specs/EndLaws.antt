@@ -16,13 +16,15 @@ use Rattle.base.specs.declared.Side.the-variants.{Lower, Upper}
 use Rattle.fill.specs.Fill.{Pattern}
 use Rattle.placement.specs.Placing.{startOf}
 use Rattle.matrix.specs.Input.{Input, ic, stored}
-use Rattle.arithmetic.specs.Arith.{Fault, zeroPivot, overflow, Out, ok, met, _>>=_, at, less, Row, none, Given, rest, back}
+use Rattle.arithmetic.specs.Arith.{Fault, zeroPivot, overflow, Out, ok, met, Row, none, Given}
+use Rattle.arithmetic.specs.Stopping.{_>>=_, at, less, rest, back}
 use Rattle.outcome.specs.Forms.{valueNeed}
 use Rattle.outcome.specs.Placed.{PlacedSide, start-at, size-at, list-at}
-use Rattle.outcome.specs.Solve.{system, listed, valuesKept, pivotsKept}
+use Rattle.outcome.specs.Solve.{system, valuesKept, pivotsKept}
+use Rattle.outcome.proofs.Meaning.{listed-stops}
 use Rattle.questions.specs.Lent.{invertedAt}
 use Rattle.questions.specs.ScatterLaws.{placed-front, placed-inverse, placed-rest}
-use Rattle.rows.specs.CutLaws as found
+use Rattle.marks.specs.RenewLaws as found
 use Rattle.numeric.specs.declared.Back.the-variants.{Complete, Stopped}
 use Rattle.numeric.specs.declared.Back.{Back}
 use Rattle.numeric.specs.Stores.{storeGiven, numberedBack}
@@ -55,7 +57,7 @@ unfolding system
 going-start {f} {i} {L} {w} F eu ew lower inv find = record {
   given = F;
   rows = [];
-  held = held-start (system i) (i .n) (w .work) (L .upper-index) (L .upper-runs) (L .upper-starts) (w .upper) refl
+  held = held-start (system i) (i .n) (w .work) (L .upper-starts) (L .upper-runs) (L .upper-index) (w .upper) refl
       (λ j b. sym (list-at f Upper (stored i) (i .n) (L .upper-starts) (L .upper-runs) (L .upper-index) (length (w .upper)) (F .upper-side) j b))
       (ew ∙ ap (λ (m : ℕ). replicate m nought) (F .scratch)) eu;
   pivots = λ j b. absurd (omega arith);
@@ -204,7 +206,7 @@ lower-kept ByRow i L rows cursors l S h = rw (h, joined-none (i .n))
 
 module _ {f : Form} {i : Input} {L : Lists} {w : Written} (G : Going f i L (i .n) w) where
   -- what the back steps ask
-  pub back-ready : BackReady (i .n) (L .upper-index) (L .upper-runs) (L .upper-starts) (length (w .upper)) (w .work)
+  pub back-ready : BackReady (i .n) (L .upper-starts) (L .upper-runs) (L .upper-index) (length (w .upper)) (w .work)
   back-ready = record {
     few = omega (arith, G .given .lent .lent .orders .few);
     scratch = G .given .scratch;
@@ -227,11 +229,11 @@ module _ {f : Form} {i : Input} {L : Lists} {w : Written} (G : Going f i L (i .n
         solution = refl;
       }
 
-  pub going-end : (z : List Float) (r : Factored) → backAs z r ≡ back (storeGiven (i .n) (w .work) (L .upper-index) (L .upper-runs) (L .upper-starts) (w .upper)) (i .n) (drop (zFrom (i .n)) (w .work))
+  pub going-end : (z : List Float) (r : Factored) → backAs z r ≡ back (storeGiven (i .n) (w .work) (L .upper-starts) (L .upper-runs) (L .upper-index) (w .upper)) (i .n) (drop (zFrom (i .n)) (w .work))
       → FactoredAs f i r (w .lower) (w .upper) (w .d) z
-  unfolding listed FactoredAs
-  going-end z Solved e = (record { rows = G .rows; z = z }, held-solved (G .held) z Complete e refl, factors z)
-  going-end z (Overflow k) e = held-stopped (G .held) (k .0) z (Stopped (k .0)) e refl
+  unfolding FactoredAs
+  going-end z Solved e = (record { rows = G .rows; z = z }, listed-stops i ∙ held-solved (G .held) z Complete e refl, factors z)
+  going-end z (Overflow k) e = listed-stops i ∙ held-stopped (G .held) (k .0) z (Stopped (k .0)) e refl
   going-end z (Zero k) e =
       let p = back-fault _ (i .n) _ (zeroPivot (k .0)) (sym e) in
       let q = p .2 in

@@ -12,17 +12,18 @@ use Rattle.base.specs.declared.Form.{Form}
 use Rattle.base.specs.declared.Form.the-variants.{Plain, Shared, ByRow}
 use Rattle.base.specs.declared.Side.the-variants.{Lower, Upper}
 use Rattle.fill.specs.Fill.{Pattern, lowerRow}
-use Rattle.matrix.specs.Input.{Input, inputOf, ic, stored}
+use Rattle.matrix.specs.Input.{Input, ic, stored}
 use Rattle.arithmetic.specs.Arith.{Out, ok, met, zeroPivot, overflow, System, Row, none, Result}
 use Rattle.outcome.specs.Forms.{valueNeed}
 use Rattle.outcome.specs.Placed.{PlacedSide}
 use Rattle.outcome.specs.Solve.{system, listed, valuesKept, pivotsKept}
 use Rattle.questions.specs.Lent.{SolveLent}
-use Rattle.questions.specs.Settled.{RowIn, Settled}
+use Rattle.questions.specs.Settled.{Settled}
 use Rattle.marks.specs.Marks as marking
-use Rattle.rows.specs.Rows as found
-use Rattle.numeric.specs.Stores.{Below, Ascending, Shape, gathered, columns, keepColumns}
-use Rattle.numeric.specs.Rows.{Held, Stacked, lOf, columnOf, InColumns}
+use Rattle.marks.specs.Rows as found
+use Rattle.lent.specs.Reading.{ListIn, Below}
+use Rattle.numeric.specs.Stores.{Ascending, StoreShape, gathered, columns, keepColumns}
+use Rattle.numeric.specs.Rows.{RowsHeld, Stacked, lOf, columnOf, InColumns}
 use Rattle.factor.specs.declared.Factored.{Factored}
 use Rattle.factor.specs.declared.Factored.the-variants.{Solved, Zero, Overflow}
 use Rattle.base.specs.Scratch.{cursorsFrom, listFrom, regionsEnd}
@@ -109,7 +110,7 @@ Finding ByRow i L k s = found.Held (stored i) (i .n) k (k + 1) (3 * i .n) s (L .
 pub record Going (f : Form) (i : Input) (L : Lists) (k : ℕ) (w : Written) : Type 0 where
   pub given : Factorable f i L w
   pub rows : List Row
-  pub held : Held (system i) rows (i .n) k (w .work) (L .upper-index) (L .upper-runs) (L .upper-starts) (w .upper)
+  pub held : RowsHeld (system i) rows (i .n) k (w .work) (L .upper-starts) (L .upper-runs) (L .upper-index) (w .upper)
   pub pivots : (j : ℕ) → j < k → getD (w .d) j nan ≡ getD rows j none .d
   pub lower : LowerHeld f (system i) rows k (L .lower-starts) (drop (cursorsFrom (i .n)) (w .marks)) (w .lower)
   pub inverse : Inverse i (w .marks)
@@ -128,12 +129,6 @@ isFault (Overflow k) = true
 
 -- ---- row k
 
--- own row r(k) stands within that many entries
-pub record OwnRow (starts r : List ℕ) (entries k : ℕ) : Type 0 where
-  pub place : k < length r
-  pub starts-at : getD r k 0 + 1 < length starts
-  pub row : RowIn starts entries (getD r k 0)
-
 -- its lower row, so long, in the marks
 abbrev pub lowerIn : ℕ → ℕ → List ℕ → List ℕ
 lowerIn n below marks = take below (drop (listFrom n) marks)
@@ -142,12 +137,8 @@ pub record LowerAt (n below slots : ℕ) : Type 0 where
   pub few : n ≤ maxRows
   pub room : listFrom n + below ≤ slots
 
--- M' of what is lent to find it
-abbrev pub patternOf : ℕ → List ℕ → List ℕ → List ℕ → List ℕ → Pattern
-patternOf n starts columns r c = stored (inputOf n starts columns [] r c [])
-
--- what finding it asks
-pub record Findable (P : Pattern) (n k : ℕ) (starts columns r index runs ustarts s : List ℕ) : Type 0 where
+-- what finding it asks, P being M'
+pub record Findable (P : Pattern) (n k : ℕ) (starts columns r ustarts runs index s : List ℕ) : Type 0 where
   pub place : k < n
   pub room : marking.Room n s
   pub own-place : k < length r
@@ -159,7 +150,7 @@ pub record Findable (P : Pattern) (n k : ℕ) (starts columns r index runs ustar
   pub store : found.Stored P n (k + 1) index runs ustarts
 
 -- lower row k, so long, stands from slot 5n on; the inverse order and the cursors are as they were, and row k + 1 can be found
-pub record Found (P : Pattern) (n k below : ℕ) (index runs ustarts s₀ s : List ℕ) : Type 0 where
+pub record LowerFound (P : Pattern) (n k below : ℕ) (ustarts runs index s₀ s : List ℕ) : Type 0 where
   pub next : found.Held P n (k + 1) (k + 1 + 1) (3 * n) s index runs ustarts
   pub size : below ≡ length (lowerRow P k)
   pub lower : lowerIn n below s ≡ lowerRow P k
@@ -172,26 +163,28 @@ readsLower Plain = true
 readsLower Shared = false
 readsLower ByRow = false
 
-unfoldable pub LowerAsked : Bool → ℕ → ℕ → List ℕ → List ℕ → List ℕ → List ℕ → Lists → List ℕ → Type 0
-LowerAsked true n k starts columns r c L s =
-    marking.ListIn (L .lower-index) (L .lower-starts) (L .lower-starts) k × LowerAt n (length (rowOf (L .lower-starts) (L .lower-index) k)) (length s)
-LowerAsked false n k starts columns r c L s = Findable (patternOf n starts columns r c) n k starts columns r (L .upper-index) (L .upper-runs) (L .upper-starts) s
+unfoldable pub LowerAsked : Bool → ℕ → ℕ → List ℕ → List ℕ → List ℕ → Lists → List ℕ → Type 0
+LowerAsked true n k starts columns r L s =
+    ListIn (L .lower-starts) (L .lower-starts) (length (L .lower-index)) k × LowerAt n (length (rowOf (L .lower-starts) (L .lower-index) k)) (length s)
+LowerAsked false n k starts columns r L s = (P : Pattern) × Findable P n k starts columns r (L .upper-starts) (L .upper-runs) (L .upper-index) s
 
-unfoldable pub LowerGiven : Bool → ℕ → ℕ → ℕ → List ℕ → List ℕ → List ℕ → List ℕ → Lists → List ℕ → List ℕ → Type 0
-LowerGiven true n k below starts columns r c L s₀ s =
+unfoldable pub LowerGiven : Bool → ℕ → ℕ → ℕ → List ℕ → List ℕ → List ℕ → Lists → List ℕ → List ℕ → Type 0
+LowerGiven true n k below starts columns r L s₀ s =
     (below ≡ length (rowOf (L .lower-starts) (L .lower-index) k)) × (s ≡ sets s₀ (listFrom n) (rowOf (L .lower-starts) (L .lower-index) k))
-LowerGiven false n k below starts columns r c L s₀ s = Found (patternOf n starts columns r c) n k below (L .upper-index) (L .upper-runs) (L .upper-starts) s₀ s
+LowerGiven false n k below starts columns r L s₀ s =
+    (P : Pattern) → Findable P n k starts columns r (L .upper-starts) (L .upper-runs) (L .upper-index) s₀ → LowerFound P n k below (L .upper-starts) (L .upper-runs) (L .upper-index) s₀ s
 
 -- what its steps find
 pub record RowAt (i : Input) (k below : ℕ) (starts runs index marks : List ℕ) (upper work : ℕ) : Type 0 where
   pub place : k < i .n
   pub lent : SolveLent i (length marks)
   pub settled : Settled i
-  pub shape : Shape (i .n) index runs starts upper
+  pub shape : StoreShape (i .n) starts runs index upper
   pub scratch : work ≡ 3 * i .n
   pub slots : regionsEnd (i .n) ≤ length marks
-  pub columns : OwnRow (i .starts) (i .r) (length (i .columns)) k
-  pub values : OwnRow (i .starts) (i .r) (length (i .values)) k
+  pub own-place : k < length (i .r)
+  pub columns : ListIn (i .starts) (i .starts) (length (i .columns)) (getD (i .r) k 0)
+  pub values : ListIn (i .starts) (i .starts) (length (i .values)) (getD (i .r) k 0)
   pub right : getD (i .r) k 0 < length (i .b)
   pub short : below ≤ i .n
   pub inverse : Inverse i marks
@@ -199,8 +192,8 @@ pub record RowAt (i : Input) (k below : ℕ) (starts runs index marks : List ℕ
 
 -- once its lower row stands there
 pub record RowReady (f : Form) (i : Input) (L : Lists) (k upper work : ℕ) (s : List ℕ) : Type 0 where
-  pub asked : LowerAsked (readsLower f) (i .n) k (i .starts) (i .columns) (i .r) (i .c) L s
-  pub row : (m : List ℕ) (below : ℕ) → length m ≡ length s → LowerGiven (readsLower f) (i .n) k below (i .starts) (i .columns) (i .r) (i .c) L s m
+  pub asked : LowerAsked (readsLower f) (i .n) k (i .starts) (i .columns) (i .r) L s
+  pub row : (m : List ℕ) (below : ℕ) → length m ≡ length s → LowerGiven (readsLower f) (i .n) k below (i .starts) (i .columns) (i .r) L s m
       → RowAt i k below (L .upper-starts) (L .upper-runs) (L .upper-index) m upper work
 
 -- room for its L from its list start on, and its multipliers in the working row
@@ -237,10 +230,10 @@ pub record KeepGiven (f : Form) (n k below : ℕ) (starts : List ℕ) (w l₀ l 
 -- ---- the back steps
 
 -- what they ask: every y is finite
-pub record BackReady (n : ℕ) (index runs starts : List ℕ) (upper : ℕ) (work : List Float) : Type 0 where
+pub record BackReady (n : ℕ) (starts runs index : List ℕ) (upper : ℕ) (work : List Float) : Type 0 where
   pub few : n ≤ maxRows
   pub scratch : length work ≡ 3 * n
-  pub shape : Shape n index runs starts upper
+  pub shape : StoreShape n starts runs index upper
   pub sums : (k : ℕ) → k < n → finite (getD work (n + k) nan) ≡ true
 
 -- z, or what they meet

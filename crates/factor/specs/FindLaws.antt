@@ -1,5 +1,5 @@
 -- Lower row k found anew, in the forms that keep no lower rows: from what its calls leave, and between two rows.
-use mathlib.Core.Path.{_≡_, refl, sym, ap, _∙_, subst}
+use mathlib.Core.Path.{_≡_, refl, sym, ap, _∙_}
 use mathlib.Core.List.{List, [], _∷_, map}
 use Prim.Native.Nat.{ℕ, suc, _+_, _-_, _*_, _<_, _≤_}
 use native.Mathlib.Omega.{arith}
@@ -16,11 +16,11 @@ use Rattle.questions.specs.SettledLaws.{row-under, stored-is}
 use Rattle.outcome.specs.Placed.{PlacedSide, starts-long, size-at, run-at, run-inside, list-at}
 use Rattle.marks.specs.Marks.{Below, Holds, Base, Parts, Blocks, members, through}
 use Rattle.marks.specs.MarkLaws.{holds-same}
-use Rattle.rows.specs.Rows.{Stored, Held, Loaded, LowerListed, Closing, But, Renewed}
-use Rattle.rows.specs.FillLaws.{held-parts}
-use Rattle.rows.specs.ListLaws.{lower-members, lower-marks, lower-read, lower-but, lower-le}
-use Rattle.rows.specs.Turn.{loaded-cuts, closed-marks, place-turn}
-use Rattle.factor.specs.Factoring.{Lists, Written, Going, patternOf, Findable, Found, lowerIn}
+use Rattle.marks.specs.Rows.{Stored, Held, Loaded, LowerListed, Closing, But, Renewed}
+use Rattle.marks.specs.FillLaws.{held-parts}
+use Rattle.marks.specs.ListLaws.{lower-members, lower-marks, lower-read, lower-but, lower-le}
+use Rattle.marks.specs.Turn.{loaded-cuts, closed-marks, place-turn}
+use Rattle.factor.specs.Factoring.{Lists, Written, Going, Findable, LowerFound, lowerIn}
 use Rattle.base.specs.Scratch.{cursorsFrom, listFrom, zFrom}
 
 -- ---- one finding, from what its calls leave
@@ -28,7 +28,7 @@ use Rattle.base.specs.Scratch.{cursorsFrom, listFrom, zFrom}
 pub base-at : (n : ℕ) → Base n (3 * n)
 base-at n = record { low = omega arith; high = omega arith }
 
-module _ {P : Pattern} {n k : ℕ} {starts columns r index runs ustarts s₀ : List ℕ} (F : Findable P n k starts columns r index runs ustarts s₀) where
+module _ {P : Pattern} {n k : ℕ} {starts columns r index runs ustarts s₀ : List ℕ} (F : Findable P n k starts columns r ustarts runs index s₀) where
   module _ {s₁ : List ℕ} (loaded : Loaded n (k + 1) (getD r k 0) columns starts s₀ s₁) (l₁ : length s₁ ≡ length s₀) where
     marked-row : Holds n (k + 1) s₁ (P k)
     marked-row = holds-same n (k + 1) s₁ (has (through s₀ n (rowOf starts columns (getD r k 0)))) (P k) (F .entries) (loaded .row (F .held .fresh))
@@ -83,7 +83,7 @@ module _ {P : Pattern} {n k : ℕ} {starts columns r index runs ustarts s₀ : L
             getD-take below (drop (listFrom n) s₄) p 0 g ∙ getD-drop (listFrom n) s₄ p 0 ∙ renewed .kept (listFrom n + p) (λ e. omega (arith, F .place))
             ∙ sym (getD-drop (listFrom n) s₃ p 0) ∙ sym (getD-take below (drop (listFrom n) s₃) p 0 g))
 
-        pub found : Found P n k below index runs ustarts s₀ s₄
+        pub found : LowerFound P n k below ustarts runs index s₀ s₄
         found = record {
           next = place-turn P n k (k + 1) (3 * n) (listFrom n) (F .place) (base-at n) (omega arith) index runs ustarts s₀ s₁ s₂ (F .held) (loaded .same) marked-row (closing .closed) s₃ (listFrom n + below) written
               s₄ index runs ustarts (F .store) renewed (k + 1 + 1) (omega arith);
@@ -98,10 +98,6 @@ module _ {P : Pattern} {n k : ℕ} {starts columns r index runs ustarts s₀ : L
 through-is : (f : ℕ → ℕ) (n : ℕ) (s cols : List ℕ) → ((j : ℕ) → j < n → getD s (n + j) 0 ≡ f j) → Below n cols → through s n cols ≡ map f cols
 through-is f n s [] e b = refl
 through-is f n s (j ∷ cols) e b = rw (e j (b 0 (omega arith)), through-is f n s cols e (λ p h. b (suc p) (omega arith)))
-
-pattern-is : (i : Input) → stored i ≡ patternOf (i .n) (i .starts) (i .columns) (i .r) (i .c)
-unfolding stored
-pattern-is i = refl
 
 -- the lists of the places up to k stand in the store
 placed-stored : (f : Form) (P : Pattern) (n k : ℕ) (starts runs index : List ℕ) (size : ℕ) → k < n → PlacedSide f Upper P n starts runs index size → Stored P n (k + 1) index runs starts
@@ -125,12 +121,12 @@ module _ {f : Form} {i : Input} {L : Lists} {k : ℕ} {w : Written} (G : Going f
   columns-in = row-under (i .n) (i .starts) (i .columns) own (G .given .settled .structured .readable .columns)
 
   -- what finding lower row k asks
-  pub findable : Findable (patternOf (i .n) (i .starts) (i .columns) (i .r) (i .c)) (i .n) k (i .starts) (i .columns) (i .r) (L .upper-index) (L .upper-runs) (L .upper-starts) (w .marks)
+  pub findable : Findable (stored i) (i .n) k (i .starts) (i .columns) (i .r) (L .upper-starts) (L .upper-runs) (L .upper-index) (w .marks)
   findable =
       let g = G .given .settled .structured .readable in
       let b = order-below (i .r) (i .n) (g .row-order) k h in
       let row = g .rows own b in
-      subst (λ (P : Pattern). Findable P (i .n) k (i .starts) (i .columns) (i .r) (L .upper-index) (L .upper-runs) (L .upper-starts) (w .marks)) (pattern-is i) (record {
+      record {
         place = h;
         room = record { small = omega (arith, G .given .lent .lent .orders .few); long = G .given .slots };
         own-place = omega (arith, G .given .lent .lent .orders .row-order);
@@ -145,9 +141,4 @@ module _ {f : Form} {i : Input} {L : Lists} {k : ℕ} {w : Written} (G : Going f
         entries = λ j l. ap (λ (x : List ℕ). has x j) (through-is (ic (i .c) (i .n)) (i .n) (w .marks) (columnsAt i k) (G .inverse) columns-in) ∙ sym (stored-is i g k j l);
         held = H;
         store = placed-stored f (stored i) (i .n) k (L .upper-starts) (L .upper-runs) (L .upper-index) (length (w .upper)) h (G .given .upper-side);
-      })
-
-  -- what it leaves, with M' as the factors have it
-  pub as-stored : {m : List ℕ} {below : ℕ} → Found (patternOf (i .n) (i .starts) (i .columns) (i .r) (i .c)) (i .n) k below (L .upper-index) (L .upper-runs) (L .upper-starts) (w .marks) m
-      → Found (stored i) (i .n) k below (L .upper-index) (L .upper-runs) (L .upper-starts) (w .marks) m
-  as-stored {m} {below} = subst (λ (P : Pattern). Found P (i .n) k below (L .upper-index) (L .upper-runs) (L .upper-starts) (w .marks) m) (sym (pattern-is i))
+      }

@@ -20,9 +20,9 @@ use Rattle.outcome.specs.Placed.{PlacedSide, start-at, starts-long, size-at, va
 use Rattle.outcome.specs.Forms.{placedTo}
 use Rattle.outcome.specs.Solve.{system}
 use Rattle.marks.specs.MarkLaws.{sets-below}
-use Rattle.rows.specs.Rows as found
-use Rattle.rows.specs.CutLaws.{held-kept}
-use Rattle.rows.specs.ListLaws.{lower-le}
+use Rattle.marks.specs.Rows as found
+use Rattle.marks.specs.RenewLaws.{held-kept}
+use Rattle.marks.specs.ListLaws.{lower-le}
 use Rattle.numeric.specs.declared.Pivot.{Pivot}
 use Rattle.numeric.specs.declared.Pivot.the-variants as pivot
 use Rattle.numeric.specs.Stores.{Closable, gathered, columns, keepColumns}
@@ -31,10 +31,10 @@ use Rattle.numeric.specs.StoreLaws.{Rising, rises-to, gathered-length, sets-par
 use Rattle.numeric.specs.RowLaws.{has-at}
 use Rattle.numeric.specs.KeepLaws.{stacked-row, column-length, column-below, column-room, columns-more}
 use Rattle.numeric.specs.PassLaws.{forward-length}
-use Rattle.factor.specs.Factoring.{Lists, Written, written, Inverse, Finding, LowerHeld, Going, lowerIn, LowerAt, RowAt, Found, readsLower, LowerAsked, LowerGiven, RowReady, Spread, KeepAsked, LowerKept, KeepGiven}
+use Rattle.factor.specs.Factoring.{Lists, Written, written, Inverse, Finding, LowerHeld, Going, lowerIn, LowerAt, RowAt, LowerFound, readsLower, LowerAsked, LowerGiven, RowReady, Spread, KeepAsked, LowerKept, KeepGiven}
 use Rattle.factor.specs.SystemLaws.{lower-ascends, system-closed}
 use Rattle.factor.specs.ColumnLaws.{shared-side, shared-fits}
-use Rattle.factor.specs.FindLaws.{findable, as-stored}
+use Rattle.factor.specs.FindLaws.{findable}
 use Rattle.factor.specs.TurnLaws.{Sizes, row-at, row-room, lower-in, row-closable, going-more}
 use Rattle.base.specs.Scratch.{cursorsFrom, listFrom}
 use Rattle.base.specs.Limits.{maxRows}
@@ -61,7 +61,7 @@ module _ {i : Input} {L : Lists} {k : ℕ} {w : Written} (G : Going Plain i L k 
   lower-read : rowOf (L .lower-starts) (L .lower-index) k ≡ lowerRow (stored i) k
   lower-read = list-at Plain Lower (stored i) (i .n) (L .lower-starts) (L .lower-starts) (L .lower-index) (length (w .lower)) side k h
 
-  plain-asked : LowerAsked true (i .n) k (i .starts) (i .columns) (i .r) (i .c) L (w .marks)
+  plain-asked : LowerAsked true (i .n) k (i .starts) (i .columns) (i .r) L (w .marks)
   unfolding LowerAsked
   plain-asked = (
     record {
@@ -73,7 +73,7 @@ module _ {i : Input} {L : Lists} {k : ℕ} {w : Written} (G : Going Plain i L k 
     record { few = omega (arith, G .given .lent .lent .orders .few); room = omega (arith, ap length lower-read, lower-le (stored i) k, G .given .slots) },
   )
 
-  plain-given : {m : List ℕ} {below : ℕ} → LowerGiven true (i .n) k below (i .starts) (i .columns) (i .r) (i .c) L (w .marks) m → Lowered Plain i L k below m
+  plain-given : {m : List ℕ} {below : ℕ} → LowerGiven true (i .n) k below (i .starts) (i .columns) (i .r) L (w .marks) m → Lowered Plain i L k below m
   unfolding LowerGiven LowerAsked
   plain-given {m} {below} e = record {
     size = e .0 ∙ ap length lower-read;
@@ -98,18 +98,18 @@ module _ {i : Input} {L : Lists} {k : ℕ} {w : Written} (G : Going Plain i L k 
       (λ j b. omega (arith, size-at Plain Lower (stored i) (i .n) (L .lower-starts) (L .lower-starts) (L .lower-index) (length (w .lower)) side j (omega arith)))
       (omega (arith, plain-size, plain-room)) (omega (arith, plain-size, gathered-length lower g, ap length el)) en (G .lower)
 
-lower-asked : {i : Input} {L : Lists} {k : ℕ} {w : Written} (f : Form) → Going f i L k w → k < i .n → LowerAsked (readsLower f) (i .n) k (i .starts) (i .columns) (i .r) (i .c) L (w .marks)
+lower-asked : {i : Input} {L : Lists} {k : ℕ} {w : Written} (f : Form) → Going f i L k w → k < i .n → LowerAsked (readsLower f) (i .n) k (i .starts) (i .columns) (i .r) L (w .marks)
 unfolding LowerAsked
 lower-asked Plain G h = plain-asked G h
-lower-asked Shared G h = findable G h (G .finding)
-lower-asked ByRow G h = findable G h (G .finding)
+lower-asked {i = i} Shared G h = (stored i, findable G h (G .finding))
+lower-asked {i = i} ByRow G h = (stored i, findable G h (G .finding))
 
 lower-given : {i : Input} {L : Lists} {k : ℕ} {w : Written} (f : Form) (G : Going f i L k w) → k < i .n → (m : List ℕ) (below : ℕ)
-    → LowerGiven (readsLower f) (i .n) k below (i .starts) (i .columns) (i .r) (i .c) L (w .marks) m → Lowered f i L k below m
+    → LowerGiven (readsLower f) (i .n) k below (i .starts) (i .columns) (i .r) L (w .marks) m → Lowered f i L k below m
 unfolding LowerGiven
 lower-given Plain G h m below e = plain-given G h e
-lower-given Shared G h m below e = let F = as-stored G h (G .finding) e in record { size = F .size; lower = F .lower; inverse = λ j l. F .inverse j l ∙ G .inverse j l; finding = F .next }
-lower-given ByRow G h m below e = let F = as-stored G h (G .finding) e in record { size = F .size; lower = F .lower; inverse = λ j l. F .inverse j l ∙ G .inverse j l; finding = F .next }
+lower-given {i = i} Shared G h m below e = let F = e (stored i) (findable G h (G .finding)) in record { size = F .size; lower = F .lower; inverse = λ j l. F .inverse j l ∙ G .inverse j l; finding = F .next }
+lower-given {i = i} ByRow G h m below e = let F = e (stored i) (findable G h (G .finding)) in record { size = F .size; lower = F .lower; inverse = λ j l. F .inverse j l ∙ G .inverse j l; finding = F .next }
 
 -- what row k's steps find
 lowered-row : {f : Form} {i : Input} {L : Lists} {k : ℕ} {w : Written} {m : List ℕ} {below : ℕ} → Going f i L k w → k < i .n → length m ≡ length (w .marks) → Lowered f i L k below m
@@ -123,7 +123,7 @@ row-ready f G h = record { asked = lower-asked f G h; row = λ m below em e. low
 -- ---- L by columns
 
 module _ {i : Input} {L : Lists} {k : ℕ} {w : Written} (G : Going Shared i L k w) (h : k < i .n) {m : List ℕ} {below : ℕ}
-    (F : Found (stored i) (i .n) k below (L .upper-index) (L .upper-runs) (L .upper-starts) (w .marks) m) (em : length m ≡ length (w .marks)) where
+    (F : LowerFound (stored i) (i .n) k below (L .upper-starts) (L .upper-runs) (L .upper-index) (w .marks) m) (em : length m ≡ length (w .marks)) where
   abbrev column-side : PlacedSide Shared Lower (stored i) (i .n) (L .lower-starts) (placedTo Shared Lower (stored i) (i .n) (i .n) .runs) (placedTo Shared Lower (stored i) (i .n) (i .n) .slots) (length (w .lower))
   column-side = shared-side (stored i) (i .n) (L .lower-starts) (length (w .lower)) (G .given .lower-side)
 
@@ -189,15 +189,15 @@ module _ {i : Input} {L : Lists} {k : ℕ} {w : Written} (G : Going Shared i L k
 -- ---- L of row k by form
 
 pub keep-asked : {i : Input} {L : Lists} {k : ℕ} {w : Written} (f : Form) (G : Going f i L k w) (h : k < i .n) (m : List ℕ) (below : ℕ)
-    → LowerGiven (readsLower f) (i .n) k below (i .starts) (i .columns) (i .r) (i .c) L (w .marks) m → length m ≡ length (w .marks) → (g : List Float) → length g ≡ length (w .work)
+    → LowerGiven (readsLower f) (i .n) k below (i .starts) (i .columns) (i .r) L (w .marks) m → length m ≡ length (w .marks) → (g : List Float) → length g ≡ length (w .work)
     → KeepAsked f (i .n) k below (L .lower-starts) (length (w .lower)) (length g) m
 unfolding KeepAsked LowerGiven
 keep-asked Plain G h m below e em g lg = let D = lower-given Plain G h m below e in plain-keepable G h g lg (lowered-row G h em D) (D .size)
-keep-asked Shared G h m below e em g lg = (omega (arith, G .given .scratch, lg), spread G h (as-stored G h (G .finding) e) em (lowered-row G h em (lower-given Shared G h m below e)))
+keep-asked {i = i} Shared G h m below e em g lg = (omega (arith, G .given .scratch, lg), spread G h (e (stored i) (findable G h (G .finding))) em (lowered-row G h em (lower-given Shared G h m below e)))
 keep-asked ByRow G h m below e em g lg = tt
 
 kept-held : {i : Input} {L : Lists} {k : ℕ} {w : Written} (f : Form) (G : Going f i L k w) (h : k < i .n) (m : List ℕ) (below : ℕ)
-    → LowerGiven (readsLower f) (i .n) k below (i .starts) (i .columns) (i .r) (i .c) L (w .marks) m → length m ≡ length (w .marks)
+    → LowerGiven (readsLower f) (i .n) k below (i .starts) (i .columns) (i .r) L (w .marks) m → length m ≡ length (w .marks)
     → (next : Row) (g l : List Float) (x : List ℕ) → next .l ≡ gathered (lowerRow (stored i) k) g → LowerKept f (i .n) k below (L .lower-starts) g (w .lower) l m x
     → LowerHeld f (system i) (G .rows ++ (next ∷ [])) (k + 1) (L .lower-starts) (drop (cursorsFrom (i .n)) x) l
 unfolding LowerKept LowerGiven
@@ -206,7 +206,7 @@ kept-held {i = i} Plain G h m below e em next g l x en K =
     rw K (plain-kept G h next (lowerIn (i .n) below m) g (D .lower) (en ∙ ap (λ (q : List ℕ). gathered q g) (sym (D .lower))))
 kept-held {i = i} Shared G h m below e em next g l x en K =
     let D = lower-given Shared G h m below e in
-    shared-kept G h (as-stored G h (G .finding) e) em (D .lower) next g l (drop (cursorsFrom (i .n)) x) (en ∙ ap (λ (q : List ℕ). gathered q g) (sym (D .lower))) K
+    shared-kept G h (e (stored i) (findable G h (G .finding))) em (D .lower) next g l (drop (cursorsFrom (i .n)) x) (en ∙ ap (λ (q : List ℕ). gathered q g) (sym (D .lower))) K
 kept-held {i = i} ByRow G h m below e em next g l x en K = K ∙ G .lower
 
 -- ---- keeping L writes the cursors alone
@@ -232,7 +232,7 @@ lower-stays n below m x r ex same =
 -- ---- row k, from what its calls leave
 
 module _ {i : Input} {L : Lists} {k : ℕ} {w : Written} (f : Form) (G : Going f i L k w) (h : k < i .n) (m : List ℕ) (below : ℕ)
-    (e : LowerGiven (readsLower f) (i .n) k below (i .starts) (i .columns) (i .r) (i .c) L (w .marks) m) (em : length m ≡ length (w .marks)) where
+    (e : LowerGiven (readsLower f) (i .n) k below (i .starts) (i .columns) (i .r) L (w .marks) m) (em : length m ≡ length (w .marks)) where
   abbrev D : Lowered f i L k below m
   D = lower-given f G h m below e
 
@@ -250,7 +250,7 @@ module _ {i : Input} {L : Lists} {k : ℕ} {w : Written} (f : Form) (G : Going f
     }
 
     -- what its closing asks
-    pub close-asked : LowerAt (i .n) below (length x) × Closable (i .n) k (length g) (lowerIn (i .n) below x) (L .upper-index) (L .upper-runs) (L .upper-starts) (length (w .d))
+    pub close-asked : LowerAt (i .n) below (length x) × Closable (i .n) k (length g) (lowerIn (i .n) below x) (L .upper-starts) (L .upper-runs) (L .upper-index) (length (w .d))
     close-asked = row-closable G h g lg (lowered-row G h (ex ∙ em) row-kept)
 
     pub row-more : (u d v : List Float) → Sizes w (written l u d v x) → (t : RowSums) (p : Pivot) → p ≡ pivot.Kept t
@@ -265,13 +265,13 @@ module _ {i : Input} {L : Lists} {k : ℕ} {w : Written} (f : Form) (G : Going f
 
 -- ---- what a test of the form, or a match on it, shows
 
-pub asked-as : (f : Form) (n k : ℕ) (starts columns r c : List ℕ) (L : Lists) (s : List ℕ) (t x : Bool) → t ≡ readsLower f → t ≡ x
-    → LowerAsked (readsLower f) n k starts columns r c L s → LowerAsked x n k starts columns r c L s
-asked-as f n k starts columns r c L s t x e q = subst (λ b. LowerAsked b n k starts columns r c L s) (sym e ∙ q)
+pub asked-as : (f : Form) (n k : ℕ) (starts columns r : List ℕ) (L : Lists) (s : List ℕ) (t x : Bool) → t ≡ readsLower f → t ≡ x
+    → LowerAsked (readsLower f) n k starts columns r L s → LowerAsked x n k starts columns r L s
+asked-as f n k starts columns r L s t x e q = subst (λ b. LowerAsked b n k starts columns r L s) (sym e ∙ q)
 
-pub given-as : (f : Form) (n k below : ℕ) (starts columns r c : List ℕ) (L : Lists) (s₀ s : List ℕ) (t x : Bool) → t ≡ readsLower f → t ≡ x
-    → LowerGiven x n k below starts columns r c L s₀ s → LowerGiven (readsLower f) n k below starts columns r c L s₀ s
-given-as f n k below starts columns r c L s₀ s t x e q = subst (λ b. LowerGiven b n k below starts columns r c L s₀ s) (sym q ∙ e)
+pub given-as : (f : Form) (n k below : ℕ) (starts columns r : List ℕ) (L : Lists) (s₀ s : List ℕ) (t x : Bool) → t ≡ readsLower f → t ≡ x
+    → LowerGiven x n k below starts columns r L s₀ s → LowerGiven (readsLower f) n k below starts columns r L s₀ s
+given-as f n k below starts columns r L s₀ s t x e q = subst (λ b. LowerGiven b n k below starts columns r L s₀ s) (sym q ∙ e)
 
 pub keep-as : (f g : Form) (n k below : ℕ) (starts : List ℕ) (slots work : ℕ) (s : List ℕ) → f ≡ g → KeepAsked f n k below starts slots work s → KeepAsked g n k below starts slots work s
 keep-as f g n k below starts slots work s e = subst (λ x. KeepAsked x n k below starts slots work s) e

@@ -24,13 +24,16 @@ use Rattle.matrix.specs.OrderLaws.{place-hits}
 use Rattle.outcome.specs.Solve.{system}
 use Rattle.outcome.specs.Placed.{PlacedSide, starts-long, size-at, values-at, run-at, run-inside, list-at}
 use Rattle.questions.specs.Settled.{Under, Finite, placesAt}
-use Rattle.questions.specs.SettledLaws.{row-under, row-length, stored-is, places-under}
-use Rattle.rows.specs.FillLaws.{upper-below}
-use Rattle.numeric.specs.Stores.{Below, Ascending, Shape, Reducible, placesOf}
-use Rattle.numeric.specs.Rows.{filledRow, Closed, Lent}
+use Rattle.questions.specs.SettledLaws.{row-under, stored-is, places-under}
+use Rattle.marks.specs.FillLaws.{upper-below}
+use Rattle.lent.specs.Reading.{Below, ownAt, orderOf}
+use Rattle.numeric.specs.Stores.{Ascending, StoreShape, Reducible, placesOf}
+use Rattle.numeric.specs.StoreLaws.{list-length}
+use Rattle.numeric.specs.Rows.{filledRow, Closed, RowLent}
 use Rattle.numeric.specs.RowLaws.{has-at}
 use Rattle.factor.specs.Factoring.{Inverse, RowAt}
-use Rattle.base.specs.Scratch.{listFrom, zFrom}
+use Rattle.base.specs.Scratch.{blocksFrom, listFrom}
+use Rattle.base.specs.declared.OwnNumber.{OwnNumber}
 
 -- ---- the fill
 
@@ -86,19 +89,19 @@ system-closed i k h =
 
 -- ---- the lists in their stores
 
-pub placed-shape : (f : Form) (P : Pattern) (n : ℕ) (starts runs index : List ℕ) (size : ℕ) → PlacedSide f Upper P n starts runs index size → Shape n index runs starts size
+pub placed-shape : (f : Form) (P : Pattern) (n : ℕ) (starts runs index : List ℕ) (size : ℕ) → PlacedSide f Upper P n starts runs index size → StoreShape n starts runs index size
 placed-shape f P n starts runs index size h = record {
   list = λ i l. record {
-    run = run-at f Upper P n starts runs index size h i l .0;
-    next = omega (arith, starts-long f Upper P n starts runs index size h);
-    rises = omega (arith, size-at f Upper P n starts runs index size h i l);
-    fits = run-inside f Upper P n starts runs index size h i l;
+    has-run = run-at f Upper P n starts runs index size h i l .0;
+    has-start = omega (arith, starts-long f Upper P n starts runs index size h);
+    rise = omega (arith, size-at f Upper P n starts runs index size h i l);
+    inside = run-inside f Upper P n starts runs index size h i l;
   };
   values = λ i l. record {
-    run = omega (arith, starts-long f Upper P n starts runs index size h);
-    next = omega (arith, starts-long f Upper P n starts runs index size h);
-    rises = omega (arith, size-at f Upper P n starts runs index size h i l);
-    fits = omega (arith, size-at f Upper P n starts runs index size h i l, values-at f Upper P n starts runs index size h i l);
+    has-run = omega (arith, starts-long f Upper P n starts runs index size h);
+    has-start = omega (arith, starts-long f Upper P n starts runs index size h);
+    rise = omega (arith, size-at f Upper P n starts runs index size h i l);
+    inside = omega (arith, size-at f Upper P n starts runs index size h i l, values-at f Upper P n starts runs index size h i l);
   };
   below = λ i l. rw (list-at f Upper P n starts runs index size h i l) (upper-below P n i);
 }
@@ -106,7 +109,8 @@ placed-shape f P n starts runs index size h = record {
 -- ---- a row of M
 
 -- the inverse order, as a slice
-pub inverse-is : (i : Input) (s : List ℕ) → zFrom (i .n) ≤ length s → Inverse i s → take (i .n) (drop (i .n) s) ≡ table (ic (i .c) (i .n)) (i .n)
+inverse-is : (i : Input) (s : List ℕ) → blocksFrom (i .n) ≤ length s → Inverse i s → orderOf (i .n) s ≡ table (ic (i .c) (i .n)) (i .n)
+unfolding orderOf
 inverse-is i s h e =
     let l : length (take (i .n) (drop (i .n) s)) ≡ i .n = length-take-le (i .n) (drop (i .n) s) (simp length-drop (omega arith)) in
     ext-getD 0 (take (i .n) (drop (i .n) s)) (table (ic (i .c) (i .n)) (i .n)) (l ∙ sym (length-table (ic (i .c) (i .n)) (i .n)))
@@ -121,32 +125,41 @@ module _ (i : Input) (k below : ℕ) (us ur ui marks : List ℕ) (upper work : �
   abbrev own : ℕ
   own = getD (i .r) k 0
 
-  -- what the code reads: the row's columns and values, the inverse order, b(r(k)) and lower row k
-  module _ (columns inverse lower : List ℕ) (values : List Float) (b : Float) (ec : columns ≡ rowOf (i .starts) (i .columns) own)
-      (ev : values ≡ rowOf (i .starts) (i .values) own) (ei : inverse ≡ take (i .n) (drop (i .n) marks)) (eb : b ≡ getD (i .b) own nan)
-      (el : lower ≡ take below (drop (listFrom (i .n)) marks)) where
-    order-is : inverse ≡ table (ic (i .c) (i .n)) (i .n)
-    order-is = ei ∙ inverse-is i marks (omega (arith, R .slots)) (R .inverse)
+  order-is : orderOf (i .n) marks ≡ table (ic (i .c) (i .n)) (i .n)
+  order-is = inverse-is i marks (omega (arith, R .slots)) (R .inverse)
+
+  -- what the code reads: own row r(k), its columns and values, b(r(k)) and lower row k
+  module _ (row : OwnNumber) (columns lower : List ℕ) (values : List Float) (b : Float) (er : row ≡ ownAt (i .r) (record { 0 = k })) (rc : columns ≡ rowOf (i .starts) (i .columns) (row .0))
+      (rv : values ≡ rowOf (i .starts) (i .values) (row .0)) (rb : b ≡ getD (i .b) (row .0) nan) (el : lower ≡ take below (drop (listFrom (i .n)) marks)) where
+    ec : columns ≡ rowOf (i .starts) (i .columns) own
+    ec = rc ∙ ap (λ (x : OwnNumber). rowOf (i .starts) (i .columns) (x .0)) er
+
+    ev : values ≡ rowOf (i .starts) (i .values) own
+    ev = rv ∙ ap (λ (x : OwnNumber). rowOf (i .starts) (i .values) (x .0)) er
+
+    eb : b ≡ getD (i .b) own nan
+    eb = rb ∙ ap (λ (x : OwnNumber). getD (i .b) (x .0) nan) er
 
     columns-below : Below (i .n) columns
     unfolding Under
     columns-below = rw ec (row-under (i .n) (i .starts) (i .columns) own (R .settled .structured .readable .columns))
 
-    places-are : placesOf inverse columns ≡ placesAt i k
+    places-are : placesOf (orderOf (i .n) marks) columns ≡ placesAt i k
     unfolding placesOf
     places-are = rw order-is (places-same (ic (i .c) (i .n)) (i .n) columns columns-below ∙ ap (map (ic (i .c) (i .n))) ec)
 
     long : length columns ≡ length values
-    long =
-        rw (ec, ev) (row-length (i .starts) (i .columns) own (R .columns .row) ∙ sym (row-length (i .starts) (i .values) own (R .values .row)))
+    long = rw (ec, ev) (list-length (i .starts) (i .starts) (i .columns) own (R .columns) ∙ sym (list-length (i .starts) (i .starts) (i .values) own (R .values)))
 
-    pub row-reducible : Reducible (i .n) k work inverse columns values lower ui ur us upper
+    pub row-reducible : Reducible (i .n) k work marks columns values lower us ur ui upper
     row-reducible = record {
       place = R .place;
       scratch = R .scratch;
       row = record {
+        few = omega (arith, R .lent .lent .orders .few);
+        slots = omega (arith, R .slots);
         paired = long;
-        known = λ p g. omega (arith, columns-below p g, ap length order-is, length-table (ic (i .c) (i .n)) (i .n));
+        known = columns-below;
         inside = λ p g. rw (order-is, getD-table (ic (i .c) (i .n)) (i .n) 0 (getD columns p 0) (columns-below p g))
             (place-hits (i .c) (i .n) (R .settled .structured .readable .column-order) (getD columns p 0) (columns-below p g) .0);
       };
@@ -168,7 +181,7 @@ module _ (i : Input) (k below : ℕ) (us ur ui marks : List ℕ) (upper work : �
         row-has (stored i) (i .n) k (getD (placesAt i k) p 0) b
         (filled-stored (stored i) k (getD (placesAt i k) p 0) (stored-is i (R .settled .structured .readable) k (getD (placesAt i k) p 0) b ∙ has-at (placesAt i k) p g))
 
-    pub row-lent : Lent (system i) k lower (placesOf inverse columns) values b
+    pub row-lent : RowLent (system i) k lower (placesOf (orderOf (i .n) marks) columns) values b
     unfolding system entries rightAt Finite
     row-lent = record {
       entries = rw (places-are, ev);

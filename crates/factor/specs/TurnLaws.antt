@@ -17,10 +17,12 @@ use Rattle.matrix.specs.Input.{Input, stored}
 use Rattle.matrix.specs.OrderLaws.{order-below}
 use Rattle.arithmetic.specs.Arith.{met, zeroPivot, overflow, Row, none}
 use Rattle.outcome.specs.Solve.{system, listed}
-use Rattle.rows.specs.ListLaws.{lower-le}
+use Rattle.outcome.proofs.Meaning.{listed-stops}
+use Rattle.marks.specs.ListLaws.{lower-le}
 use Rattle.numeric.specs.declared.Pivot.{Pivot}
 use Rattle.numeric.specs.declared.Pivot.the-variants.{Kept, Zero, Overflow}
-use Rattle.numeric.specs.Stores.{Below, Closable, gathered}
+use Rattle.lent.specs.Reading.{ListIn, Below}
+use Rattle.numeric.specs.Stores.{Closable, gathered}
 use Rattle.numeric.specs.Rows.{Reduced, Shut, keptRow}
 use Rattle.numeric.specs.PassLaws.{forward-length, held-more, held-zero, held-overflow}
 use Rattle.factor.specs.declared.Factored.{Factored}
@@ -113,6 +115,8 @@ module _ {f : Form} {i : Input} {L : Lists} {k : ℕ} {w : Written} (G : Going f
       let F = G .given in
       let own = order-below (i .r) (i .n) (F .settled .structured .readable .row-order) k h in
       let row = F .settled .structured .readable .rows (getD (i .r) k 0) own in
+      let columns : ListIn (i .starts) (i .starts) (length (i .columns)) (getD (i .r) k 0) =
+      record { has-run = omega (arith, F .lent .lent .starts); has-start = omega (arith, F .lent .lent .starts); rise = row .up; inside = omega (arith, row .up, row .within) } in
       record {
         place = h;
         lent = rw em (F .lent);
@@ -120,8 +124,9 @@ module _ {f : Form} {i : Input} {L : Lists} {k : ℕ} {w : Written} (G : Going f
         shape = placed-shape f (stored i) (i .n) (L .upper-starts) (L .upper-runs) (L .upper-index) (length (w .upper)) (F .upper-side);
         scratch = F .scratch;
         slots = rw em (F .slots);
-        columns = record { place = omega (arith, F .lent .lent .orders .row-order); starts-at = omega (arith, F .lent .lent .starts); row = row };
-        values = record { place = omega (arith, F .lent .lent .orders .row-order); starts-at = omega (arith, F .lent .lent .starts); row = rw (F .lent .values) row };
+        own-place = omega (arith, F .lent .lent .orders .row-order);
+        columns = columns;
+        values = rw (F .lent .values) columns;
         right = omega (arith, F .lent .right);
         short = omega (arith, lower-le (stored i) k);
         inverse = inv;
@@ -130,16 +135,14 @@ module _ {f : Form} {i : Input} {L : Lists} {k : ℕ} {w : Written} (G : Going f
 
   -- a row that is not kept
   pub zero-met : {g v : List Float} (p : Pivot) → p ≡ Zero → Reduced (system i) (G .rows) (i .n) k (L .upper-starts) (w .work) g (w .upper) v p → listed i ≡ met (zeroPivot k)
-  unfolding listed
-  zero-met {g} {v} p e R = held-zero (G .held) h (subst (λ (q : Pivot). Reduced (system i) (G .rows) (i .n) k (L .upper-starts) (w .work) g (w .upper) v q) e R)
+  zero-met {g} {v} p e R = listed-stops i ∙ held-zero (G .held) h (subst (λ (q : Pivot). Reduced (system i) (G .rows) (i .n) k (L .upper-starts) (w .work) g (w .upper) v q) e R)
 
   pub overflow-met : {g v : List Float} (p : Pivot) → p ≡ Overflow → Reduced (system i) (G .rows) (i .n) k (L .upper-starts) (w .work) g (w .upper) v p → listed i ≡ met (overflow k)
-  unfolding listed
-  overflow-met {g} {v} p e R = held-overflow (G .held) h (subst (λ (q : Pivot). Reduced (system i) (G .rows) (i .n) k (L .upper-starts) (w .work) g (w .upper) v q) e R)
+  overflow-met {g} {v} p e R = listed-stops i ∙ held-overflow (G .held) h (subst (λ (q : Pivot). Reduced (system i) (G .rows) (i .n) k (L .upper-starts) (w .work) g (w .upper) v q) e R)
 
   -- what its closing asks
   pub row-closable : {m : List ℕ} {below : ℕ} (g : List Float) → length g ≡ length (w .work) → RowAt i k below (L .upper-starts) (L .upper-runs) (L .upper-index) m (length (w .upper)) (length (w .work))
-      → LowerAt (i .n) below (length m) × Closable (i .n) k (length g) (lowerIn (i .n) below m) (L .upper-index) (L .upper-runs) (L .upper-starts) (length (w .d))
+      → LowerAt (i .n) below (length m) × Closable (i .n) k (length g) (lowerIn (i .n) below m) (L .upper-starts) (L .upper-runs) (L .upper-index) (length (w .d))
   row-closable g lg R = (
     row-room R,
     record { place = h; scratch = lg ∙ R .scratch; reciprocals = G .given .reciprocals; below = lower-in R; list = R .shape .list k h; above = R .shape .below k h },
@@ -171,7 +174,7 @@ module _ {f : Form} {i : Input} {L : Lists} {k : ℕ} {w : Written} (G : Going f
     going-more kept inv find = record {
       given = same-given s (G .given);
       rows = G .rows ++ (next ∷ []);
-      held = held-more (system i) (G .rows) (i .n) k (w .work) (L .upper-index) (L .upper-runs) (L .upper-starts) (w .upper) (G .held) h (G .given .scratch) (system-closed i k h)
+      held = held-more (system i) (G .rows) (i .n) k (w .work) (L .upper-starts) (L .upper-runs) (L .upper-index) (w .upper) (G .held) h (G .given .scratch) (system-closed i k h)
           (placed-shape f (stored i) (i .n) (L .upper-starts) (L .upper-runs) (L .upper-index) (length (w .upper)) (G .given .upper-side))
           lower lower-is g (x .work) (x .upper) (w .d) (x .d) lg t
           (subst (λ (q : Pivot). Reduced (system i) (G .rows) (i .n) k (L .upper-starts) (w .work) g (w .upper) (x .upper) q) ep R) Q;

@@ -3,29 +3,29 @@
 // and lower row k from 5n.
 use base::Form;
 use base::Index;
-use base::OwnNumber;
 use base::Place;
 use base::RowSums;
 use base::scratch;
 use numeric::Back;
 use numeric::Pivot;
 ghost use mathlib.Core.Path.{_≡_};
-ghost use mathlib.Core.List.{List, []};
-ghost use Prim.Native.Nat.{_+_, _*_, _-_, _<_, _≤_};
+ghost use mathlib.Core.List.{List};
+ghost use Prim.Native.Nat.{ℕ, _+_, _*_, _-_, _<_, _≤_};
 ghost use lib.ListN.{length, getD, take, drop};
 ghost use lib.Seq.{sets};
-ghost use lib.Ieee.{nan};
 ghost use Rattle.base.specs.Lists.{nought, blank, listAt, rowOf};
 ghost use Rattle.questions.specs.Lent.{InverseLent, invertedAt};
-ghost use Rattle.marks.specs.Marks.{ListIn};
-ghost use Rattle.base.specs.declared.Form.the-variants.{Plain, Shared, ByRow};
+ghost use Rattle.base.specs.declared.Form.the-variants.{Shared};
 ghost use Rattle.matrix.specs.Input.{inputOf};
-ghost use Rattle.arithmetic.specs.Arith.{Row, back};
+ghost use Rattle.arithmetic.specs.Arith.{Row};
+ghost use Rattle.arithmetic.specs.Stopping.{back};
 ghost use Rattle.outcome.specs.Solve.{system};
 ghost use Rattle.numeric.specs.Stores.{Closable, gathered, storeGiven};
-ghost use Rattle.numeric.specs.Rows.{Held, Reduced, Shut};
-ghost use Rattle.factor.specs.Factoring.{FactoredAs, lists, written, Factorable, Going, CameTo, isFault, OwnRow, RowAt, lowerIn, LowerAt, patternOf, Findable, Found, readsLower, LowerAsked, LowerGiven, RowReady, Keepable, Spread, KeepAsked, KeepGiven, BackReady, backAs};
+ghost use Rattle.numeric.specs.Rows.{RowsHeld, Reduced, Shut};
+ghost use Rattle.factor.specs.Factoring.{FactoredAs, lists, written, Factorable, Going, CameTo, isFault, lowerIn, LowerAt, Findable, LowerFound, readsLower, LowerAsked, LowerGiven, RowReady, Keepable, Spread, KeepAsked, KeepGiven, BackReady, backAs};
 ghost use Rattle.base.specs.Scratch.{listFrom, zFrom};
+ghost use Rattle.fill.specs.Fill.{Pattern};
+ghost use Rattle.lent.specs.Reading.{ListIn};
 ghost use Rattle.base.specs.Limits.{maxRows};
 
 // Every row is done and z is found, or what the arithmetic meets first.
@@ -45,12 +45,6 @@ fn met_fault(a: Factored) -> bool
     }
 }
 
-fn wide16(x: Index) -> u32
-    ensures { λ r. ⌜ r ≡ x ⌝ }
-{
-    x as u32
-}
-
 // A list of places, from slot `at` on.
 fn copy_list(list: &[Index], marks: &mut [u32], at: usize)
     requires { ⌜ at + length (now list) ≤ length (now marks) ⌝ }
@@ -58,49 +52,12 @@ fn copy_list(list: &[Index], marks: &mut [u32], at: usize)
 {
     let mut p = 0;
     while p < list.len() {
-        marks[at + p] = wide16(list[p]);
+        marks[at + p] = base::number(list[p]);
         p += 1;
     }
 }
 
-// The columns and the values of the row at place k, b(r(k)), the inverse order and the lower row, as parts of what holds them.
-fn own_columns<'a>(columns: &'a [Index], starts: &[u32], r: &[Index], k: Place) -> &'a [Index]
-    requires { ⌜ OwnRow (now starts) (now r) (length (now columns)) (k .0) ⌝ }
-    ensures { λ p. ⌜ now p ≡ rowOf (now (starts .entry)) (now (columns .entry)) (getD (now (r .entry)) (k .0) 0) ⌝ }
-{
-    let row = rows::own_row(r, k);
-    let i = row.0 as usize;
-    marks::list_part(columns, starts, starts, i)
-}
-
-fn own_values<'a>(values: &'a [f64], starts: &[u32], r: &[Index], k: Place) -> &'a [f64]
-    requires { ⌜ OwnRow (now starts) (now r) (length (now values)) (k .0) ⌝ }
-    ensures { λ p. ⌜ now p ≡ rowOf (now (starts .entry)) (now (values .entry)) (getD (now (r .entry)) (k .0) 0) ⌝ }
-{
-    let row = rows::own_row(r, k);
-    let i = row.0 as usize;
-    let from = marks::wide32(starts[i]);
-    let to = marks::wide32(starts[i + 1]);
-    &values[from..to]
-}
-
-fn own_right(b: &[f64], r: &[Index], k: Place) -> f64
-    requires { ⌜ (k .0 < length (now r)) × (getD (now r) (k .0) 0 < length (now b)) ⌝ }
-    ensures { λ s. ⌜ s ≡ getD (now (b .entry)) (getD (now (r .entry)) (k .0) 0) nan ⌝ }
-{
-    let row = rows::own_row(r, k);
-    let i = row.0 as usize;
-    b[i]
-}
-
-fn inverse_part(marks: &[u32], n: usize) -> &[u32]
-    requires { ⌜ (n ≤ maxRows) × (zFrom n ≤ length (now marks)) ⌝ }
-    ensures { λ p. ⌜ now p ≡ take n (drop n (now (marks .entry))) ⌝ }
-{
-    let end = scratch::BLOCKS * n;
-    &marks[n..end]
-}
-
+// Lower row k, so long, as a part of the marks.
 fn lower_part(marks: &[u32], n: usize, below: usize) -> &[u32]
     requires { ⌜ LowerAt n below (length (now marks)) ⌝ }
     ensures { λ p. ⌜ now p ≡ lowerIn n below (now (marks .entry)) ⌝ }
@@ -110,90 +67,52 @@ fn lower_part(marks: &[u32], n: usize, below: usize) -> &[u32]
     &marks[from..end]
 }
 
-// Steps 1 to 3 of row k over its lower row, which stands in the marks.
-fn reduce_at(
-    n: usize,
-    k: Place,
-    starts: &[u32],
-    columns: &[Index],
-    values: &[f64],
-    r: &[Index],
-    c: &[Index],
-    b: &[f64],
-    ustarts: &[u32],
-    uruns: &[u32],
-    uindex: &[Index],
-    uvalues: &mut [f64],
-    work: &mut [f64],
-    marks: &[u32],
-    below: usize,
-) -> Pivot
-    requires { ⌜ RowAt (inputOf n (now starts) (now columns) (now values) (now r) (now c) (now b)) (k .0) below
-        (now ustarts) (now uruns) (now uindex) (now marks) (length (now uvalues)) (length (now work)) ⌝ }
-    ensures { λ p. ⌜ ((rows : List Row)
-        → Held (system (inputOf n (now (starts .entry)) (now (columns .entry)) (now (values .entry)) (now (r .entry)) (now (c .entry)) (now (b .entry)))) rows n (k .0)
-        (now (work .entry)) (now (uindex .entry)) (now (uruns .entry)) (now (ustarts .entry)) (now (uvalues .entry))
-        → Reduced (system (inputOf n (now (starts .entry)) (now (columns .entry)) (now (values .entry)) (now (r .entry)) (now (c .entry)) (now (b .entry)))) rows n (k .0)
-        (now (ustarts .entry)) (now (work .entry)) (now (work .exit)) (now (uvalues .entry)) (now (uvalues .exit)) p) ⌝ }
-{
-    let place = k.0 as usize;
-    let lower = lower_part(marks, n, below);
-    let inverse = inverse_part(marks, n);
-    let own = own_columns(columns, starts, r, k);
-    let entries = own_values(values, starts, r, k);
-    let right = own_right(b, r, k);
-    numeric::reduce_row(
-        work,
-        n,
-        place,
-        own,
-        entries,
-        inverse,
-        right,
-        lower,
-        uindex,
-        uruns,
-        ustarts,
-        uvalues,
-    )
-}
-
 // y(k) and d(k) into their slots, and the working row +0 again.
 fn close_at(
     n: usize,
     k: Place,
-    uindex: &[Index],
-    uruns: &[u32],
-    ustarts: &[u32],
+    upper_starts: &[u32],
+    upper_runs: &[u32],
+    upper_index: &[Index],
     d: &mut [f64],
     work: &mut [f64],
     marks: &[u32],
     below: usize,
     t: RowSums,
 )
-    requires { ⌜ LowerAt n below (length (now marks)) × Closable n (k .0) (length (now work)) (lowerIn n below (now marks)) (now uindex) (now uruns) (now ustarts) (length (now d)) ⌝ }
-    ensures { λ _. ⌜ Shut n (k .0) (lowerIn n below (now (marks .entry))) (listAt (now (ustarts .entry)) (now (uruns .entry)) (now (uindex .entry)) (k .0))
+    requires { ⌜ LowerAt n below (length (now marks)) × Closable n (k .0) (length (now work)) (lowerIn n below (now marks)) (now «upper_starts») (now «upper_runs») (now «upper_index») (length (now d)) ⌝ }
+    ensures { λ _. ⌜ Shut n (k .0) (lowerIn n below (now (marks .entry))) (listAt (now («upper_starts» .entry)) (now («upper_runs» .entry)) (now («upper_index» .entry)) (k .0))
         (now (work .entry)) (now (work .exit)) (now (d .entry)) (now (d .exit)) t ⌝ }
 {
     let place = k.0 as usize;
     let lower = lower_part(marks, n, below);
-    numeric::close_row(work, n, place, lower, uindex, uruns, ustarts, d, t);
+    numeric::close_row(
+        work,
+        n,
+        place,
+        lower,
+        upper_starts,
+        upper_runs,
+        upper_index,
+        d,
+        t,
+    );
 }
 
 // The back steps over the rows done.
 fn solve_back(
     n: usize,
-    ustarts: &[u32],
-    uruns: &[u32],
-    uindex: &[Index],
-    uvalues: &[f64],
+    upper_starts: &[u32],
+    upper_runs: &[u32],
+    upper_index: &[Index],
+    upper_values: &[f64],
     work: &mut [f64],
 ) -> Factored
-    requires { ⌜ BackReady n (now uindex) (now uruns) (now ustarts) (length (now uvalues)) (now work) ⌝ }
+    requires { ⌜ BackReady n (now «upper_starts») (now «upper_runs») (now «upper_index») (length (now «upper_values»)) (now work) ⌝ }
     ensures { λ a. ⌜ backAs (drop (zFrom n) (now (work .exit))) a
-        ≡ back (storeGiven n (now (work .entry)) (now (uindex .entry)) (now (uruns .entry)) (now (ustarts .entry)) (now (uvalues .entry))) n (drop (zFrom n) (now (work .entry))) ⌝ }
+        ≡ back (storeGiven n (now (work .entry)) (now («upper_starts» .entry)) (now («upper_runs» .entry)) (now («upper_index» .entry)) (now («upper_values» .entry))) n (drop (zFrom n) (now (work .entry))) ⌝ }
 {
-    let z = numeric::back_steps(work, n, uindex, uruns, ustarts, uvalues);
+    let z = numeric::back_steps(work, n, upper_starts, upper_runs, upper_index, upper_values);
     match z {
         Back::Complete => Factored::Solved,
         Back::Stopped(k) => Factored::Overflow(Place(k as u32)),
@@ -203,13 +122,19 @@ fn solve_back(
 // ---- lower row k in the marks, by form
 
 // Lower row k from its store into the marks, and its length.
-fn lower_plain(n: usize, k: Place, lstarts: &[u32], lindex: &[Index], marks: &mut [u32]) -> usize
-    requires { ⌜ ListIn (now lindex) (now lstarts) (now lstarts) (k .0) × LowerAt n (length (rowOf (now lstarts) (now lindex) (k .0))) (length (now marks)) ⌝ }
-    ensures { λ below. ⌜ (below ≡ length (rowOf (now (lstarts .entry)) (now (lindex .entry)) (k .0)))
-        × (now (marks .exit) ≡ sets (now (marks .entry)) (listFrom n) (rowOf (now (lstarts .entry)) (now (lindex .entry)) (k .0))) ⌝ }
+fn lower_plain(
+    n: usize,
+    k: Place,
+    lower_starts: &[u32],
+    lower_index: &[Index],
+    marks: &mut [u32],
+) -> usize
+    requires { ⌜ ListIn (now «lower_starts») (now «lower_starts») (length (now «lower_index»)) (k .0) × LowerAt n (length (rowOf (now «lower_starts») (now «lower_index») (k .0))) (length (now marks)) ⌝ }
+    ensures { λ below. ⌜ (below ≡ length (rowOf (now («lower_starts» .entry)) (now («lower_index» .entry)) (k .0)))
+        × (now (marks .exit) ≡ sets (now (marks .entry)) (listFrom n) (rowOf (now («lower_starts» .entry)) (now («lower_index» .entry)) (k .0))) ⌝ }
 {
     let place = k.0 as usize;
-    let list = marks::list_part(lindex, lstarts, lstarts, place);
+    let list = lent::list_at(lower_starts, lower_starts, lower_index, place);
     copy_list(list, marks, scratch::LIST * n);
     list.len()
 }
@@ -221,21 +146,31 @@ fn find_lower(
     starts: &[u32],
     columns: &[Index],
     r: &[Index],
-    c: &[Index],
-    ustarts: &[u32],
-    uruns: &[u32],
-    uindex: &[Index],
+    upper_starts: &[u32],
+    upper_runs: &[u32],
+    upper_index: &[Index],
     marks: &mut [u32],
 ) -> usize
-    requires { ⌜ Findable (patternOf n (now starts) (now columns) (now r) (now c)) n (k .0) (now starts) (now columns) (now r) (now uindex) (now uruns) (now ustarts) (now marks) ⌝ }
-    ensures { λ below. ⌜ Found (patternOf n (now (starts .entry)) (now (columns .entry)) (now (r .entry)) (now (c .entry))) n (k .0) below
-        (now (uindex .entry)) (now (uruns .entry)) (now (ustarts .entry)) (now (marks .entry)) (now (marks .exit)) ⌝ }
+    requires { ⌜ ((P : Pattern) × Findable P n (k .0) (now starts) (now columns) (now r) (now «upper_starts») (now «upper_runs») (now «upper_index») (now marks)) ⌝ }
+    ensures { λ below. ⌜ ((P : Pattern)
+        → Findable P n (k .0) (now (starts .entry)) (now (columns .entry)) (now (r .entry)) (now («upper_starts» .entry)) (now («upper_runs» .entry)) (now («upper_index» .entry)) (now (marks .entry))
+        → LowerFound P n (k .0) below (now («upper_starts» .entry)) (now («upper_runs» .entry)) (now («upper_index» .entry)) (now (marks .entry)) (now (marks .exit))) ⌝ }
 {
     let stamp = k.0 + 1;
     let cuts = scratch::UPPER_CUTS * n;
-    rows::load_row_place(marks, n, stamp, k, columns, starts, r);
-    let below = rows::close_place(marks, n, stamp, k, cuts, uindex, uruns);
-    rows::renew_cuts(marks, n, stamp, k, below, cuts, uindex, uruns, ustarts);
+    marks::load_row_place(marks, n, stamp, k, columns, starts, r);
+    let below = marks::close_place(marks, n, stamp, k, cuts, upper_index, upper_runs);
+    marks::renew_cuts(
+        marks,
+        n,
+        stamp,
+        k,
+        below,
+        cuts,
+        upper_index,
+        upper_runs,
+        upper_starts,
+    );
     below
 }
 
@@ -257,22 +192,31 @@ fn lower_at(
     starts: &[u32],
     columns: &[Index],
     r: &[Index],
-    c: &[Index],
-    lstarts: &[u32],
-    lindex: &[Index],
-    ustarts: &[u32],
-    uruns: &[u32],
-    uindex: &[Index],
+    lower_starts: &[u32],
+    lower_index: &[Index],
+    upper_starts: &[u32],
+    upper_runs: &[u32],
+    upper_index: &[Index],
     marks: &mut [u32],
 ) -> usize
-    requires { ⌜ LowerAsked (readsLower form) n (k .0) (now starts) (now columns) (now r) (now c) (lists (now lstarts) (now lindex) (now ustarts) (now uruns) (now uindex)) (now marks) ⌝ }
-    ensures { λ below. ⌜ LowerGiven (readsLower form) n (k .0) below (now (starts .entry)) (now (columns .entry)) (now (r .entry)) (now (c .entry))
-        (lists (now (lstarts .entry)) (now (lindex .entry)) (now (ustarts .entry)) (now (uruns .entry)) (now (uindex .entry))) (now (marks .entry)) (now (marks .exit)) ⌝ }
+    requires { ⌜ LowerAsked (readsLower form) n (k .0) (now starts) (now columns) (now r) (lists (now «lower_starts») (now «lower_index») (now «upper_starts») (now «upper_runs») (now «upper_index»)) (now marks) ⌝ }
+    ensures { λ below. ⌜ LowerGiven (readsLower form) n (k .0) below (now (starts .entry)) (now (columns .entry)) (now (r .entry))
+        (lists (now («lower_starts» .entry)) (now («lower_index» .entry)) (now («upper_starts» .entry)) (now («upper_runs» .entry)) (now («upper_index» .entry))) (now (marks .entry)) (now (marks .exit)) ⌝ }
 {
     if reads_lower(form) {
-        return lower_plain(n, k, lstarts, lindex, marks);
+        return lower_plain(n, k, lower_starts, lower_index, marks);
     }
-    find_lower(n, k, starts, columns, r, c, ustarts, uruns, uindex, marks)
+    find_lower(
+        n,
+        k,
+        starts,
+        columns,
+        r,
+        upper_starts,
+        upper_runs,
+        upper_index,
+        marks,
+    )
 }
 
 // ---- L of row k, by form
@@ -281,42 +225,42 @@ fn lower_at(
 fn keep_plain(
     n: usize,
     k: Place,
-    lstarts: &[u32],
-    lvalues: &mut [f64],
+    lower_starts: &[u32],
+    lower_values: &mut [f64],
     work: &[f64],
     marks: &[u32],
     below: usize,
 )
-    requires { ⌜ LowerAt n below (length (now marks)) × Keepable n (k .0) below (now lstarts) (length (now lvalues)) (length (now work)) (lowerIn n below (now marks)) ⌝ }
-    ensures { λ _. ⌜ now (lvalues .exit) ≡ sets (now (lvalues .entry)) (getD (now (lstarts .entry)) (k .0) 0)
+    requires { ⌜ LowerAt n below (length (now marks)) × Keepable n (k .0) below (now «lower_starts») (length (now «lower_values»)) (length (now work)) (lowerIn n below (now marks)) ⌝ }
+    ensures { λ _. ⌜ now («lower_values» .exit) ≡ sets (now («lower_values» .entry)) (getD (now («lower_starts» .entry)) (k .0) 0)
         (gathered (lowerIn n below (now (marks .entry))) (take n (now (work .entry)))) ⌝ }
 {
     let place = k.0 as usize;
     let lower = lower_part(marks, n, below);
-    let from = marks::wide32(lstarts[place]);
-    numeric::keep_by_rows(&work[..n], lower, lvalues, from);
+    let from = base::slot(lower_starts[place]);
+    numeric::keep_by_rows(&work[..n], lower, lower_values, from);
 }
 
 // L of row k, each value in the next slot of its column. The cursors count the slots used.
 fn keep_shared(
     n: usize,
-    lstarts: &[u32],
-    lvalues: &mut [f64],
+    lower_starts: &[u32],
+    lower_values: &mut [f64],
     w: &[f64],
     marks: &mut [u32],
     below: usize,
 )
-    requires { ⌜ (length (now w) ≡ n) × Spread n below (now lstarts) (length (now lvalues)) (now marks) ⌝ }
-    ensures { λ _. ⌜ KeepGiven Shared n 0 below (now (lstarts .entry)) (now (w .entry)) (now (lvalues .entry)) (now (lvalues .exit)) (now (marks .entry)) (now (marks .exit)) ⌝ }
+    requires { ⌜ (length (now w) ≡ n) × Spread n below (now «lower_starts») (length (now «lower_values»)) (now marks) ⌝ }
+    ensures { λ _. ⌜ KeepGiven Shared n 0 below (now («lower_starts» .entry)) (now (w .entry)) (now («lower_values» .entry)) (now («lower_values» .exit)) (now (marks .entry)) (now (marks .exit)) ⌝ }
 {
     let cursors = scratch::CURSORS * n;
     let lower = scratch::LIST * n;
     let mut p = 0;
     while p < below {
-        let i = marks::wide32(marks[lower + p]);
+        let i = base::slot(marks[lower + p]);
         let used = marks[cursors + i];
-        let start = marks::wide32(lstarts[i]);
-        lvalues[start + marks::wide32(used)] = w[i];
+        let start = base::slot(lower_starts[i]);
+        lower_values[start + base::slot(used)] = w[i];
         marks[cursors + i] = used + 1;
         p += 1;
     }
@@ -327,18 +271,18 @@ fn keep_at(
     form: Form,
     n: usize,
     k: Place,
-    lstarts: &[u32],
-    lvalues: &mut [f64],
+    lower_starts: &[u32],
+    lower_values: &mut [f64],
     work: &[f64],
     marks: &mut [u32],
     below: usize,
 )
-    requires { ⌜ KeepAsked form n (k .0) below (now lstarts) (length (now lvalues)) (length (now work)) (now marks) ⌝ }
-    ensures { λ _. ⌜ KeepGiven form n (k .0) below (now (lstarts .entry)) (take n (now (work .entry))) (now (lvalues .entry)) (now (lvalues .exit)) (now (marks .entry)) (now (marks .exit)) ⌝ }
+    requires { ⌜ KeepAsked form n (k .0) below (now «lower_starts») (length (now «lower_values»)) (length (now work)) (now marks) ⌝ }
+    ensures { λ _. ⌜ KeepGiven form n (k .0) below (now («lower_starts» .entry)) (take n (now (work .entry))) (now («lower_values» .entry)) (now («lower_values» .exit)) (now (marks .entry)) (now (marks .exit)) ⌝ }
 {
     match form {
-        Form::Plain => keep_plain(n, k, lstarts, lvalues, work, marks, below),
-        Form::Shared => keep_shared(n, lstarts, lvalues, &work[..n], marks, below),
+        Form::Plain => keep_plain(n, k, lower_starts, lower_values, work, marks, below),
+        Form::Shared => keep_shared(n, lower_starts, lower_values, &work[..n], marks, below),
         Form::ByRow => {}
     }
 }
@@ -351,8 +295,8 @@ struct RowReduced {
     pivot: Pivot,
 }
 
-// Row k's lower row in the marks, and its steps over it.
-fn reduce_in(
+// Row k's lower row in the marks, and steps 1 to 3 over it. The contract holds of each column order c that fits the marks.
+fn reduce_at(
     form: Form,
     n: usize,
     k: Place,
@@ -360,25 +304,26 @@ fn reduce_in(
     columns: &[Index],
     values: &[f64],
     r: &[Index],
-    c: &[Index],
     b: &[f64],
-    lstarts: &[u32],
-    lindex: &[Index],
-    ustarts: &[u32],
-    uruns: &[u32],
-    uindex: &[Index],
-    uvalues: &mut [f64],
+    lower_starts: &[u32],
+    lower_index: &[Index],
+    upper_starts: &[u32],
+    upper_runs: &[u32],
+    upper_index: &[Index],
+    upper_values: &mut [f64],
     work: &mut [f64],
     marks: &mut [u32],
 ) -> RowReduced
-    requires { ⌜ RowReady form (inputOf n (now starts) (now columns) (now values) (now r) (now c) (now b)) (lists (now lstarts) (now lindex) (now ustarts) (now uruns) (now uindex)) (k .0) (length (now uvalues)) (length (now work)) (now marks) ⌝ }
-    ensures { λ p. ⌜ LowerGiven (readsLower form) n (k .0) (p .below) (now (starts .entry)) (now (columns .entry)) (now (r .entry)) (now (c .entry))
-        (lists (now (lstarts .entry)) (now (lindex .entry)) (now (ustarts .entry)) (now (uruns .entry)) (now (uindex .entry))) (now (marks .entry)) (now (marks .exit))
-        × ((rows : List Row)
-        → Held (system (inputOf n (now (starts .entry)) (now (columns .entry)) (now (values .entry)) (now (r .entry)) (now (c .entry)) (now (b .entry)))) rows n (k .0)
-        (now (work .entry)) (now (uindex .entry)) (now (uruns .entry)) (now (ustarts .entry)) (now (uvalues .entry))
-        → Reduced (system (inputOf n (now (starts .entry)) (now (columns .entry)) (now (values .entry)) (now (r .entry)) (now (c .entry)) (now (b .entry)))) rows n (k .0)
-        (now (ustarts .entry)) (now (work .entry)) (now (work .exit)) (now (uvalues .entry)) (now (uvalues .exit)) (p .pivot)) ⌝ }
+    requires { ⌜ ((c : List ℕ) × RowReady form (inputOf n (now starts) (now columns) (now values) (now r) c (now b)) (lists (now «lower_starts») (now «lower_index») (now «upper_starts») (now «upper_runs») (now «upper_index»)) (k .0) (length (now «upper_values»)) (length (now work)) (now marks)) ⌝ }
+    ensures { λ p. ⌜ LowerGiven (readsLower form) n (k .0) (p .below) (now (starts .entry)) (now (columns .entry)) (now (r .entry))
+        (lists (now («lower_starts» .entry)) (now («lower_index» .entry)) (now («upper_starts» .entry)) (now («upper_runs» .entry)) (now («upper_index» .entry))) (now (marks .entry)) (now (marks .exit))
+        × ((c : List ℕ) (rows : List Row)
+        → RowReady form (inputOf n (now (starts .entry)) (now (columns .entry)) (now (values .entry)) (now (r .entry)) c (now (b .entry)))
+        (lists (now («lower_starts» .entry)) (now («lower_index» .entry)) (now («upper_starts» .entry)) (now («upper_runs» .entry)) (now («upper_index» .entry))) (k .0) (length (now («upper_values» .entry))) (length (now (work .entry))) (now (marks .entry))
+        → RowsHeld (system (inputOf n (now (starts .entry)) (now (columns .entry)) (now (values .entry)) (now (r .entry)) c (now (b .entry)))) rows n (k .0)
+        (now (work .entry)) (now («upper_starts» .entry)) (now («upper_runs» .entry)) (now («upper_index» .entry)) (now («upper_values» .entry))
+        → Reduced (system (inputOf n (now (starts .entry)) (now (columns .entry)) (now (values .entry)) (now (r .entry)) c (now (b .entry)))) rows n (k .0)
+        (now («upper_starts» .entry)) (now (work .entry)) (now (work .exit)) (now («upper_values» .entry)) (now («upper_values» .exit)) (p .pivot)) ⌝ }
 {
     let below = lower_at(
         form,
@@ -387,36 +332,38 @@ fn reduce_in(
         starts,
         columns,
         r,
-        c,
-        lstarts,
-        lindex,
-        ustarts,
-        uruns,
-        uindex,
+        lower_starts,
+        lower_index,
+        upper_starts,
+        upper_runs,
+        upper_index,
         marks,
     );
-    let pivot = reduce_at(
-        n,
-        k,
-        starts,
-        columns,
-        values,
-        r,
-        c,
-        b,
-        ustarts,
-        uruns,
-        uindex,
-        uvalues,
+    let place = k.0 as usize;
+    let lower = lower_part(marks, n, below);
+    let row = lent::own_row(r, k);
+    let own = lent::row_columns(starts, columns, row);
+    let entries = lent::row_values(starts, values, row);
+    let right = lent::row_right(b, row);
+    let pivot = numeric::reduce_row(
         work,
+        n,
+        place,
         marks,
-        below,
+        own,
+        entries,
+        right,
+        lower,
+        upper_starts,
+        upper_runs,
+        upper_index,
+        upper_values,
     );
     RowReduced { below, pivot }
 }
 
 // Row k, and what is kept of it.
-fn do_row(
+fn eliminate_row(
     form: Form,
     n: usize,
     k: Place,
@@ -424,24 +371,24 @@ fn do_row(
     columns: &[Index],
     values: &[f64],
     r: &[Index],
-    c: &[Index],
     b: &[f64],
-    lstarts: &[u32],
-    lindex: &[Index],
-    lvalues: &mut [f64],
-    ustarts: &[u32],
-    uruns: &[u32],
-    uindex: &[Index],
-    uvalues: &mut [f64],
+    lower_starts: &[u32],
+    lower_index: &[Index],
+    lower_values: &mut [f64],
+    upper_starts: &[u32],
+    upper_runs: &[u32],
+    upper_index: &[Index],
+    upper_values: &mut [f64],
     d: &mut [f64],
     work: &mut [f64],
     marks: &mut [u32],
 ) -> Factored
-    requires { ⌜ (k .0 < n) × Going form (inputOf n (now starts) (now columns) (now values) (now r) (now c) (now b)) (lists (now lstarts) (now lindex) (now ustarts) (now uruns) (now uindex)) (k .0) (written (now lvalues) (now uvalues) (now d) (now work) (now marks)) ⌝ }
-    ensures { λ a. ⌜ CameTo form (inputOf n (now (starts .entry)) (now (columns .entry)) (now (values .entry)) (now (r .entry)) (now (c .entry)) (now (b .entry)))
-        (lists (now (lstarts .entry)) (now (lindex .entry)) (now (ustarts .entry)) (now (uruns .entry)) (now (uindex .entry))) (k .0 + 1) a (written (now (lvalues .exit)) (now (uvalues .exit)) (now (d .exit)) (now (work .exit)) (now (marks .exit))) ⌝ }
+    requires { ⌜ (k .0 < n) × ((c : List ℕ) × Going form (inputOf n (now starts) (now columns) (now values) (now r) c (now b)) (lists (now «lower_starts») (now «lower_index») (now «upper_starts») (now «upper_runs») (now «upper_index»)) (k .0) (written (now «lower_values») (now «upper_values») (now d) (now work) (now marks))) ⌝ }
+    ensures { λ a. ⌜ ((c : List ℕ)
+        → Going form (inputOf n (now (starts .entry)) (now (columns .entry)) (now (values .entry)) (now (r .entry)) c (now (b .entry))) (lists (now («lower_starts» .entry)) (now («lower_index» .entry)) (now («upper_starts» .entry)) (now («upper_runs» .entry)) (now («upper_index» .entry))) (k .0) (written (now («lower_values» .entry)) (now («upper_values» .entry)) (now (d .entry)) (now (work .entry)) (now (marks .entry)))
+        → CameTo form (inputOf n (now (starts .entry)) (now (columns .entry)) (now (values .entry)) (now (r .entry)) c (now (b .entry))) (lists (now («lower_starts» .entry)) (now («lower_index» .entry)) (now («upper_starts» .entry)) (now («upper_runs» .entry)) (now («upper_index» .entry))) (k .0 + 1) a (written (now («lower_values» .exit)) (now («upper_values» .exit)) (now (d .exit)) (now (work .exit)) (now (marks .exit)))) ⌝ }
 {
-    let row = reduce_in(
+    let row = reduce_at(
         form,
         n,
         k,
@@ -449,14 +396,13 @@ fn do_row(
         columns,
         values,
         r,
-        c,
         b,
-        lstarts,
-        lindex,
-        ustarts,
-        uruns,
-        uindex,
-        uvalues,
+        lower_starts,
+        lower_index,
+        upper_starts,
+        upper_runs,
+        upper_index,
+        upper_values,
         work,
         marks,
     );
@@ -464,8 +410,19 @@ fn do_row(
     let p = row.pivot;
     match p {
         Pivot::Kept(t) => {
-            keep_at(form, n, k, lstarts, lvalues, work, marks, below);
-            close_at(n, k, uindex, uruns, ustarts, d, work, marks, below, t);
+            keep_at(form, n, k, lower_starts, lower_values, work, marks, below);
+            close_at(
+                n,
+                k,
+                upper_starts,
+                upper_runs,
+                upper_index,
+                d,
+                work,
+                marks,
+                below,
+                t,
+            );
             Factored::Solved
         }
         Pivot::Zero => Factored::Zero(k),
@@ -474,33 +431,33 @@ fn do_row(
 }
 
 // The rows, up to the first fault.
-fn do_rows(
+fn eliminate_rows(
     form: Form,
     n: usize,
     starts: &[u32],
     columns: &[Index],
     values: &[f64],
     r: &[Index],
-    c: &[Index],
     b: &[f64],
-    lstarts: &[u32],
-    lindex: &[Index],
-    lvalues: &mut [f64],
-    ustarts: &[u32],
-    uruns: &[u32],
-    uindex: &[Index],
-    uvalues: &mut [f64],
+    lower_starts: &[u32],
+    lower_index: &[Index],
+    lower_values: &mut [f64],
+    upper_starts: &[u32],
+    upper_runs: &[u32],
+    upper_index: &[Index],
+    upper_values: &mut [f64],
     d: &mut [f64],
     work: &mut [f64],
     marks: &mut [u32],
 ) -> Factored
-    requires { ⌜ Going form (inputOf n (now starts) (now columns) (now values) (now r) (now c) (now b)) (lists (now lstarts) (now lindex) (now ustarts) (now uruns) (now uindex)) 0 (written (now lvalues) (now uvalues) (now d) (now work) (now marks)) ⌝ }
-    ensures { λ a. ⌜ CameTo form (inputOf n (now (starts .entry)) (now (columns .entry)) (now (values .entry)) (now (r .entry)) (now (c .entry)) (now (b .entry)))
-        (lists (now (lstarts .entry)) (now (lindex .entry)) (now (ustarts .entry)) (now (uruns .entry)) (now (uindex .entry))) n a (written (now (lvalues .exit)) (now (uvalues .exit)) (now (d .exit)) (now (work .exit)) (now (marks .exit))) ⌝ }
+    requires { ⌜ ((c : List ℕ) × Going form (inputOf n (now starts) (now columns) (now values) (now r) c (now b)) (lists (now «lower_starts») (now «lower_index») (now «upper_starts») (now «upper_runs») (now «upper_index»)) 0 (written (now «lower_values») (now «upper_values») (now d) (now work) (now marks))) ⌝ }
+    ensures { λ a. ⌜ ((c : List ℕ)
+        → Going form (inputOf n (now (starts .entry)) (now (columns .entry)) (now (values .entry)) (now (r .entry)) c (now (b .entry))) (lists (now («lower_starts» .entry)) (now («lower_index» .entry)) (now («upper_starts» .entry)) (now («upper_runs» .entry)) (now («upper_index» .entry))) 0 (written (now («lower_values» .entry)) (now («upper_values» .entry)) (now (d .entry)) (now (work .entry)) (now (marks .entry)))
+        → CameTo form (inputOf n (now (starts .entry)) (now (columns .entry)) (now (values .entry)) (now (r .entry)) c (now (b .entry))) (lists (now («lower_starts» .entry)) (now («lower_index» .entry)) (now («upper_starts» .entry)) (now («upper_runs» .entry)) (now («upper_index» .entry))) n a (written (now («lower_values» .exit)) (now («upper_values» .exit)) (now (d .exit)) (now (work .exit)) (now (marks .exit)))) ⌝ }
 {
     let mut k = 0;
     while k < n {
-        let a = do_row(
+        let a = eliminate_row(
             form,
             n,
             Place(k as u32),
@@ -508,15 +465,14 @@ fn do_rows(
             columns,
             values,
             r,
-            c,
             b,
-            lstarts,
-            lindex,
-            lvalues,
-            ustarts,
-            uruns,
-            uindex,
-            uvalues,
+            lower_starts,
+            lower_index,
+            lower_values,
+            upper_starts,
+            upper_runs,
+            upper_index,
+            upper_values,
             d,
             work,
             marks,
@@ -530,27 +486,28 @@ fn do_rows(
 }
 
 // Zeros where rows will stand and in scratch, and the inverse order.
-fn begin(
+fn clear_for_rows(
     n: usize,
     c: &[Index],
-    lvalues: &mut [f64],
-    uvalues: &mut [f64],
+    lower_values: &mut [f64],
+    upper_values: &mut [f64],
     work: &mut [f64],
     marks: &mut [u32],
 )
     requires { ⌜ InverseLent n (now c) (length (now marks) - n) ⌝ }
-    ensures { λ _. ⌜ (now (lvalues .exit) ≡ blank nought (now (lvalues .entry))) × (now (uvalues .exit) ≡ blank nought (now (uvalues .entry)))
+    ensures { λ _. ⌜ (now («lower_values» .exit) ≡ blank nought (now («lower_values» .entry))) × (now («upper_values» .exit) ≡ blank nought (now («upper_values» .entry)))
         × (now (work .exit) ≡ blank nought (now (work .entry))) × (now (marks .exit) ≡ invertedAt (now (c .entry)) n (blank 0 (now (marks .entry)))) ⌝ }
 {
-    base::clear_f64(lvalues);
-    base::clear_f64(uvalues);
+    base::clear_f64(lower_values);
+    base::clear_f64(upper_values);
     base::clear_f64(work);
     base::clear_u32(marks);
     questions::invert_at(n, c, marks);
 }
 
-// The factors and z in a form.
-fn factor_in(
+// The factors and z in a form, which passes [] for what it lacks, and its list starts as run starts where it has none. Another call clears
+// scratch, and after a fault all that this writes.
+pub fn factor(
     form: Form,
     n: usize,
     starts: &[u32],
@@ -559,38 +516,37 @@ fn factor_in(
     r: &[Index],
     c: &[Index],
     b: &[f64],
-    lstarts: &[u32],
-    lindex: &[Index],
-    lvalues: &mut [f64],
-    ustarts: &[u32],
-    uruns: &[u32],
-    uindex: &[Index],
-    uvalues: &mut [f64],
+    lower_starts: &[u32],
+    lower_index: &[Index],
+    lower_values: &mut [f64],
+    upper_starts: &[u32],
+    upper_runs: &[u32],
+    upper_index: &[Index],
+    upper_values: &mut [f64],
     d: &mut [f64],
     work: &mut [f64],
     marks: &mut [u32],
 ) -> Factored
-    requires { ⌜ Factorable form (inputOf n (now starts) (now columns) (now values) (now r) (now c) (now b)) (lists (now lstarts) (now lindex) (now ustarts) (now uruns) (now uindex)) (written (now lvalues) (now uvalues) (now d) (now work) (now marks)) ⌝ }
+    requires { ⌜ Factorable form (inputOf n (now starts) (now columns) (now values) (now r) (now c) (now b)) (lists (now «lower_starts») (now «lower_index») (now «upper_starts») (now «upper_runs») (now «upper_index»)) (written (now «lower_values») (now «upper_values») (now d) (now work) (now marks)) ⌝ }
     ensures { λ a. ⌜ FactoredAs form (inputOf n (now (starts .entry)) (now (columns .entry)) (now (values .entry)) (now (r .entry)) (now (c .entry)) (now (b .entry))) a
-        (now (lvalues .exit)) (now (uvalues .exit)) (now (d .exit)) (drop (zFrom n) (now (work .exit))) ⌝ }
+        (now («lower_values» .exit)) (now («upper_values» .exit)) (now (d .exit)) (drop (zFrom n) (now (work .exit))) ⌝ }
 {
-    begin(n, c, lvalues, uvalues, work, marks);
-    let a = do_rows(
+    clear_for_rows(n, c, lower_values, upper_values, work, marks);
+    let a = eliminate_rows(
         form,
         n,
         starts,
         columns,
         values,
         r,
-        c,
         b,
-        lstarts,
-        lindex,
-        lvalues,
-        ustarts,
-        uruns,
-        uindex,
-        uvalues,
+        lower_starts,
+        lower_index,
+        lower_values,
+        upper_starts,
+        upper_runs,
+        upper_index,
+        upper_values,
         d,
         work,
         marks,
@@ -598,142 +554,5 @@ fn factor_in(
     if met_fault(a) {
         return a;
     }
-    solve_back(n, ustarts, uruns, uindex, uvalues, work)
-}
-
-// ---- the three forms. Another call clears scratch, and after a fault all that these write.
-
-pub fn factor_plain(
-    n: usize,
-    starts: &[u32],
-    columns: &[Index],
-    values: &[f64],
-    r: &[Index],
-    c: &[Index],
-    b: &[f64],
-    lstarts: &[u32],
-    lindex: &[Index],
-    lvalues: &mut [f64],
-    ustarts: &[u32],
-    uindex: &[Index],
-    uvalues: &mut [f64],
-    d: &mut [f64],
-    work: &mut [f64],
-    marks: &mut [u32],
-) -> Factored
-    requires { ⌜ Factorable Plain (inputOf n (now starts) (now columns) (now values) (now r) (now c) (now b)) (lists (now lstarts) (now lindex) (now ustarts) (now ustarts) (now uindex))
-        (written (now lvalues) (now uvalues) (now d) (now work) (now marks)) ⌝ }
-    ensures { λ a. ⌜ FactoredAs Plain (inputOf n (now (starts .entry)) (now (columns .entry)) (now (values .entry)) (now (r .entry)) (now (c .entry)) (now (b .entry))) a
-        (now (lvalues .exit)) (now (uvalues .exit)) (now (d .exit)) (drop (zFrom n) (now (work .exit))) ⌝ }
-{
-    factor_in(
-        Form::Plain,
-        n,
-        starts,
-        columns,
-        values,
-        r,
-        c,
-        b,
-        lstarts,
-        lindex,
-        lvalues,
-        ustarts,
-        ustarts,
-        uindex,
-        uvalues,
-        d,
-        work,
-        marks,
-    )
-}
-
-pub fn factor_shared(
-    n: usize,
-    starts: &[u32],
-    columns: &[Index],
-    values: &[f64],
-    r: &[Index],
-    c: &[Index],
-    b: &[f64],
-    lstarts: &[u32],
-    lvalues: &mut [f64],
-    ustarts: &[u32],
-    uruns: &[u32],
-    uindex: &[Index],
-    uvalues: &mut [f64],
-    d: &mut [f64],
-    work: &mut [f64],
-    marks: &mut [u32],
-) -> Factored
-    requires { ⌜ Factorable Shared (inputOf n (now starts) (now columns) (now values) (now r) (now c) (now b)) (lists (now lstarts) [] (now ustarts) (now uruns) (now uindex))
-        (written (now lvalues) (now uvalues) (now d) (now work) (now marks)) ⌝ }
-    ensures { λ a. ⌜ FactoredAs Shared (inputOf n (now (starts .entry)) (now (columns .entry)) (now (values .entry)) (now (r .entry)) (now (c .entry)) (now (b .entry))) a
-        (now (lvalues .exit)) (now (uvalues .exit)) (now (d .exit)) (drop (zFrom n) (now (work .exit))) ⌝ }
-{
-    factor_in(
-        Form::Shared,
-        n,
-        starts,
-        columns,
-        values,
-        r,
-        c,
-        b,
-        lstarts,
-        &columns[..0],
-        lvalues,
-        ustarts,
-        uruns,
-        uindex,
-        uvalues,
-        d,
-        work,
-        marks,
-    )
-}
-
-pub fn factor_row(
-    n: usize,
-    starts: &[u32],
-    columns: &[Index],
-    values: &[f64],
-    r: &[Index],
-    c: &[Index],
-    b: &[f64],
-    ustarts: &[u32],
-    uruns: &[u32],
-    uindex: &[Index],
-    uvalues: &mut [f64],
-    d: &mut [f64],
-    work: &mut [f64],
-    marks: &mut [u32],
-) -> Factored
-    requires { ⌜ Factorable ByRow (inputOf n (now starts) (now columns) (now values) (now r) (now c) (now b)) (lists [] [] (now ustarts) (now uruns) (now uindex))
-        (written [] (now uvalues) (now d) (now work) (now marks)) ⌝ }
-    ensures { λ a. ⌜ FactoredAs ByRow (inputOf n (now (starts .entry)) (now (columns .entry)) (now (values .entry)) (now (r .entry)) (now (c .entry)) (now (b .entry))) a
-        [] (now (uvalues .exit)) (now (d .exit)) (drop (zFrom n) (now (work .exit))) ⌝ }
-{
-    // The row form keeps no L.
-    let mut none = [0.0; 1];
-    factor_in(
-        Form::ByRow,
-        n,
-        starts,
-        columns,
-        values,
-        r,
-        c,
-        b,
-        &starts[..0],
-        &columns[..0],
-        &mut none[..0],
-        ustarts,
-        uruns,
-        uindex,
-        uvalues,
-        d,
-        work,
-        marks,
-    )
+    solve_back(n, upper_starts, upper_runs, upper_index, upper_values, work)
 }

@@ -41,9 +41,9 @@ use Rattle.outcome.specs.Placed.{RunsAre, PlacedSide, lists-kept, starts-long, 
 use Rattle.outcome.specs.Resolve.{runsOf}
 use Rattle.outcome.proofs.Asking.{then-pass, holds-pass, number-some}
 use Rattle.outcome.proofs.Places.{places-pass}
-use Rattle.lookup.specs.Lookup.{listsOf, sized, bothFit, spanOf, within, spanIn, lookup}
+use Rattle.lookup.specs.Lookup.{runStarts, sized, bothFit, spanOf, within, spanIn, lookup}
 use Rattle.lookup.specs.LookupLaws.{part-is}
-use Rattle.lists.specs.Handed.{leaves, extraOf, handed, Handed, HandedPlain, HandedShared}
+use Rattle.lists.specs.Handed.{leaves, presented, handed, Handed, HandedPlain, HandedShared}
 
 -- ---- a side as a success leaves it is found list by list
 
@@ -52,33 +52,28 @@ record Standing (f : Form) (side : Side) (P : Pattern) (n : ℕ) (b : SideBuffer
   placed : PlacedSide f side P n (b .starts) (runsOf f b) (b .index) (valueNeed f side P n n)
   few : length (b .index) ≤ maxSlots
 
-runs-long : (f : Form) → leaves f ≡ true → (side : Side) (P : Pattern) (n : ℕ) (b : SideBuffers) → Standing f side P n b → length (runsOf f b) ≡ n + extraOf f
+runs-long : (f : Form) → leaves f ≡ true → (side : Side) (P : Pattern) (n : ℕ) (b : SideBuffers) → Standing f side P n b → length (runsOf f b) ≡ runStarts f n
 runs-long Plain v side P n b h = starts-long Plain side P n (b .starts) (b .starts) (b .index) (valueNeed Plain side P n n) (h .placed)
 runs-long Shared v side P n b h = ap length (h .placed .runs-are) ∙ lists-kept Shared side P n n (omega arith) .count ∙ omega arith
 runs-long ByRow v side P n b h = absurd (false≢true v)
 
-all-three : (a b c : Bool) → a ≡ true → b ≡ true → c ≡ true → (a && b && c) ≡ true
-all-three a b c e f g = rw (e, f, g)
+all-sized : (a b c d : Bool) → a ≡ true → b ≡ true → c ≡ true → d ≡ true → (a && (b && c && d)) ≡ true
+all-sized a b c d e f g h = rw (e, f, g, h)
 
-side-sized : (f : Form) → leaves f ≡ true → (side : Side) (P : Pattern) (n : ℕ) (b : SideBuffers) → Standing f side P n b
-    → sized n (extraOf f) (length (b .starts)) (length (runsOf f b)) (length (b .index)) ≡ true
+side-sized : (f : Form) → leaves f ≡ true → (side : Side) (P : Pattern) (n : ℕ) (b : SideBuffers) → rowsWithin n ≡ true → Standing f side P n b → sized f n (presented f b) ≡ true
 unfolding sized
-side-sized f v side P n b h =
-    all-three _ _ _ (eq-eqb _ _ (starts-long f side P n (b .starts) (runsOf f b) (b .index) (valueNeed f side P n n) (h .placed)))
+side-sized f v side P n b few h =
+    all-sized _ _ _ _ few (eq-eqb _ _ (starts-long f side P n (b .starts) (runsOf f b) (b .index) (valueNeed f side P n n) (h .placed)))
     (eq-eqb _ _ (runs-long f v side P n b h)) (le-leb _ _ (h .few))
-
-both-fit : (n extra ls lr li us ur ui : ℕ) → rowsWithin n ≡ true → sized n extra ls lr li ≡ true → sized n extra us ur ui ≡ true → bothFit n extra ls lr li us ur ui ≡ true
-unfolding bothFit
-both-fit n extra ls lr li us ur ui a b c = rw (a, b, c)
 
 module _ (f : Form) (v : leaves f ≡ true) (P : Pattern) (n : ℕ) (t : Buffers) (few : rowsWithin n ≡ true)
     (l : Standing f Lower P n (t .lower)) (u : Standing f Upper P n (t .upper)) where
-  fit : bothFit n (extraOf f) (length (t .lower .starts)) (length (runsOf f (t .lower))) (length (t .lower .index))
-      (length (t .upper .starts)) (length (runsOf f (t .upper))) (length (t .upper .index)) ≡ true
-  fit = both-fit n (extraOf f) _ _ _ _ _ _ few (side-sized f v Lower P n (t .lower) l) (side-sized f v Upper P n (t .upper) u)
+  fit : bothFit f n (presented f (t .lower)) (presented f (t .upper)) ≡ true
+  unfolding bothFit
+  fit = rw (side-sized f v Lower P n (t .lower) few l, side-sized f v Upper P n (t .upper) few u)
 
   part : (side : Side) (b : SideBuffers) → Standing f side P n b → (k : ℕ) → k < n
-      → within (b .index) (spanOf true (spot k) n (b .starts) (runsOf f b) (length (b .index))) ≡ forms.listsOf f side P n k
+      → within (b .index) (spanOf true (spot k) n (presented f b)) ≡ forms.listsOf f side P n k
   part side b h k m =
       part-is (spot k) n (b .starts) (runsOf f b) (b .index) m
       (omega (arith, size-at f side P n (b .starts) (runsOf f b) (b .index) (valueNeed f side P n n) (h .placed) k m))

@@ -17,12 +17,12 @@ use Rattle.fill.specs.Fill.{reach, filled, upper, upperRow, lowerRow, lowerColu
 use Rattle.matrix.specs.Input.{Input, inputOf, isOf, ic, stored, entries, rightAt}
 use Rattle.matrix.specs.Questions.{badStart, badColumn, badIndex, notFinite, noEntry, emptyRow, seenAt, repeats, repeatRow, ask3, ask4, ask5, askFinite, ask6, ask7, ask8, askPattern, askRows, askStructure, askSolve}
 use Rattle.placement.specs.Placing.{countAbove, tails, bestFrom, firstAt, agree, appendAll, fresh, meets, overlap, tailOr, shared, plain, after, placed, startOf}
-use Rattle.arithmetic.specs.Arith.{load, start, subtract, stepAt, steps, scaled, finish, row, forward, rest, back, solved}
+use Rattle.arithmetic.specs.Arith.{judged, loadRun, step1, subtractRun, stepRun, step2, scaledRun, step3, rowRun, forwardRun, restRun, backRun, wholeRun}
 use Rattle.outcome.specs.Forms.{placedTo, indexNeed, valueNeed}
 use Rattle.outcome.specs.Buffers.{Buffers, plainBuffers, sharedBuffers, askShape, ended}
 use Rattle.outcome.specs.Structure.{fits, askPlace, askPlaces, counts, sidePlaced, structured, structure}
 use Rattle.outcome.specs.Solve.{system, listed, shape, solve}
-use Rattle.lookup.specs.Lookup.{listsOf, lookup}
+use Rattle.lookup.specs.Lookup.{sideLists, lookup}
 use Rattle.lists.specs.Handed.{handed, Handed, HandedShared}
 use Rattle.lists.proofs.Handed.{structure-shared, solve-handed}
 
@@ -49,7 +49,7 @@ pub arrow-lists : HandedShared arrow (0 ∷ 2 ∷ 3 ∷ 3 ∷ []) (0 ∷ 1 ∷ 2
 arrow-lists = structure-shared arrow lent _ _ _ _ _ _ _ _ _ _ _ _ _ arrow-done
 
 -- T(1) is the tail of T(0)
-pub arrow-one : lookup Upper (spot 1) 3 0 (listsOf (0 ∷ 2 ∷ 3 ∷ 3 ∷ []) (0 ∷ 1 ∷ 2 ∷ []) (1 ∷ 2 ∷ [])) (listsOf (0 ∷ 2 ∷ 3 ∷ 3 ∷ []) (0 ∷ 1 ∷ 2 ∷ []) (1 ∷ 2 ∷ [])) ≡ 2 ∷ []
+pub arrow-one : lookup Shared Upper (spot 1) 3 (sideLists (0 ∷ 2 ∷ 3 ∷ 3 ∷ []) (0 ∷ 1 ∷ 2 ∷ []) (1 ∷ 2 ∷ [])) (sideLists (0 ∷ 2 ∷ 3 ∷ 3 ∷ []) (0 ∷ 1 ∷ 2 ∷ []) (1 ∷ 2 ∷ [])) ≡ 2 ∷ []
 unfolding arrow upperRow asc upper filled reach stored has listAt
 arrow-one = arrow-lists .upper 1 (omega arith) ∙ refl
 
@@ -68,7 +68,7 @@ given =
     plainBuffers (replicate 3 77) (replicate 1 79) (replicate 1 nan) (replicate 3 77) (replicate 1 79) (replicate 1 nan) (replicate 2 nan) (replicate 2 nan) (replicate 6 nan) (replicate 24 80)
 
 two-answer : solve Plain two given .answer ≡ Done (counted 1 1 1)
-unfolding floats two given solve shape askShape askSolve askPattern askRows ask3 ask4 ask5 ask6 ask7 ask8 askFinite first badStart badColumn badIndex isOf notFinite emptyRow noEntry repeatRow repeats seenAt listAt pairs askPlaces askPlace filled reach stored has fits indexNeed valueNeed placedTo placed after plain appendAll startOf upperRow lowerRow asc upper listed system entries rightAt ic solved load start subtract stepAt steps scaled finish row forward rest back counts sum count lowerColumn products table ofBits sub mul div eq
+unfolding floats two given solve shape askShape askSolve askPattern askRows ask3 ask4 ask5 ask6 ask7 ask8 askFinite first badStart badColumn badIndex isOf notFinite emptyRow noEntry repeatRow repeats seenAt listAt pairs askPlaces askPlace filled reach stored has fits indexNeed valueNeed placedTo placed after plain appendAll startOf upperRow lowerRow asc upper listed system entries rightAt ic judged wholeRun loadRun step1 subtractRun stepRun step2 scaledRun step3 rowRun forwardRun restRun backRun counts sum count lowerColumn products table ofBits sub mul div eq
 two-answer = refl
 
 pub two-done : solve Plain two given ≡ ended (Done (counted 1 1 1)) (solve Plain two given .buffers)

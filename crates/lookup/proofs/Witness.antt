@@ -4,18 +4,19 @@ use mathlib.Core.Bool.{true}
 use mathlib.Core.List.{[], _∷_}
 use native.Mathlib.Omega.{arith}
 use Rattle.base.specs.Answers.{spot}
+use Rattle.base.specs.declared.Form.the-variants.{Shared}
 use Rattle.base.specs.declared.Side.the-variants.{Lower, Upper}
-use Rattle.lookup.specs.Lookup.{SideLent, listsOf, sized, bothFit, runSpan, spanOf, spanIn, within, lookup}
+use Rattle.lookup.specs.Lookup.{SideLent, sideLists, sized, bothFit, runSpan, spanOf, spanIn, within, lookup}
 
 pub lent : SideLent true 1 (0 ∷ 1 ∷ []) (0 ∷ [])
 lent = record { lists = λ h. refl; places = λ h. omega arith }
 
 -- two places: T(0) is one entry, and the list of place 1 is empty
-pub found : lookup Upper (spot 0) 2 0 (listsOf (0 ∷ 0 ∷ 0 ∷ []) (0 ∷ 0 ∷ []) []) (listsOf (0 ∷ 1 ∷ 1 ∷ []) (0 ∷ 1 ∷ []) (1 ∷ 0 ∷ [])) ≡ 1 ∷ []
+pub found : lookup Shared Upper (spot 0) 2 (sideLists (0 ∷ 0 ∷ 0 ∷ []) (0 ∷ 0 ∷ []) []) (sideLists (0 ∷ 1 ∷ 1 ∷ []) (0 ∷ 1 ∷ []) (1 ∷ 0 ∷ [])) ≡ 1 ∷ []
 unfolding lookup spanIn within spanOf runSpan bothFit sized
 found = refl
 
 -- a run that leaves its store
-pub outside : lookup Upper (spot 0) 2 0 (listsOf (0 ∷ 0 ∷ 0 ∷ []) (0 ∷ 0 ∷ []) []) (listsOf (0 ∷ 1 ∷ 1 ∷ []) (2 ∷ 1 ∷ []) (1 ∷ 0 ∷ [])) ≡ []
+pub outside : lookup Shared Upper (spot 0) 2 (sideLists (0 ∷ 0 ∷ 0 ∷ []) (0 ∷ 0 ∷ []) []) (sideLists (0 ∷ 1 ∷ 1 ∷ []) (2 ∷ 1 ∷ []) (1 ∷ 0 ∷ [])) ≡ []
 unfolding lookup spanIn within spanOf runSpan bothFit sized
 outside = refl

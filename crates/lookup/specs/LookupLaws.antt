@@ -1,21 +1,24 @@
 -- Laws of the lookup: its spans stand within their stores, and a well shaped list is found as it is stored.
-use mathlib.Core.Path.{_≡_, refl, sym, subst, _∙_}
+use mathlib.Core.Path.{_≡_, refl, sym, _∙_}
 use mathlib.Core.Bool.{Bool, true, false, cond, _&&_}
 use mathlib.Core.List.{List}
 use Prim.Native.Nat.{ℕ, _+_, _-_, _≤_, _<_}
 use native.Mathlib.Omega.{arith}
 use native.Mathlib.Nat.{add-sub-cancel-left}
-use lib.ListN.{length, getD, take, drop}
+use lib.ListN.{length, getD}
 use lib.Dec.{leb, ltb, eqb}
+use denote.Ref.{RefT, now}
 use borrow.Author.Tests.{le-leb, lt-leb, lt-ltb, le-ltb, leb-true, eqb-true}
 use Rattle.base.specs.Tests.{and-cases, and-right}
 use Rattle.base.specs.Lists.{listAt}
+use Rattle.base.specs.declared.Form.{Form}
+use Rattle.base.specs.declared.Form.the-variants.{Plain, Shared, ByRow}
 use Rattle.base.specs.declared.Place.{Place}
 use Rattle.base.specs.declared.Side.{Side}
 use Rattle.base.specs.declared.Side.the-variants.{Lower, Upper}
 use Rattle.base.specs.Limits.{rowsWithin, maxRows, maxSlots}
 use Rattle.lookup.specs.declared.Span.{Span}
-use Rattle.lookup.specs.Lookup.{SideLent, Lists, listsOf, sized, bothFit, spanFrom, runSpan, spanOf, ofSide, spanIn, Inside, within, lookup}
+use Rattle.lookup.specs.Lookup.{SideLent, SideLists, sideLists, ofSide, runStarts, sized, bothFit, spanFrom, runSpan, spanOf, spanIn, Inside, PartOf, within, lookup}
 
 -- ---- a span is within its store
 
@@ -33,10 +36,10 @@ run-inside a b run slots =
     (λ e. record { up = omega arith; end = leb-true (run + (b - a)) slots (and-cases (leb a b) (leb (run + (b - a)) slots) e .1) })
     (none slots)
 
-pub span-inside : (fit : Bool) (k : Place) (n : ℕ) (s runs : List ℕ) (slots : ℕ) (o : Span) → o ≡ spanOf fit k n s runs slots → Inside o slots
+span-inside : (fit : Bool) (k : Place) (n : ℕ) (l : SideLists) → Inside (spanOf fit k n l) (length (l .index))
 unfolding spanOf
-span-inside fit k n s runs slots o e =
-    rw e (choose (fit && ltb (k .0) n) _ _ slots (λ q. run-inside (getD s (k .0) 0) (getD s (k .0 + 1) 0) (getD runs (k .0) 0) slots) (none slots))
+span-inside fit k n l =
+    choose (fit && ltb (k .0) n) _ _ _ (λ q. run-inside (getD (l .starts) (k .0) 0) (getD (l .starts) (k .0 + 1) 0) (getD (l .runs) (k .0) 0) (length (l .index))) (none _)
 
 -- ---- the turns of the code
 
@@ -53,91 +56,89 @@ module _ (a b run slots : ℕ) where
   unfolding runSpan
   run-falls h = rw (lt-leb a b h)
 
-module _ (fit : Bool) (k : Place) (n : ℕ) (s runs : List ℕ) (slots : ℕ) where
-  pub span-taken : (a b run : ℕ) (o : Span) → fit ≡ true → k .0 < n → a ≡ getD s (k .0) 0 → b ≡ getD s (k .0 + 1) 0 → run ≡ getD runs (k .0) 0
-      → o ≡ runSpan a b run slots → o ≡ spanOf fit k n s runs slots
+module _ (fit : Bool) (k : Place) (n : ℕ) (s runs index : List ℕ) where
+  pub span-taken : (at a b run : ℕ) (o : Span) → at ≡ k .0 → fit ≡ true → at < n → a ≡ getD s at 0 → b ≡ getD s (at + 1) 0 → run ≡ getD runs at 0
+      → o ≡ runSpan a b run (length index) → o ≡ spanOf fit k n (sideLists s runs index)
   unfolding spanOf
-  span-taken a b run o f l ea eb er e = rw (f, lt-ltb (k .0) n l, ← ea, ← eb, ← er) e
+  span-taken at a b run o q f l ea eb er e = rw (← q, f, lt-ltb at n l, ← ea, ← eb, ← er) e
 
-  pub span-high : n ≤ k .0 → spanFrom 0 0 ≡ spanOf fit k n s runs slots
+  pub span-high : (at : ℕ) → at ≡ k .0 → n ≤ at → spanFrom 0 0 ≡ spanOf fit k n (sideLists s runs index)
   unfolding spanOf
-  span-high l = rw (and-right fit (ltb (k .0) n) (le-ltb (k .0) n l))
+  span-high at q l = rw (← q, and-right fit (ltb at n) (le-ltb at n l))
 
-  pub span-unfit : fit ≡ false → spanFrom 0 0 ≡ spanOf fit k n s runs slots
+  pub span-unfit : fit ≡ false → spanFrom 0 0 ≡ spanOf fit k n (sideLists s runs index)
   unfolding spanOf
   span-unfit f = rw f
 
 -- the side that is named
-module _ (side : Side) (k : Place) (n extra : ℕ) (l u : Lists) where
-  pub lower-span : (fit : Bool) (o : Span) → side ≡ Lower → fit ≡ bothFit n extra (length (l .starts)) (length (l .runs)) (length (l .index)) (length (u .starts)) (length (u .runs)) (length (u .index))
-      → o ≡ spanOf fit k n (l .starts) (l .runs) (length (l .index)) → o ≡ spanIn side k n extra l u
+module _ (f : Form) (side : Side) (k : Place) (n : ℕ) (l u : SideLists) where
+  pub span-named : (named : Side) (a b : Bool) (o : Span) → side ≡ named → a ≡ sized f n l → b ≡ sized f n u → o ≡ spanOf (a && b) k n (ofSide named l u) → o ≡ spanIn f side k n l u
+  unfolding spanIn bothFit
+  span-named named a b o e ea eb h = rw (e, ← ea, ← eb) h
+
+  pub span-in : (o : Span) → o ≡ spanIn f side k n l u → Inside o (length (ofSide side l u .index))
   unfolding spanIn
-  lower-span fit o e f h = rw (e, ← f) h
+  span-in o g = rw g (span-inside _ k n (ofSide side l u))
 
-  pub upper-span : (fit : Bool) (o : Span) → side ≡ Upper → fit ≡ bothFit n extra (length (l .starts)) (length (l .runs)) (length (l .index)) (length (u .starts)) (length (u .runs)) (length (u .index))
-      → o ≡ spanOf fit k n (u .starts) (u .runs) (length (u .index)) → o ≡ spanIn side k n extra l u
-  unfolding spanIn
-  upper-span fit o e f h = rw (e, ← f) h
+-- the part that is handed back: where its span lies, and what it holds
+module _ (f : Form) (k : Place) (n : ℕ) (ls lr us ur : List ℕ) (lower upper : RefT (List ℕ)) (o : Span) where
+  pub part-fits : (side : Side) → o ≡ spanIn f side k n (sideLists ls lr (now lower)) (sideLists us ur (now upper)) → Inside o (length (now (ofSide side lower upper)))
+  part-fits Lower g = span-in f Lower k n _ _ o g
+  part-fits Upper g = span-in f Upper k n _ _ o g
 
-  module _ (o : Span) (g : o ≡ spanIn side k n extra l u) where
-    pub span-in : Inside o (length (ofSide side l u .index))
-    unfolding spanIn
-    span-in = span-inside _ k n (ofSide side l u .starts) (ofSide side l u .runs) (length (ofSide side l u .index)) o g
+  pub part-handed : (side : Side) (part : RefT (List ℕ)) → o ≡ spanIn f side k n (sideLists ls lr (now lower)) (sideLists us ur (now upper)) → PartOf (ofSide side lower upper) o part
+      → (now part ≡ lookup f side k n (sideLists ls lr (now lower)) (sideLists us ur (now upper)))
+      × PartOf (ofSide side lower upper) (spanIn f side k n (sideLists ls lr (now lower)) (sideLists us ur (now upper))) part
+  unfolding lookup
+  part-handed Lower part g h = rw (← g) (h .holds, h)
+  part-handed Upper part g h = rw (← g) (h .holds, h)
 
-    pub lower-inside : side ≡ Lower → Inside o (length (l .index))
-    lower-inside e = subst (λ s. Inside o (length (ofSide s l u .index))) e span-in
+pub inside-named : (side named : Side) (lower upper : RefT (List ℕ)) (s : Span) → side ≡ named → Inside s (length (now (ofSide side lower upper))) → Inside s (length (now (ofSide named lower upper)))
+inside-named side named lower upper s e h = rw e at h
 
-    pub upper-inside : side ≡ Upper → Inside o (length (u .index))
-    upper-inside e = subst (λ s. Inside o (length (ofSide s l u .index))) e span-in
-
-    pub lower-named : (part : List ℕ) → side ≡ Lower → part ≡ within (l .index) o → part ≡ lookup side k n extra l u
-    unfolding lookup
-    lower-named part e h = rw (← g, e) h
-
-    pub upper-named : (part : List ℕ) → side ≡ Upper → part ≡ within (u .index) o → part ≡ lookup side k n extra l u
-    unfolding lookup
-    upper-named part e h = rw (← g, e) h
+pub part-named : (side named : Side) (lower upper part : RefT (List ℕ)) (s : Span) → side ≡ named → PartOf (ofSide named lower upper) s part → PartOf (ofSide side lower upper) s part
+part-named side named lower upper part s e h = rw e h
 
 -- ---- fitting lengths
-
-pub both-yes : (n extra ls lr li us ur ui : ℕ) (a b : Bool) → rowsWithin n ≡ true → a ≡ sized n extra ls lr li → b ≡ sized n extra us ur ui → (a && b) ≡ bothFit n extra ls lr li us ur ui
-unfolding bothFit
-both-yes n extra ls lr li us ur ui a b h ea eb = rw (h, ← ea, ← eb)
-
-pub both-no : (n extra ls lr li us ur ui : ℕ) → rowsWithin n ≡ false → false ≡ bothFit n extra ls lr li us ur ui
-unfolding bothFit
-both-no n extra ls lr li us ur ui h = rw h
 
 pub rows-few : (n : ℕ) → rowsWithin n ≡ true → n ≤ maxRows
 rows-few n h = leb-true n maxRows (and-cases (leb 1 n) (leb n maxRows) h .1)
 
-sized-all : (n extra s r i : ℕ) → sized n extra s r i ≡ true → (s ≡ n + 1) × (r ≡ n + extra)
+pub sized-yes : (f : Form) (n : ℕ) (s r i : List ℕ) (runs : ℕ) → rowsWithin n ≡ true → runs ≡ runStarts f n
+    → (eqb (length s) (n + 1) && eqb (length r) runs && leb (length i) maxSlots) ≡ sized f n (sideLists s r i)
 unfolding sized
-sized-all n extra s r i e =
-    let a = and-cases (eqb s (n + 1) && eqb r (n + extra)) (leb i maxSlots) e in
-    let b = and-cases (eqb s (n + 1)) (eqb r (n + extra)) (a .0) in
-    (eqb-true s (n + 1) (b .0), eqb-true r (n + extra) (b .1))
+sized-yes f n s r i runs h e = rw (h, e)
 
-side-lent : (fit : Bool) (n extra : ℕ) (s runs : List ℕ) (i : ℕ) → (fit ≡ true → sized n extra (length s) (length runs) i ≡ true) → SideLent fit n s runs
-side-lent fit n extra s runs i f = record {
-  lists = λ h. sized-all n extra (length s) (length runs) i (f h) .0;
-  places = λ h. omega (arith, sized-all n extra (length s) (length runs) i (f h) .1);
-}
+pub sized-no : (f : Form) (n : ℕ) (l : SideLists) → rowsWithin n ≡ false → false ≡ sized f n l
+unfolding sized
+sized-no f n l h = rw h
 
-both : (n extra ls lr li us ur ui : ℕ) (fit : Bool) → fit ≡ bothFit n extra ls lr li us ur ui → fit ≡ true → (sized n extra ls lr li ≡ true) × (sized n extra us ur ui ≡ true)
-unfolding bothFit
-both n extra ls lr li us ur ui fit e h = and-cases _ _ (and-cases (rowsWithin n) _ (sym e ∙ h) .1)
+runs-reach : (f : Form) (n : ℕ) → n ≤ runStarts f n
+runs-reach Plain n = omega arith
+runs-reach Shared n = omega arith
+runs-reach ByRow n = omega arith
 
-pub lower-lent : (n extra : ℕ) (ls lr : List ℕ) (li us ur ui : ℕ) (fit : Bool) → fit ≡ bothFit n extra (length ls) (length lr) li us ur ui → SideLent fit n ls lr
-lower-lent n extra ls lr li us ur ui fit e = side-lent fit n extra ls lr li (λ h. both n extra (length ls) (length lr) li us ur ui fit e h .0)
+sized-all : (f : Form) (n : ℕ) (l : SideLists) → sized f n l ≡ true → (length (l .starts) ≡ n + 1) × (n ≤ length (l .runs))
+unfolding sized
+sized-all f n l e =
+    let a = and-cases (eqb (length (l .starts)) (n + 1) && eqb (length (l .runs)) (runStarts f n)) (leb (length (l .index)) maxSlots) (and-cases (rowsWithin n) _ e .1) in
+    let b = and-cases (eqb (length (l .starts)) (n + 1)) (eqb (length (l .runs)) (runStarts f n)) (a .0) in
+    (eqb-true _ _ (b .0), omega (arith, runs-reach f n, eqb-true (length (l .runs)) (runStarts f n) (b .1)))
 
-pub upper-lent : (n extra ls lr li : ℕ) (us ur : List ℕ) (ui : ℕ) (fit : Bool) → fit ≡ bothFit n extra ls lr li (length us) (length ur) ui → SideLent fit n us ur
-upper-lent n extra ls lr li us ur ui fit e = side-lent fit n extra us ur ui (λ h. both n extra ls lr li (length us) (length ur) ui fit e h .1)
+side-lent : (f : Form) (n : ℕ) (fit : Bool) (l : SideLists) → (fit ≡ true → sized f n l ≡ true) → SideLent fit n (l .starts) (l .runs)
+side-lent f n fit l g = record { lists = λ h. sized-all f n l (g h) .0; places = λ h. sized-all f n l (g h) .1 }
+
+module _ (f : Form) (n : ℕ) (l u : SideLists) (a b : Bool) (ea : a ≡ sized f n l) (eb : b ≡ sized f n u) where
+  pub lower-lent : SideLent (a && b) n (l .starts) (l .runs)
+  lower-lent = side-lent f n (a && b) l (λ h. sym ea ∙ and-cases a b h .0)
+
+  pub upper-lent : SideLent (a && b) n (u .starts) (u .runs)
+  upper-lent = side-lent f n (a && b) u (λ h. sym eb ∙ and-cases a b h .1)
 
 -- ---- a list that stands within its store is found as it is stored
 
 pub part-is : (k : Place) (n : ℕ) (s runs index : List ℕ) → k .0 < n → getD s (k .0) 0 ≤ getD s (k .0 + 1) 0
-    → getD runs (k .0) 0 + (getD s (k .0 + 1) 0 - getD s (k .0) 0) ≤ length index → within index (spanOf true k n s runs (length index)) ≡ listAt s runs index (k .0)
+    → getD runs (k .0) 0 + (getD s (k .0 + 1) 0 - getD s (k .0) 0) ≤ length index → within index (spanOf true k n (sideLists s runs index)) ≡ listAt s runs index (k .0)
 unfolding spanOf within listAt
 part-is k n s runs index l h b =
     let e = run-taken (getD s (k .0) 0) (getD s (k .0 + 1) 0) (getD runs (k .0) 0) (length index) h b in

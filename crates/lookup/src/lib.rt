@@ -2,10 +2,14 @@
 ghost use mathlib.Core.Path.{_≡_};
 ghost use Prim.Native.Nat.{_<_, _≤_};
 ghost use lib.ListN.{length};
-ghost use Rattle.lookup.specs.Lookup.{SideLent, listsOf, sized, bothFit, runSpan, spanOf, spanIn, Inside, within, lookup};
+ghost use Rattle.base.specs.Limits.{maxRows};
+ghost use Rattle.base.specs.declared.Form as forms;
+ghost use Rattle.lookup.specs.Lookup.{SideLent, sideLists, ofSide, runStarts, sized, runSpan, spanOf, spanIn, Inside, PartOf, lookup};
+use base::Form;
 use base::Index;
 use base::Place;
 use base::Side;
+use base::slot;
 use matrix::Matrix;
 
 // The slots of a store from one to before another.
@@ -14,30 +18,26 @@ pub struct Span {
     pub to: usize,
 }
 
-// Whether the lengths of one side are as stated: n + 1 list starts, n + extra run starts, a store within its limit.
-fn side_fits(n: usize, extra: usize, starts: usize, runs: usize, index: usize) -> bool
-    requires { ⌜ (n ≤ 4096) × (extra ≤ 1) ⌝ }
-    ensures { λ b. ⌜ b ≡ sized n extra starts runs index ⌝ }
+// How many run starts a form has; the plain form's are its list starts.
+fn run_starts(form: Form, n: usize) -> usize
+    requires { ⌜ n ≤ maxRows ⌝ }
+    ensures { λ r. ⌜ r ≡ runStarts form n ⌝ }
 {
-    (starts == n + 1) & (runs == n + extra) & (index <= Matrix::MAX_SLOTS)
+    match form {
+        Form::Plain => n + 1,
+        Form::Shared => n,
+        Form::ByRow => n,
+    }
 }
 
-// Whether n and the lengths of both sides (list starts, run starts, index store of lower and upper) are as stated.
-fn both_fit(
-    n: usize,
-    extra: usize,
-    ls: usize,
-    lr: usize,
-    li: usize,
-    us: usize,
-    ur: usize,
-    ui: usize,
-) -> bool
-    requires { ⌜ extra ≤ 1 ⌝ }
-    ensures { λ b. ⌜ b ≡ bothFit n extra ls lr li us ur ui ⌝ }
+// Whether n is within its limits and the lengths of one side are as stated.
+fn side_fits(form: Form, n: usize, starts: &[u32], runs: &[u32], index: &[Index]) -> bool
+    ensures { λ b. ⌜ b ≡ sized form n (sideLists (now (starts .entry)) (now (runs .entry)) (now (index .entry))) ⌝ }
 {
     if (1 <= n) & (n <= Matrix::MAX_ROWS) {
-        return side_fits(n, extra, ls, lr, li) & side_fits(n, extra, us, ur, ui);
+        return (starts.len() == n + 1)
+            & (runs.len() == run_starts(form, n))
+            & (index.len() <= Matrix::MAX_SLOTS);
     }
     false
 }
@@ -58,37 +58,31 @@ fn run_span(a: usize, b: usize, run: usize, slots: usize) -> Span
     Span { from: 0, to: 0 }
 }
 
-fn wide(x: u32) -> usize
-    ensures { λ r. ⌜ (r ≡ x) × (r < 4294967296) ⌝ }
-{
-    x as usize
-}
-
 // The span of the list at a place; the store's start where the lengths do not fit or the place is not below n.
-fn list_span(fit: bool, k: Place, n: usize, starts: &[u32], runs: &[u32], slots: usize) -> Span
+fn list_span(fit: bool, k: Place, n: usize, starts: &[u32], runs: &[u32], index: &[Index]) -> Span
     requires { ⌜ SideLent fit n (now starts) (now runs) ⌝ }
-    ensures { λ s. ⌜ s ≡ spanOf fit k n (now (starts .entry)) (now (runs .entry)) slots ⌝ }
+    ensures { λ s. ⌜ s ≡ spanOf fit k n (sideLists (now (starts .entry)) (now (runs .entry)) (now (index .entry))) ⌝ }
 {
-    let at = k.0 as usize;
+    let at = slot(k.0);
     if fit {
         if at < n {
             return run_span(
-                wide(starts[at]),
-                wide(starts[at + 1]),
-                wide(runs[at]),
-                slots,
+                slot(starts[at]),
+                slot(starts[at + 1]),
+                slot(runs[at]),
+                index.len(),
             );
         }
     }
     Span { from: 0, to: 0 }
 }
 
-// Where the list of a side at a place stands in that side's store, of which the lengths are given.
+// Where the list of a side at a place stands in that side's index store.
 fn span_of(
+    form: Form,
     side: Side,
     k: Place,
     n: usize,
-    extra: usize,
     lower_starts: &[u32],
     lower_runs: &[u32],
     lower_index: &[Index],
@@ -96,38 +90,56 @@ fn span_of(
     upper_runs: &[u32],
     upper_index: &[Index],
 ) -> Span
-    requires { ⌜ extra ≤ 1 ⌝ }
-    ensures { λ s. ⌜ s ≡ spanIn side k n extra (listsOf (now («lower_starts» .entry)) (now («lower_runs» .entry)) (now («lower_index» .entry))) (listsOf (now («upper_starts» .entry)) (now («upper_runs» .entry)) (now («upper_index» .entry))) ⌝ }
+    ensures { λ s. ⌜ s ≡ spanIn form side k n (sideLists (now («lower_starts» .entry)) (now («lower_runs» .entry)) (now («lower_index» .entry))) (sideLists (now («upper_starts» .entry)) (now («upper_runs» .entry)) (now («upper_index» .entry))) ⌝ }
 {
-    let lower_slots = lower_index.len();
-    let upper_slots = upper_index.len();
-    let fit = both_fit(
-        n,
-        extra,
-        lower_starts.len(),
-        lower_runs.len(),
-        lower_slots,
-        upper_starts.len(),
-        upper_runs.len(),
-        upper_slots,
-    );
+    let fit = side_fits(form, n, lower_starts, lower_runs, lower_index)
+        & side_fits(form, n, upper_starts, upper_runs, upper_index);
     match side {
-        Side::Lower => list_span(fit, k, n, lower_starts, lower_runs, lower_slots),
-        Side::Upper => list_span(fit, k, n, upper_starts, upper_runs, upper_slots),
+        Side::Lower => list_span(fit, k, n, lower_starts, lower_runs, lower_index),
+        Side::Upper => list_span(fit, k, n, upper_starts, upper_runs, upper_index),
     }
 }
 
-// The slots of a span that stands within its store.
-fn part<'a>(index: &'a [Index], s: Span) -> &'a [Index]
-    requires { ⌜ Inside s (length (now index)) ⌝ }
-    ensures { λ l. ⌜ now l ≡ within (now (index .entry)) s ⌝ }
+// The slots of a span of the store that a side names.
+fn part<'a>(side: Side, s: Span, lower: &'a [Index], upper: &'a [Index]) -> &'a [Index]
+    requires { ⌜ Inside s (length (now (ofSide side lower upper))) ⌝ }
+    ensures { λ l. ⌜ PartOf (ofSide side (lower .entry) (upper .entry)) s l ⌝ }
 {
     let from = s.from;
     let to = s.to;
-    &index[from..to]
+    match side {
+        Side::Lower => &lower[from..to],
+        Side::Upper => &upper[from..to],
+    }
 }
 
-// Where the list of a side at a place stands in that side's index store, in the shared form.
+// Where the list of a side at a place stands in that side's index store, in the plain form: the runs start where the lists do.
+pub fn span_plain(
+    side: Side,
+    k: Place,
+    n: usize,
+    lower_starts: &[u32],
+    lower_index: &[Index],
+    upper_starts: &[u32],
+    upper_index: &[Index],
+) -> Span
+    ensures { λ s. ⌜ s ≡ spanIn forms.Form.Plain side k n (sideLists (now («lower_starts» .entry)) (now («lower_starts» .entry)) (now («lower_index» .entry))) (sideLists (now («upper_starts» .entry)) (now («upper_starts» .entry)) (now («upper_index» .entry))) ⌝ }
+{
+    span_of(
+        Form::Plain,
+        side,
+        k,
+        n,
+        lower_starts,
+        lower_starts,
+        lower_index,
+        upper_starts,
+        upper_starts,
+        upper_index,
+    )
+}
+
+// The same in the shared form.
 pub fn span_shared(
     side: Side,
     k: Place,
@@ -139,13 +151,13 @@ pub fn span_shared(
     upper_runs: &[u32],
     upper_index: &[Index],
 ) -> Span
-    ensures { λ s. ⌜ s ≡ spanIn side k n 0 (listsOf (now («lower_starts» .entry)) (now («lower_runs» .entry)) (now («lower_index» .entry))) (listsOf (now («upper_starts» .entry)) (now («upper_runs» .entry)) (now («upper_index» .entry))) ⌝ }
+    ensures { λ s. ⌜ s ≡ spanIn forms.Form.Shared side k n (sideLists (now («lower_starts» .entry)) (now («lower_runs» .entry)) (now («lower_index» .entry))) (sideLists (now («upper_starts» .entry)) (now («upper_runs» .entry)) (now («upper_index» .entry))) ⌝ }
 {
     span_of(
+        Form::Shared,
         side,
         k,
         n,
-        0,
         lower_starts,
         lower_runs,
         lower_index,
@@ -155,33 +167,32 @@ pub fn span_shared(
     )
 }
 
-// The same in the plain form: the runs start where the lists do.
-pub fn span_plain(
+// The list of a side at a place in the plain form: what it holds, and where it stands in its store.
+pub fn list_plain<'a>(
     side: Side,
     k: Place,
     n: usize,
     lower_starts: &[u32],
-    lower_index: &[Index],
+    lower_index: &'a [Index],
     upper_starts: &[u32],
-    upper_index: &[Index],
-) -> Span
-    ensures { λ s. ⌜ s ≡ spanIn side k n 1 (listsOf (now («lower_starts» .entry)) (now («lower_starts» .entry)) (now («lower_index» .entry))) (listsOf (now («upper_starts» .entry)) (now («upper_starts» .entry)) (now («upper_index» .entry))) ⌝ }
+    upper_index: &'a [Index],
+) -> &'a [Index]
+    ensures { λ l. ⌜ now l ≡ lookup forms.Form.Plain side k n (sideLists (now («lower_starts» .entry)) (now («lower_starts» .entry)) (now («lower_index» .entry))) (sideLists (now («upper_starts» .entry)) (now («upper_starts» .entry)) (now («upper_index» .entry))) ⌝ }
+    ensures { λ l. ⌜ PartOf (ofSide side («lower_index» .entry) («upper_index» .entry)) (spanIn forms.Form.Plain side k n (sideLists (now («lower_starts» .entry)) (now («lower_starts» .entry)) (now («lower_index» .entry))) (sideLists (now («upper_starts» .entry)) (now («upper_starts» .entry)) (now («upper_index» .entry)))) l ⌝ }
 {
-    span_of(
+    let s = span_plain(
         side,
         k,
         n,
-        1,
-        lower_starts,
         lower_starts,
         lower_index,
         upper_starts,
-        upper_starts,
         upper_index,
-    )
+    );
+    part(side, s, lower_index, upper_index)
 }
 
-// The list of a side at a place, in the shared form.
+// The same in the shared form.
 pub fn list_shared<'a>(
     side: Side,
     k: Place,
@@ -193,7 +204,8 @@ pub fn list_shared<'a>(
     upper_runs: &[u32],
     upper_index: &'a [Index],
 ) -> &'a [Index]
-    ensures { λ l. ⌜ now l ≡ lookup side k n 0 (listsOf (now («lower_starts» .entry)) (now («lower_runs» .entry)) (now («lower_index» .entry))) (listsOf (now («upper_starts» .entry)) (now («upper_runs» .entry)) (now («upper_index» .entry))) ⌝ }
+    ensures { λ l. ⌜ now l ≡ lookup forms.Form.Shared side k n (sideLists (now («lower_starts» .entry)) (now («lower_runs» .entry)) (now («lower_index» .entry))) (sideLists (now («upper_starts» .entry)) (now («upper_runs» .entry)) (now («upper_index» .entry))) ⌝ }
+    ensures { λ l. ⌜ PartOf (ofSide side («lower_index» .entry) («upper_index» .entry)) (spanIn forms.Form.Shared side k n (sideLists (now («lower_starts» .entry)) (now («lower_runs» .entry)) (now («lower_index» .entry))) (sideLists (now («upper_starts» .entry)) (now («upper_runs» .entry)) (now («upper_index» .entry)))) l ⌝ }
 {
     let s = span_shared(
         side,
@@ -206,35 +218,5 @@ pub fn list_shared<'a>(
         upper_runs,
         upper_index,
     );
-    match side {
-        Side::Lower => part(lower_index, s),
-        Side::Upper => part(upper_index, s),
-    }
-}
-
-// The list of a side at a place, in the plain form.
-pub fn list_plain<'a>(
-    side: Side,
-    k: Place,
-    n: usize,
-    lower_starts: &[u32],
-    lower_index: &'a [Index],
-    upper_starts: &[u32],
-    upper_index: &'a [Index],
-) -> &'a [Index]
-    ensures { λ l. ⌜ now l ≡ lookup side k n 1 (listsOf (now («lower_starts» .entry)) (now («lower_starts» .entry)) (now («lower_index» .entry))) (listsOf (now («upper_starts» .entry)) (now («upper_starts» .entry)) (now («upper_index» .entry))) ⌝ }
-{
-    let s = span_plain(
-        side,
-        k,
-        n,
-        lower_starts,
-        lower_index,
-        upper_starts,
-        upper_index,
-    );
-    match side {
-        Side::Lower => part(lower_index, s),
-        Side::Upper => part(upper_index, s),
-    }
+    part(side, s, lower_index, upper_index)
 }

@@ -1,4 +1,4 @@
--- Definitions and laws of the marks.
+-- Definitions and laws of the marks, and of one place of one side.
 pub mod Marks
 pub mod MarkLaws
 pub mod BlockLaws
@@ -6,3 +6,9 @@ pub mod VisitLaws
 pub mod CutLaws
 pub mod MergeLaws
 pub mod ListedLaws
+pub mod Rows
+pub mod AscCuts
+pub mod FillLaws
+pub mod RenewLaws
+pub mod ListLaws
+pub mod Turn

@@ -12,21 +12,27 @@ use lib.Ieee.{Float, nan, binary64, sub, mul}
 use lib.Ieee.Scale.{finite}
 use Rattle.base.specs.Lists.{listAt, rowOf, pairs, nought}
 use Rattle.base.specs.declared.RowSums.{RowSums}
-use Rattle.arithmetic.specs.Arith.{ok, met, overflow, any, load, Given, Work, subtract, steps, rest, back}
+use Rattle.base.specs.declared.Place.{Place}
+use Rattle.lent.specs.Reading.{Below, placeAt}
+use Rattle.arithmetic.specs.Arith.{ok, met, overflow, Given, Work}
+use Rattle.arithmetic.specs.Stopping.{any, load, subtract, steps, rest, back}
 use Rattle.arithmetic.specs.RowEnd.{finiteOn, finiteAll, products}
 use Rattle.arithmetic.specs.Sticky.{step-any, rest-at}
 use Rattle.numeric.specs.Rows.{Shut}
-use Rattle.numeric.specs.Stores.{Below, Ascending, storeGiven, placesOf, work, Stepped, gathered, zeroed, Columns, columns, keepColumns}
+use Rattle.numeric.specs.Stores.{Ascending, storeGiven, placesOf, work, Stepped, gathered, zeroed, Columns, columns, keepColumns}
 use Rattle.base.specs.Scratch.{zFrom}
 
 -- ---- step 1
 
+pub place-is : (k : Place) (order : List ℕ) (x y : ℕ) → k ≡ placeAt order (record { 0 = x }) → x ≡ y → k .0 ≡ getD order y 0
+place-is k order x y e h = rw (e, h)
+
 module _ (ic columns : List ℕ) (vs w : List Float) (p : ℕ) where
-  pub load-turn : p < length columns → p < length vs
-      → load any (pairs (placesOf ic (drop (p + 1) columns)) (drop (p + 1) vs)) (set w (getD ic (getD columns p 0) 0) (getD vs p nan))
+  pub load-turn : (j : ℕ) → j ≡ getD ic (getD columns p 0) 0 → p < length columns → p < length vs
+      → load any (pairs (placesOf ic (drop (p + 1) columns)) (drop (p + 1) vs)) (set w j (getD vs p nan))
       ≡ load any (pairs (placesOf ic (drop p columns)) (drop p vs)) w
   unfolding load pairs placesOf
-  load-turn h g = rw (add-one, drop-cons columns p 0, drop-cons vs p nan)
+  load-turn j e h g = rw (e, add-one, drop-cons columns p 0, drop-cons vs p nan)
 
   pub load-end : length columns ≤ p → load any (pairs (placesOf ic (drop p columns)) (drop p vs)) w ≡ ok w
   unfolding load pairs placesOf
@@ -35,23 +41,23 @@ module _ (ic columns : List ℕ) (vs w : List Float) (p : ℕ) where
 -- ---- step 2
 
 module _ (m : Float) (js : List ℕ) (us : List Float) where
-  pub subtract-turn : (w : List Float) (p : ℕ) → p < length js → p < length us
+  pub subtract-turn : (w : List Float) (p j : ℕ) → j ≡ getD js p 0 → p < length js → p < length us
       → subtract any m (drop p js) (drop p us) w
-      ≡ subtract any m (drop (p + 1) js) (drop (p + 1) us) (set w (getD js p 0) (sub binary64 (getD w (getD js p 0) nan) (mul binary64 m (getD us p nan))))
+      ≡ subtract any m (drop (p + 1) js) (drop (p + 1) us) (set w j (sub binary64 (getD w j nan) (mul binary64 m (getD us p nan))))
   unfolding subtract
-  subtract-turn w p h g = rw (add-one, drop-cons js p 0, drop-cons us p nan)
+  subtract-turn w p j e h g = rw (e, add-one, drop-cons js p 0, drop-cons us p nan)
 
   pub subtract-end : (w : List Float) (p : ℕ) → length js ≤ p → subtract any m (drop p js) (drop p us) w ≡ ok w
   unfolding subtract
   subtract-end w p h = rw (drop-of-length-le js h)
 
 -- one i, from what its calls return
-pub stepped : (n i : ℕ) (f : List Float) (upper runs starts : List ℕ) (u : List Float) (row : RowSums) (js : List ℕ) (us last : List Float)
+pub stepped : (n i : ℕ) (f : List Float) (starts runs upper : List ℕ) (u : List Float) (row : RowSums) (js : List ℕ) (us last : List Float)
     → js ≡ listAt starts runs upper i → us ≡ rowOf starts u i
     → subtract any (getD f i nan) js us (take n f) ≡ ok last → length last ≡ length (take n f) → zFrom n ≤ length f
-    → Stepped n i (storeGiven n f upper runs starts u) f (last ++ drop n f) row
+    → Stepped n i (storeGiven n f starts runs upper u) f (last ++ drop n f) row
     (record { sum = sub binary64 (row .sum) (mul binary64 (getD f i nan) (getD f (n + i) nan)); reciprocal = row .reciprocal; y = row .y })
-stepped n i f upper runs starts u row js us last ej eu e le room =
+stepped n i f starts runs upper u row js us last ej eu e le room =
     let ln : length last ≡ n = le ∙ length-take-le n f (omega arith) in
     record { kept = drop-at last (drop n f) n ln; working = rw (take-at last (drop n f) n ln, ← ej, ← eu) e; sums = refl }
 
@@ -63,31 +69,31 @@ pub record Going (n : ℕ) (lower : List ℕ) (G : Given) (f₀ : List Float) (s
   pub kept : drop n f ≡ drop n f₀
   pub working : steps any G (drop p lower) (work l (take n f) (s .sum)) ≡ steps any G lower (work [] (take n f₀) (s₀ .sum))
 
-step-turn : (n : ℕ) (lower upper runs starts : List ℕ) (u f₀ f g l : List Float) (s r : RowSums) (p : ℕ) → p < length lower
+step-turn : (n : ℕ) (lower starts runs upper : List ℕ) (u f₀ f g l : List Float) (s r : RowSums) (p : ℕ) → p < length lower
     → getD lower p 0 < n → drop n f ≡ drop n f₀
-    → Stepped n (getD lower p 0) (storeGiven n f upper runs starts u) f g s r
-    → steps any (storeGiven n f₀ upper runs starts u) (drop p lower) (work l (take n f) (s .sum))
-    ≡ steps any (storeGiven n f₀ upper runs starts u) (drop (p + 1) lower) (work (l ++ (getD f (getD lower p 0) nan ∷ [])) (take n g) (r .sum))
-step-turn n lower upper runs starts u f₀ f g l s r p h hi ek S =
+    → Stepped n (getD lower p 0) (storeGiven n f starts runs upper u) f g s r
+    → steps any (storeGiven n f₀ starts runs upper u) (drop p lower) (work l (take n f) (s .sum))
+    ≡ steps any (storeGiven n f₀ starts runs upper u) (drop (p + 1) lower) (work (l ++ (getD f (getD lower p 0) nan ∷ [])) (take n g) (r .sum))
+step-turn n lower starts runs upper u f₀ f g l s r p h hi ek S =
     let i = getD lower p 0 in
-    let G = storeGiven n f₀ upper runs starts u in
+    let G = storeGiven n f₀ starts runs upper u in
     let em : getD (take n f) i nan ≡ getD f i nan = getD-take n f i nan hi in
     let ey : getD f₀ (n + i) nan ≡ getD f (n + i) nan = sym (getD-drop n f₀ i nan) ∙ ap (λ (z : List Float). getD z i nan) (sym ek) ∙ getD-drop n f i nan in
     let es : r .sum ≡ sub binary64 (s .sum) (mul binary64 (getD f i nan) (getD f (n + i) nan)) = ap (λ (z : RowSums). z .sum) (S .sums) in
     rw (add-one, drop-cons lower p 0, step-any G i (drop (suc p) lower) (work l (take n f) (s .sum)) (take n g) (rw em (S .working)), em, ey, es)
 
-pub going-more : (n : ℕ) (lower upper runs starts : List ℕ) (u f₀ f g : List Float) (s₀ s r : RowSums) (p : ℕ) → p < length lower
+pub going-more : (n : ℕ) (lower starts runs upper : List ℕ) (u f₀ f g : List Float) (s₀ s r : RowSums) (p : ℕ) → p < length lower
     → Below n lower → length g ≡ length f
-    → Going n lower (storeGiven n f₀ upper runs starts u) f₀ s₀ f s p
-    → Stepped n (getD lower p 0) (storeGiven n f upper runs starts u) f g s r
-    → Going n lower (storeGiven n f₀ upper runs starts u) f₀ s₀ g r (p + 1)
-going-more n lower upper runs starts u f₀ f g s₀ s r p h b lg I S =
+    → Going n lower (storeGiven n f₀ starts runs upper u) f₀ s₀ f s p
+    → Stepped n (getD lower p 0) (storeGiven n f starts runs upper u) f g s r
+    → Going n lower (storeGiven n f₀ starts runs upper u) f₀ s₀ g r (p + 1)
+going-more n lower starts runs upper u f₀ f g s₀ s r p h b lg I S =
     record {
       l = I .l ++ (getD f (getD lower p 0) nan ∷ []);
       upto = omega arith;
       same-f = lg ∙ I .same-f;
       kept = S .kept ∙ I .kept;
-      working = sym (step-turn n lower upper runs starts u f₀ f g (I .l) s r p h (b p h) (I .kept) S) ∙ I .working;
+      working = sym (step-turn n lower starts runs upper u f₀ f g (I .l) s r p h (b p h) (I .kept) S) ∙ I .working;
     }
 
 pub steps-end : (G : Given) (lower : List ℕ) (a : Work) (p : ℕ) → length lower ≤ p → steps any G (drop p lower) a ≡ ok a
@@ -212,15 +218,15 @@ same-y n i f g h e =
     sym (getD-take (zFrom n) g (n + i) nan b) ∙ ap (λ (l : List Float). getD l (n + i) nan) e ∙ getD-take (zFrom n) f (n + i) nan b
 
 -- the same on the scratch, where y stands from n on and z from 2n on
-module _ (n k i : ℕ) (upper runs starts : List ℕ) (u f₀ f : List Float) (t : Float) (e : k ≡ suc i) (h : i < n)
+module _ (n k i : ℕ) (starts runs upper : List ℕ) (u f₀ f : List Float) (t : Float) (e : k ≡ suc i) (h : i < n)
     (kept : take (zFrom n) f ≡ take (zFrom n) f₀) (fy : finite (getD f₀ (n + i) nan) ≡ true)
     (r : rest any (getD f (n + i) nan) (listAt starts runs upper i) (rowOf starts u i) (drop (zFrom n) f) ≡ ok t) where
   r₀ : rest any (getD f₀ (n + i) nan) (listAt starts runs upper i) (rowOf starts u i) (drop (zFrom n) f) ≡ ok t
   r₀ = rw (← same-y n i f₀ f h kept) r
 
   pub scratch-turn : finite t ≡ true
-      → back (storeGiven n f₀ upper runs starts u) i (drop (zFrom n) (set f (zFrom n + i) t)) ≡ back (storeGiven n f₀ upper runs starts u) k (drop (zFrom n) f)
-  scratch-turn ft = rw (drop-set-add (zFrom n) f i t) (sym (back-turn (storeGiven n f₀ upper runs starts u) k i (drop (zFrom n) f) t e fy r₀ ft))
+      → back (storeGiven n f₀ starts runs upper u) i (drop (zFrom n) (set f (zFrom n + i) t)) ≡ back (storeGiven n f₀ starts runs upper u) k (drop (zFrom n) f)
+  scratch-turn ft = rw (drop-set-add (zFrom n) f i t) (sym (back-turn (storeGiven n f₀ starts runs upper u) k i (drop (zFrom n) f) t e fy r₀ ft))
 
-  pub scratch-stop : finite t ≡ false → back (storeGiven n f₀ upper runs starts u) k (drop (zFrom n) f) ≡ met (overflow i)
-  scratch-stop ft = back-stop (storeGiven n f₀ upper runs starts u) k i (drop (zFrom n) f) t e fy r₀ ft
+  pub scratch-stop : finite t ≡ false → back (storeGiven n f₀ starts runs upper u) k (drop (zFrom n) f) ≡ met (overflow i)
+  scratch-stop ft = back-stop (storeGiven n f₀ starts runs upper u) k i (drop (zFrom n) f) t e fy r₀ ft

@@ -12,9 +12,10 @@ use lib.Ieee.{Float, binary64, ofBits}
 use borrow.Author.Tests.{eqb-true}
 use Rattle.base.specs.Lists.{listAt, rowOf, has, pairs, nought}
 use Rattle.base.specs.Tests.{or-cases}
+use Rattle.lent.specs.Reading.{orderOf}
 use Rattle.arithmetic.specs.Arith.{System}
-use Rattle.numeric.specs.Stores.{Shape, Loadable, Reducible, Closable, placesOf}
-use Rattle.numeric.specs.Rows.{Closed, Lent, Held}
+use Rattle.numeric.specs.Stores.{StoreShape, Loadable, Reducible, Closable, placesOf}
+use Rattle.numeric.specs.Rows.{Closed, RowLent, RowsHeld}
 use Rattle.numeric.specs.PassLaws.{held-start}
 
 -- rows (2, 4), (1, 4), b = (10, 9)
@@ -52,25 +53,26 @@ two P a b = upto P 1 a (upto (λ (i : ℕ). P (suc i)) 0 b (nothing (λ (i : ℕ
 single : (P : ℕ → Type 0) → P 0 → (i : ℕ) → i < 1 → P i
 single P a = upto P 0 a (nothing (λ (i : ℕ). P (suc i)))
 
-shape : Shape 2 (1 ∷ []) both starts 1
+shape : StoreShape 2 starts both (1 ∷ []) 1
 unfolding listAt
 shape = record {
-  list = two _ (record { run = lit< tt; next = lit< tt; rises = lit≤ tt; fits = lit≤ tt }) (record { run = lit< tt; next = lit< tt; rises = lit≤ tt; fits = lit≤ tt });
-  values = two _ (record { run = lit< tt; next = lit< tt; rises = lit≤ tt; fits = lit≤ tt }) (record { run = lit< tt; next = lit< tt; rises = lit≤ tt; fits = lit≤ tt });
+  list = two _ (record { has-run = lit< tt; has-start = lit< tt; rise = lit≤ tt; inside = lit≤ tt }) (record { has-run = lit< tt; has-start = lit< tt; rise = lit≤ tt; inside = lit≤ tt });
+  values = two _ (record { has-run = lit< tt; has-start = lit< tt; rise = lit≤ tt; inside = lit≤ tt }) (record { has-run = lit< tt; has-start = lit< tt; rise = lit≤ tt; inside = lit≤ tt });
   below = two _ (single _ (lit< tt)) (nothing _);
 }
 
 -- row 1, whose lower row is not empty
-pub reducible : Reducible 2 1 6 both both (values 1) (0 ∷ []) (1 ∷ []) both starts 1
+pub reducible : Reducible 2 1 6 (0 ∷ 0 ∷ 0 ∷ 1 ∷ []) both (values 1) (0 ∷ []) starts both (1 ∷ []) 1
+unfolding orderOf
 reducible = record {
   place = lit< tt;
   scratch = refl;
-  row = record { paired = refl; known = two _ (lit< tt) (lit< tt); inside = two _ (lit< tt) (lit< tt) };
+  row = record { few = lit≤ tt; slots = lit≤ tt; paired = refl; known = two _ (lit< tt) (lit< tt); inside = two _ (lit< tt) (lit< tt) };
   below = single _ (lit< tt);
   lists = shape;
 }
 
-pub closable : Closable 2 1 6 (0 ∷ []) (1 ∷ []) both starts 2
+pub closable : Closable 2 1 6 (0 ∷ []) starts both (1 ∷ []) 2
 closable = record { place = lit< tt; scratch = refl; reciprocals = refl; below = single _ (lit< tt); list = shape .list 1 (lit< tt); above = shape .below 1 (lit< tt) }
 
 one-of : (a j : ℕ) → has (a ∷ []) j ≡ true → a ≡ j
@@ -101,11 +103,11 @@ closed = two _
     second : (i j : ℕ) → 0 ≡ i → has (S .upper i) j ≡ true → has (0 ∷ 1 ∷ []) j ≡ true
     second i j e u = rw (← one-of 1 j (rw (← e) at u)) refl
 
-pub lent : (k : ℕ) → k < 2 → Lent S k (lower k) (placesOf both both) (values k) (right k)
+pub lent : (k : ℕ) → k < 2 → RowLent S k (lower k) (placesOf both both) (values k) (right k)
 unfolding has listAt placesOf ofBits
 lent = two _
     (record { entries = refl; right = refl; below = refl; filled = two _ refl refl; sum = refl; fine = two _ refl refl })
     (record { entries = refl; right = refl; below = refl; filled = two _ refl refl; sum = refl; fine = two _ refl refl })
 
-pub held : Held S [] 2 0 (replicate 6 nought) (1 ∷ []) both starts (nought ∷ [])
-held = held-start S 2 (replicate 6 nought) (1 ∷ []) both starts (nought ∷ []) refl (λ i h. refl) refl refl
+pub held : RowsHeld S [] 2 0 (replicate 6 nought) starts both (1 ∷ []) (nought ∷ [])
+held = held-start S 2 (replicate 6 nought) starts both (1 ∷ []) (nought ∷ []) refl (λ i h. refl) refl refl

@@ -19,15 +19,17 @@ use Rattle.base.specs.Tests.{by-test, or-cases, or-false}
 use Rattle.base.specs.AscLaws.{has-append}
 use Rattle.base.specs.TableLaws.{getD-map-lt}
 use Rattle.base.specs.declared.RowSums.{RowSums}
-use Rattle.arithmetic.specs.Arith.{Fault, Out, ok, met, overflow, zeroPivot, _>>=_, any, at, one, pivot, load, System, Row, none, Given, given, Work, start, steps, scaled, finish, row, forward, rest, back, Result, solved}
+use Rattle.lent.specs.Reading.{Below}
+use Rattle.arithmetic.specs.Arith.{Fault, Out, ok, met, overflow, zeroPivot, one, System, Row, none, Given, given, Work, Result}
+use Rattle.arithmetic.specs.Stopping.{_>>=_, any, at, pivot, load, start, steps, scaled, finish, row, forward, rest, back, solved}
 use Rattle.arithmetic.specs.RowEnd.{products}
 use Rattle.arithmetic.specs.Factors.{bind-ok, ok-inj}
 use Rattle.numeric.specs.declared.Pivot.{Pivot}
 use Rattle.numeric.specs.declared.Pivot.the-variants.{Kept, Zero, Overflow}
-use Rattle.numeric.specs.Stores.{Below, Shape, storeGiven, work, Eliminated, Finished, numbered, numberedBack, gathered, zeroed}
+use Rattle.numeric.specs.Stores.{StoreShape, storeGiven, work, Eliminated, Finished, numbered, numberedBack, gathered, zeroed}
 use Rattle.numeric.specs.declared.Back.{Back}
 use Rattle.numeric.specs.declared.Back.the-variants.{Complete, Stopped}
-use Rattle.numeric.specs.Rows.{filledRow, Closed, Lent, Stacked, uOf, Held, Outside, Reduced, Shut, keptRow}
+use Rattle.numeric.specs.Rows.{filledRow, Closed, RowLent, Stacked, uOf, RowsHeld, Outside, Reduced, Shut, keptRow}
 use Rattle.numeric.specs.StoreLaws.{list-length, sets-part, products-length, stacked-none, zeroed-drop, zeroed-length, zeroed-stays, zeroed-has}
 use Rattle.numeric.specs.KeepLaws.{stacked-row}
 use Rattle.numeric.specs.RowLaws.{Same, bind-same, has-at, filled-cases, row-is, row-outside}
@@ -79,7 +81,7 @@ forward-length S (suc k) rows e =
 
 -- ---- row k, from what its steps leave
 
-module _ (S : System) (rows : List Row) (n k : ℕ) (f : List Float) (upper runs starts : List ℕ) (u : List Float) (H : Held S rows n k f upper runs starts u)
+module _ (S : System) (rows : List Row) (n k : ℕ) (f : List Float) (starts runs upper : List ℕ) (u : List Float) (H : RowsHeld S rows n k f starts runs upper u)
     (h : k < n) (lf : length f ≡ 3 * n) where
   many : length rows ≡ k
   many = forward-length S k rows (H .done)
@@ -89,17 +91,17 @@ module _ (S : System) (rows : List Row) (n k : ℕ) (f : List Float) (upper runs
       sym (getD-take k (drop n f) i nan l) ∙ ap (λ (t : List Float). getD t i nan) (H .ys) ∙ sym (getD-map-lt (λ (r : Row). r .y) rows i none nan (rw many l))
 
   -- the rows above as the stores hold them, whatever stands in the working row
-  pub rows-same : (W : List Float) → length W ≡ n → (i : ℕ) → i < k → Same (storeGiven n (W ++ drop n f) upper runs starts u) (given S rows) i
+  pub rows-same : (W : List Float) → length W ≡ n → (i : ℕ) → i < k → Same (storeGiven n (W ++ drop n f) starts runs upper u) (given S rows) i
   rows-same W lw i l = (
     sym (H .lists i (omega arith)),
     H .us .each i l,
     sym (getD-drop n (W ++ drop n f) i nan) ∙ ap (λ (t : List Float). getD t i nan) (drop-at W (drop n f) n lw) ∙ y-at i l,
   )
 
-  module _ (lower places : List ℕ) (vs : List Float) (b : Float) (L : Lent S k lower places vs b) (C : Closed S k) (T : Shape n upper runs starts (length u)) where
+  module _ (lower places : List ℕ) (vs : List Float) (b : Float) (L : RowLent S k lower places vs b) (C : Closed S k) (T : StoreShape n starts runs upper (length u)) where
     pub reduced : (W g v : List Float) (s r : RowSums) (above : List ℕ) (from : ℕ) (answer : Pivot) → s .sum ≡ b
         → load any (pairs places vs) (take n f) ≡ ok W → length W ≡ length (take n f)
-        → Eliminated n lower (storeGiven n (W ++ drop n f) upper runs starts u) (W ++ drop n f) g s r
+        → Eliminated n lower (storeGiven n (W ++ drop n f) starts runs upper u) (W ++ drop n f) g s r
         → above ≡ listAt starts runs upper k → from ≡ getD starts k 0
         → Finished k above from (take n g) u v (r .sum) answer
         → Reduced S rows n k starts f g u v answer
@@ -108,11 +110,11 @@ module _ (S : System) (rows : List Row) (n k : ℕ) (f : List Float) (upper runs
         let ln : length W ≡ n = lw ∙ length-take-le n f (omega arith) in
         let hs : k < S .n = rw (H .size) h in
         let loaded : load any (pairs places vs) (replicate (S .n) nought) ≡ ok W = rw (H .size) (rw (H .clear) at ld) in
-        let G = storeGiven n (W ++ drop n f) upper runs starts u in
+        let G = storeGiven n (W ++ drop n f) starts runs upper u in
         let ran : steps any G lower (work [] W b) ≡ ok (work (E .l) (take n g) (r .sum)) =
         ap (λ (w : List Float). steps any G lower (work [] w b)) (sym (take-at W (drop n f) n ln)) ∙ rw es at (E .working) in
         let up : above ≡ S .upper k = ea ∙ sym (H .lists k h) in
-        let la : length above ≡ getD starts (k + 1) 0 - getD starts k 0 = ap length ea ∙ list-length upper runs starts k (T .list k h) in
+        let la : length above ≡ getD starts (k + 1) 0 - getD starts k 0 = ap length ea ∙ list-length starts runs upper k (T .list k h) in
         let slots : take (length above) (drop from v) ≡ rowOf starts v k = rw (la, ef) in
         record {
           answer = rw (← slots) (F .answer (gathered (S .lower k) (take n g)) ∙ rw up (row-is S k C rows G lower places vs b W (E .l) (take n g) (r .sum) hs L loaded (rows-same W ln) ran));
@@ -128,7 +130,7 @@ module _ (S : System) (rows : List Row) (n k : ℕ) (f : List Float) (upper runs
 
   -- ---- the stores before row k + 1
 
-  module _ (C : Closed S k) (T : Shape n upper runs starts (length u)) (lower : List ℕ) (el : S .lower k ≡ lower) (g h′ v d e : List Float) (lg : length g ≡ length f) (t : RowSums)
+  module _ (C : Closed S k) (T : StoreShape n starts runs upper (length u)) (lower : List ℕ) (el : S .lower k ≡ lower) (g h′ v d e : List Float) (lg : length g ≡ length f) (t : RowSums)
       (R : Reduced S rows n k starts f g u v (Kept t)) (Q : Shut n k lower (listAt starts runs upper k) g h′ d e t) where
     abbrev next : Row
     next = keptRow (gathered (S .lower k) (take n g)) (rowOf starts v k) t
@@ -162,7 +164,7 @@ module _ (S : System) (rows : List Row) (n k : ℕ) (f : List Float) (upper runs
         (λ b. zeroed-has above (zeroed lower (set g k nought)) j (rw (← H .lists k h) b) (rw (zeroed-length lower (set g k nought), length-set g k nought) lj)))
         (λ m. zeroed-stays above (zeroed lower (set g k nought)) j (zeroed-stays lower (set g k nought) j (zeroed-stays (k ∷ []) g j (R .outside j l m))))
 
-    pub held-more : Held S (rows ++ (next ∷ [])) n (k + 1) h′ upper runs starts v
+    pub held-more : RowsHeld S (rows ++ (next ∷ [])) n (k + 1) h′ starts runs upper v
     held-more = record {
       size = H .size;
       lists = H .lists;
@@ -178,8 +180,8 @@ module _ (S : System) (rows : List Row) (n k : ℕ) (f : List Float) (upper runs
 
         us : Stacked nought (uOf (rows ++ (next ∷ []))) (k + 1) starts v
         us = subst (λ (l : List Float). Stacked nought (uOf (rows ++ (next ∷ []))) (k + 1) starts l) (sym (R .stored t refl))
-            (stacked-row (λ (r : Row). r .u) rows next k starts u (rowOf starts v k) many (λ i l. T .values i (omega arith) .rises) (omega (arith, T .values k h))
-            (list-length v starts starts k (rw same-length (T .values k h))) refl (H .us))
+            (stacked-row (λ (r : Row). r .u) rows next k starts u (rowOf starts v k) many (λ i l. T .values i (omega arith) .rise) (omega (arith, T .values k h))
+            (list-length starts starts v k (rw same-length (T .values k h))) refl (H .us))
 
         clear : take n h′ ≡ replicate n nought
         clear =
@@ -195,10 +197,10 @@ take-replicate m k z = rw (← replicate-append-replicate m k z) (take-at (repli
 tail-replicate : {A : Type 0} (m k : ℕ) (z : A) → drop m (replicate (m + k) z) ≡ replicate k z
 tail-replicate m k z = rw (← replicate-append-replicate m k z) (drop-at (replicate m z) (replicate k z) m (length-replicate m z))
 
-pub held-start : (S : System) (n : ℕ) (f : List Float) (upper runs starts : List ℕ) (u : List Float) → S .n ≡ n → ((i : ℕ) → i < n → S .upper i ≡ listAt starts runs upper i)
-    → f ≡ replicate (3 * n) nought → u ≡ replicate (length u) nought → Held S [] n 0 f upper runs starts u
+pub held-start : (S : System) (n : ℕ) (f : List Float) (starts runs upper : List ℕ) (u : List Float) → S .n ≡ n → ((i : ℕ) → i < n → S .upper i ≡ listAt starts runs upper i)
+    → f ≡ replicate (3 * n) nought → u ≡ replicate (length u) nought → RowsHeld S [] n 0 f starts runs upper u
 unfolding forward
-held-start S n f upper runs starts u en el ef eu =
+held-start S n f starts runs upper u en el ef eu =
     let e : 3 * n ≡ n + zFrom n = omega arith in
     let thrice : 3 * n ≡ zFrom n + n = omega arith in
     record {
@@ -216,7 +218,7 @@ unfolding solved
 solved-met S q e = rw e
 
 -- a row that is not kept ends the whole
-module _ {S : System} {rows : List Row} {n k : ℕ} {f : List Float} {upper runs starts : List ℕ} {u : List Float} (H : Held S rows n k f upper runs starts u) (h : k < n) where
+module _ {S : System} {rows : List Row} {n k : ℕ} {f : List Float} {starts runs upper : List ℕ} {u : List Float} (H : RowsHeld S rows n k f starts runs upper u) (h : k < n) where
   stopped : (q : Fault) → row S rows k ≡ met q → solved S ≡ met q
   stopped q e = solved-met S q (ap (λ (m : ℕ). forward S m 0 []) (H .size) ∙ forward-met S n k rows q h (H .done) e)
 
@@ -275,7 +277,7 @@ solved-steps : (S : System) (rows : List Row) (o : Out (List Float)) → forward
 unfolding solved
 solved-steps S rows o e h = rw (e, h)
 
-module _ {S : System} {rows : List Row} {n : ℕ} {f : List Float} {upper runs starts : List ℕ} {u : List Float} (H : Held S rows n n f upper runs starts u) where
+module _ {S : System} {rows : List Row} {n : ℕ} {f : List Float} {starts runs upper : List ℕ} {u : List Float} (H : RowsHeld S rows n n f starts runs upper u) where
   y-here : (i : ℕ) → i < n → getD f (n + i) nan ≡ getD rows i none .y
   y-here i l =
       sym (getD-drop n f i nan) ∙ sym (getD-take n (drop n f) i nan l) ∙ ap (λ (t : List Float). getD t i nan) (H .ys)
@@ -285,17 +287,17 @@ module _ {S : System} {rows : List Row} {n : ℕ} {f : List Float} {upper runs s
   pub held-y : (i : ℕ) → i < n → finite (getD f (n + i) nan) ≡ true
   held-y i l = rw (y-here i l) (forward-y S n rows (H .done) i l)
 
-  solved-is : (o : Out (List Float)) → o ≡ back (storeGiven n f upper runs starts u) n (drop (zFrom n) f) → solved S ≡ (o >>= λ z. ok (record { rows = rows; z = z }))
+  solved-is : (o : Out (List Float)) → o ≡ back (storeGiven n f starts runs upper u) n (drop (zFrom n) f) → solved S ≡ (o >>= λ z. ok (record { rows = rows; z = z }))
   solved-is o e =
       solved-steps S rows o (ap (λ (m : ℕ). forward S m 0 []) (H .size) ∙ H .done)
       (ap (λ (m : ℕ). back (given S rows) m (replicate m nought)) (H .size)
       ∙ ap (λ (z : List Float). back (given S rows) n z) (sym (H .zs))
-      ∙ sym (back-same (storeGiven n f upper runs starts u) (given S rows) n (drop (zFrom n) f) (λ i l. (sym (H .lists i l), H .us .each i l, y-here i l))) ∙ sym e)
+      ∙ sym (back-same (storeGiven n f starts runs upper u) (given S rows) n (drop (zFrom n) f) (λ i l. (sym (H .lists i l), H .us .each i l, y-here i l))) ∙ sym e)
 
-  pub held-solved : (z : List Float) (r : Back) → numberedBack z r ≡ back (storeGiven n f upper runs starts u) n (drop (zFrom n) f) → r ≡ Complete
+  pub held-solved : (z : List Float) (r : Back) → numberedBack z r ≡ back (storeGiven n f starts runs upper u) n (drop (zFrom n) f) → r ≡ Complete
       → solved S ≡ ok (record { rows = rows; z = z })
   held-solved z r e q = solved-is (ok z) (rw q at e)
 
-  pub held-stopped : (k : ℕ) (z : List Float) (r : Back) → numberedBack z r ≡ back (storeGiven n f upper runs starts u) n (drop (zFrom n) f) → r ≡ Stopped k
+  pub held-stopped : (k : ℕ) (z : List Float) (r : Back) → numberedBack z r ≡ back (storeGiven n f starts runs upper u) n (drop (zFrom n) f) → r ≡ Stopped k
       → solved S ≡ met (overflow k)
   held-stopped k z r e q = solved-is (met (overflow k)) (rw q at e)

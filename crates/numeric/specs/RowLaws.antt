@@ -17,12 +17,13 @@ use Rattle.base.specs.Lists.{has, pairs, nought, rowOf, listAt}
 use Rattle.base.specs.Tests.{by-test, or-cases, or-false, or-right}
 use Rattle.base.specs.AscLaws.{has-append}
 use Rattle.base.specs.declared.RowSums.{RowSums}
-use Rattle.arithmetic.specs.Arith.{Out, ok, met, _>>=_, Check, any, at, load, System, Row, none, Given, given, Work, start, row, subtract, stepAt, steps, rest, finish}
+use Rattle.arithmetic.specs.Arith.{Out, ok, met, System, Row, none, Given, given, Work}
+use Rattle.arithmetic.specs.Stopping.{_>>=_, Check, any, at, load, start, row, subtract, stepAt, steps, rest, finish}
 use Rattle.arithmetic.specs.RowEnd.{finiteOn, rowEnd, quiet}
 use Rattle.arithmetic.specs.Sticky.{ok-inj, subtract-any, after, step-any, row-at, sub-left, sub-right, mul-left}
 use Rattle.numeric.specs.declared.Pivot.{Pivot}
 use Rattle.numeric.specs.Stores.{Ascending, gathered, storeGiven, work, numbered, Eliminated}
-use Rattle.numeric.specs.Rows.{filledRow, Closed, Lent, Outside}
+use Rattle.numeric.specs.Rows.{filledRow, Closed, RowLent, Outside}
 
 -- ---- membership
 
@@ -183,7 +184,7 @@ module _ (S : System) (k : ℕ) (C : Closed S k) where
       filled-cases S k j m (λ a. omega (arith, C .left j a)) (λ e. omega (arith, e)) (λ b. C .range j b)
 
   module _ (rows : List Row) (G : Given) (lower places : List ℕ) (vs : List Float) (b : Float) (W l w : List Float) (s : Float) (h : k < S .n)
-      (L : Lent S k lower places vs b) (loaded : load any (pairs places vs) (replicate (S .n) nought) ≡ ok W)
+      (L : RowLent S k lower places vs b) (loaded : load any (pairs places vs) (replicate (S .n) nought) ≡ ok W)
       (same : (i : ℕ) → i < k → Same G (given S rows) i) (ran : steps any G lower (work [] W b) ≡ ok (work l w s)) where
     each : (j : ℕ) → (finite (getD (replicate (S .n) nought) j nan) ≡ true → finite (getD W j nan) ≡ true)
         × (has (filledRow S k) j ≡ false → getD W j nan ≡ getD (replicate (S .n) nought) j nan) × (length W ≡ length (replicate (S .n) nought))

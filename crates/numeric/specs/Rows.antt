@@ -10,7 +10,8 @@ use lib.Ieee.{Float, nan}
 use lib.Ieee.Scale.{finite}
 use Rattle.base.specs.Lists.{listAt, rowOf, has, count, pairs, nought}
 use Rattle.base.specs.declared.RowSums.{RowSums}
-use Rattle.arithmetic.specs.Arith.{Out, ok, System, Row, none, row, forward}
+use Rattle.arithmetic.specs.Arith.{Out, ok, System, Row, none}
+use Rattle.arithmetic.specs.Stopping.{row, forward}
 use Rattle.numeric.specs.Stores.{Ascending, numbered, gathered, zeroed}
 use Rattle.numeric.specs.declared.Pivot.{Pivot}
 use Rattle.numeric.specs.declared.Pivot.the-variants.{Kept}
@@ -29,7 +30,7 @@ pub record Closed (S : System) (k : ℕ) : Type 0 where
   pub within : (i j : ℕ) → has (S .lower k) i ≡ true → has (S .upper i) j ≡ true → has (filledRow S k) j ≡ true
 
 -- row k as it is lent: its entries, finite, at filled places, its right side, and its lower row
-pub record Lent (S : System) (k : ℕ) (lower places : List ℕ) (values : List Float) (b : Float) : Type 0 where
+pub record RowLent (S : System) (k : ℕ) (lower places : List ℕ) (values : List Float) (b : Float) : Type 0 where
   pub entries : S .entries k ≡ pairs places values
   pub right : S .rhs k ≡ b
   pub below : S .lower k ≡ lower
@@ -49,7 +50,7 @@ abbrev pub lOf : List Row → ℕ → List Float
 lOf rows i = getD rows i none .l
 
 -- the stores before row k: the rows above are done, their u and y stand in their slots, the working row and z are +0
-pub record Held (S : System) (rows : List Row) (n k : ℕ) (f : List Float) (upper runs starts : List ℕ) (u : List Float) : Type 0 where
+pub record RowsHeld (S : System) (rows : List Row) (n k : ℕ) (f : List Float) (starts runs upper : List ℕ) (u : List Float) : Type 0 where
   pub size : S .n ≡ n
   pub lists : (i : ℕ) → i < n → S .upper i ≡ listAt starts runs upper i
   pub done : forward S k 0 [] ≡ ok rows

@@ -15,28 +15,23 @@ use lib.Ieee.{Float, nan, binary64, mul}
 use borrow.Author.Tests.{eqb-true}
 use Rattle.base.specs.Lists.{listAt, rowOf, has, joined, padded, nought}
 use Rattle.base.specs.Tests.{or-cases}
+use Rattle.lent.specs.Reading.{ListIn, Below}
 use Rattle.arithmetic.specs.RowEnd.{products}
-use Rattle.numeric.specs.Stores.{Below, ListIn, Shape, zeroed, gathered}
+use Rattle.numeric.specs.Stores.{StoreShape, zeroed, gathered}
 use Rattle.numeric.specs.Rows.{Stacked}
 
 -- ---- lists in their stores
 
-pub list-length : {A : Type 0} (store : List A) (runs starts : List ℕ) (i : ℕ) → ListIn (length store) runs starts i
+pub list-length : {A : Type 0} (starts runs : List ℕ) (store : List A) (i : ℕ) → ListIn starts runs (length store) i
     → length (listAt starts runs store i) ≡ getD starts (i + 1) 0 - getD starts i 0
 unfolding listAt
-list-length store runs starts i L = simp (length-take, length-drop) (omega arith)
-
--- the part from run on, as long as list i
-pub part-is : {A : Type 0} (store : List A) (runs starts : List ℕ) (i run from to : ℕ) → run ≡ getD runs i 0 → from ≡ getD starts i 0 → to ≡ getD starts (i + 1) 0
-    → take (run + (to - from) - run) (drop run store) ≡ listAt starts runs store i
-unfolding listAt
-part-is store runs starts i run from to er ef et = let q : run + (to - from) - run ≡ to - from = omega arith in rw (q, er, ef, et)
+list-length starts runs store i L = simp (length-take, length-drop) (omega arith)
 
 -- what axpy and the sums of products ask of list i and its values
-pub ready : (n i : ℕ) (upper runs starts : List ℕ) (u : List Float) (js : List ℕ) (us : List Float) → Shape n upper runs starts (length u) → i < n
+pub ready : (n i : ℕ) (starts runs upper : List ℕ) (u : List Float) (js : List ℕ) (us : List Float) → StoreShape n starts runs upper (length u) → i < n
     → js ≡ listAt starts runs upper i → us ≡ rowOf starts u i → (length js ≡ length us) × Below n js
-ready n i upper runs starts u js us S h ej eu = (
-  rw (ej, eu) (list-length upper runs starts i (S .list i h) ∙ sym (list-length u starts starts i (S .values i h))),
+ready n i starts runs upper u js us S h ej eu = (
+  rw (ej, eu) (list-length starts runs upper i (S .list i h) ∙ sym (list-length starts starts u i (S .values i h))),
   rw ej (S .below i h),
 )
 
@@ -44,9 +39,9 @@ pub below-is : (n : ℕ) (js ks : List ℕ) → js ≡ ks → Below n ks → Bel
 below-is n js ks e b = rw e b
 
 -- row k's values from their start on are inside their store
-pub list-room : (size k from : ℕ) (upper runs starts js : List ℕ) → from ≡ getD starts k 0 → js ≡ listAt starts runs upper k → ListIn (length upper) runs starts k
-    → ListIn size starts starts k → from + length js ≤ size
-list-room size k from upper runs starts js ef ej L M = omega (arith, ap length ej, list-length upper runs starts k L, M)
+pub list-room : (size k from : ℕ) (starts runs upper js : List ℕ) → from ≡ getD starts k 0 → js ≡ listAt starts runs upper k → ListIn starts runs (length upper) k
+    → ListIn starts starts size k → from + length js ≤ size
+list-room size k from starts runs upper js ef ej L M = omega (arith, ap length ej, list-length starts runs upper k L, M)
 
 -- what is stored stands there
 pub sets-part : {A : Type 0} (v us : List A) (from size : ℕ) → length us ≡ size → from + size ≤ length v → take size (drop from (sets v from us)) ≡ us

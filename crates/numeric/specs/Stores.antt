@@ -6,8 +6,12 @@ use lib.ListN.{length, getD, take, drop, set}
 use lib.Seq.{sets}
 use lib.Ieee.{Float, nan, binary64, sub, mul}
 use Rattle.base.specs.Lists.{listAt, rowOf, nought}
+use Rattle.base.specs.Limits.{maxRows}
+use Rattle.base.specs.Scratch.{blocksFrom}
 use Rattle.base.specs.declared.RowSums.{RowSums}
-use Rattle.arithmetic.specs.Arith.{Out, ok, met, zeroPivot, overflow, any, Row, Given, Work, subtract, steps}
+use Rattle.lent.specs.Reading.{ListIn, Below, orderOf}
+use Rattle.arithmetic.specs.Arith.{Out, ok, met, zeroPivot, overflow, Row, Given, Work}
+use Rattle.arithmetic.specs.Stopping.{any, subtract, steps}
 use Rattle.arithmetic.specs.RowEnd.{products, rowEnd}
 use Rattle.numeric.specs.declared.Pivot.{Pivot}
 use Rattle.numeric.specs.declared.Pivot.the-variants.{Kept, Zero, Overflow}
@@ -16,26 +20,15 @@ use Rattle.numeric.specs.declared.Back.the-variants.{Complete, Stopped}
 
 -- ---- where lists stand
 
--- each listed number is below n
-abbrev pub Below : ℕ → List ℕ → Type 0
-Below n js = (p : ℕ) → p < length js → getD js p 0 < n
-
--- list i stands inside a store of that size
-pub record ListIn (size : ℕ) (runs starts : List ℕ) (i : ℕ) : Type 0 where
-  pub run : i < length runs
-  pub next : i + 1 < length starts
-  pub rises : getD starts i 0 ≤ getD starts (i + 1) 0
-  pub fits : getD runs i 0 + (getD starts (i + 1) 0 - getD starts i 0) ≤ size
-
 -- the lists of places 0 to n - 1 stand inside the index store, their values inside a store of that size, and they hold places below n
-pub record Shape (n : ℕ) (upper runs starts : List ℕ) (size : ℕ) : Type 0 where
-  pub list : (i : ℕ) → i < n → ListIn (length upper) runs starts i
-  pub values : (i : ℕ) → i < n → ListIn size starts starts i
+pub record StoreShape (n : ℕ) (starts runs upper : List ℕ) (size : ℕ) : Type 0 where
+  pub list : (i : ℕ) → i < n → ListIn starts runs (length upper) i
+  pub values : (i : ℕ) → i < n → ListIn starts starts size i
   pub below : (i : ℕ) → i < n → Below n (listAt starts runs upper i)
 
 -- T(i), u(i, j) along T(i) and y(i) as the stores and the scratch hold them
 abbrev pub storeGiven : ℕ → List Float → List ℕ → List ℕ → List ℕ → List Float → Given
-storeGiven n f upper runs starts u = record { upper = listAt starts runs upper; u = rowOf starts u; y = λ i. getD f (n + i) nan }
+storeGiven n f starts runs upper u = record { upper = listAt starts runs upper; u = rowOf starts u; y = λ i. getD f (n + i) nan }
 
 -- ---- step 1
 
@@ -43,11 +36,13 @@ storeGiven n f upper runs starts u = record { upper = listAt starts runs upper; 
 unfoldable pub placesOf : List ℕ → List ℕ → List ℕ
 placesOf ic columns = map (λ j. getD ic j 0) columns
 
--- own columns with their values, whose places are below n
-pub record Loadable (n : ℕ) (ic columns : List ℕ) (values : List Float) : Type 0 where
+-- own columns with their values, whose places are below n by the inverse order in scratch
+pub record Loadable (n : ℕ) (marks columns : List ℕ) (values : List Float) : Type 0 where
+  pub few : n ≤ maxRows
+  pub slots : blocksFrom n ≤ length marks
   pub paired : length columns ≡ length values
-  pub known : Below (length ic) columns
-  pub inside : (p : ℕ) → p < length columns → getD ic (getD columns p 0) 0 < n
+  pub known : Below n columns
+  pub inside : (p : ℕ) → p < length columns → getD (orderOf n marks) (getD columns p 0) 0 < n
 
 -- ---- steps 2 and 3
 
@@ -93,20 +88,20 @@ abbrev pub Ascending : List ℕ → Type 0
 Ascending l = (p q : ℕ) → p < q → q < length l → getD l p 0 < getD l q 0
 
 -- what row k's steps ask of lengths and places: size is the scratch's, slots the value store's
-pub record Reducible (n k size : ℕ) (ic columns : List ℕ) (values : List Float) (lower upper runs starts : List ℕ) (slots : ℕ) : Type 0 where
+pub record Reducible (n k size : ℕ) (marks columns : List ℕ) (values : List Float) (lower starts runs upper : List ℕ) (slots : ℕ) : Type 0 where
   pub place : k < n
   pub scratch : size ≡ 3 * n
-  pub row : Loadable n ic columns values
+  pub row : Loadable n marks columns values
   pub below : Below n lower
-  pub lists : Shape n upper runs starts slots
+  pub lists : StoreShape n starts runs upper slots
 
 -- and its closing: slots are those of d
-pub record Closable (n k size : ℕ) (lower upper runs starts : List ℕ) (slots : ℕ) : Type 0 where
+pub record Closable (n k size : ℕ) (lower starts runs upper : List ℕ) (slots : ℕ) : Type 0 where
   pub place : k < n
   pub scratch : size ≡ 3 * n
   pub reciprocals : slots ≡ n
   pub below : Below n lower
-  pub list : ListIn (length upper) runs starts k
+  pub list : ListIn starts runs (length upper) k
   pub above : Below n (listAt starts runs upper k)
 
 -- ---- L by columns

@@ -2,6 +2,7 @@
 // and z in the last n. T(i) is list i of an upper store (index, run starts, list starts), its u stand in a value store from list start i on.
 // Lower row k is lent, so that no step knows where it is kept.
 use base::Index;
+use base::OwnNumber;
 use base::RowSums;
 use base::is_finite;
 use base::scratch;
@@ -14,54 +15,24 @@ ghost use lib.Seq.{sets};
 ghost use lib.Ieee.{Float, nan};
 ghost use lib.Ieee.Scale.{finite};
 ghost use Rattle.base.specs.Lists.{listAt, rowOf, pairs};
-ghost use Rattle.arithmetic.specs.Arith.{ok, any, load, subtract, rest, back, System, Row};
+ghost use Rattle.arithmetic.specs.Arith.{ok, System, Row};
+ghost use Rattle.arithmetic.specs.Stopping.{any, load, subtract, rest, back};
 ghost use Rattle.arithmetic.specs.RowEnd.{finiteOn, finiteAll, products};
-ghost use Rattle.numeric.specs.Stores.{Below, ListIn, Shape, Loadable, Reducible, Closable, Stepped, Eliminated, Finished, storeGiven, placesOf, gathered, zeroed, numberedBack};
-ghost use Rattle.numeric.specs.Rows.{Held, Lent, Closed, Reduced, Shut};
+ghost use Rattle.numeric.specs.Stores.{StoreShape, Loadable, Reducible, Closable, Stepped, Eliminated, Finished, storeGiven, placesOf, gathered, zeroed, numberedBack};
+ghost use Rattle.numeric.specs.Rows.{RowsHeld, RowLent, Closed, Reduced, Shut};
 ghost use Rattle.base.specs.Scratch.{zFrom};
-
-fn wide16(x: Index) -> usize
-    ensures { λ r. ⌜ r ≡ x ⌝ }
-{
-    x as usize
-}
-
-fn wide32(x: u32) -> usize
-    ensures { λ r. ⌜ r ≡ x ⌝ }
-{
-    x as usize
-}
-
-// List i of an index store, as a part of it.
-fn index_part<'a>(index: &'a [Index], runs: &[u32], starts: &[u32], i: usize) -> &'a [Index]
-    requires { ⌜ ListIn (length (now index)) (now runs) (now starts) i ⌝ }
-    ensures { λ r. ⌜ now r ≡ listAt (now (starts .entry)) (now (runs .entry)) (now (index .entry)) i ⌝ }
-{
-    let run = wide32(runs[i]);
-    let from = wide32(starts[i]);
-    let to = wide32(starts[i + 1]);
-    let end = run + (to - from);
-    &index[run..end]
-}
-
-// The values of list i, as a part of their store.
-fn values_part<'a>(values: &'a [f64], starts: &[u32], i: usize) -> &'a [f64]
-    requires { ⌜ ListIn (length (now values)) (now starts) (now starts) i ⌝ }
-    ensures { λ r. ⌜ now r ≡ listAt (now (starts .entry)) (now (starts .entry)) (now (values .entry)) i ⌝ }
-{
-    let from = wide32(starts[i]);
-    let to = wide32(starts[i + 1]);
-    &values[from..to]
-}
+ghost use Rattle.lent.specs.Reading.{Below, orderOf};
 
 // Step 1: the entries of a row, own columns and values, over w at their places.
-pub fn load_row(w: &mut [f64], columns: &[Index], values: &[f64], ic: &[u32])
-    requires { ⌜ Loadable (length (now w)) (now ic) (now columns) (now values) ⌝ }
-    ensures { λ _. ⌜ load any (pairs (placesOf (now (ic .entry)) (now (columns .entry))) (now (values .entry))) (now (w .entry)) ≡ ok (now (w .exit)) ⌝ }
+pub fn load_row(w: &mut [f64], n: usize, marks: &[u32], columns: &[Index], values: &[f64])
+    requires { ⌜ (length (now w) ≡ n) × Loadable n (now marks) (now columns) (now values) ⌝ }
+    ensures { λ _. ⌜ load any (pairs (placesOf (orderOf n (now (marks .entry))) (now (columns .entry))) (now (values .entry))) (now (w .entry)) ≡ ok (now (w .exit)) ⌝ }
 {
     let mut p = 0;
     while p < columns.len() {
-        let j = wide32(ic[wide16(columns[p])]);
+        let own = OwnNumber(base::number(columns[p]));
+        let place = lent::place_of(n, marks, own);
+        let j = place.0 as usize;
         w[j] = values[p];
         p += 1;
     }
@@ -75,31 +46,31 @@ pub fn axpy(w: &mut [f64], columns: &[Index], u: &[f64], m: f64)
     let n = columns.len();
     let mut p = 0;
     while p < n {
-        let j = columns[p] as usize;
+        let j = base::wide(columns[p]);
         w[j] = w[j] - m * u[p];
         p += 1;
     }
 }
 
 // Step 2 at i: the sum and the working row less row i times its multiplier w(i).
-fn step_at(
+fn subtract_row(
     f: &mut [f64],
     n: usize,
     i: usize,
-    upper: &[Index],
-    runs: &[u32],
     starts: &[u32],
+    runs: &[u32],
+    upper: &[Index],
     u: &[f64],
     row: RowSums,
 ) -> RowSums
-    requires { ⌜ (i < n) × (zFrom n ≤ length (now f)) × Shape n (now upper) (now runs) (now starts) (length (now u)) ⌝ }
-    ensures { λ r. ⌜ Stepped n i (storeGiven n (now (f .entry)) (now (upper .entry)) (now (runs .entry)) (now (starts .entry)) (now (u .entry)))
+    requires { ⌜ (i < n) × (zFrom n ≤ length (now f)) × StoreShape n (now starts) (now runs) (now upper) (length (now u)) ⌝ }
+    ensures { λ r. ⌜ Stepped n i (storeGiven n (now (f .entry)) (now (starts .entry)) (now (runs .entry)) (now (upper .entry)) (now (u .entry)))
         (now (f .entry)) (now (f .exit)) row r ⌝ }
 {
     let m = f[i];
     let y = f[n + i];
-    let above = index_part(upper, runs, starts, i);
-    let us = values_part(u, starts, i);
+    let above = lent::list_at(starts, runs, upper, i);
+    let us = lent::values_at(starts, u, i);
     axpy(&mut f[..n], above, us, m);
     RowSums {
         sum: row.sum - m * y,
@@ -113,21 +84,21 @@ pub fn eliminate(
     f: &mut [f64],
     n: usize,
     lower: &[u32],
-    upper: &[Index],
-    runs: &[u32],
     starts: &[u32],
+    runs: &[u32],
+    upper: &[Index],
     u: &[f64],
     row: RowSums,
 ) -> RowSums
-    requires { ⌜ (zFrom n ≤ length (now f)) × Shape n (now upper) (now runs) (now starts) (length (now u)) × Below n (now lower) ⌝ }
-    ensures { λ r. ⌜ Eliminated n (now (lower .entry)) (storeGiven n (now (f .entry)) (now (upper .entry)) (now (runs .entry)) (now (starts .entry)) (now (u .entry)))
+    requires { ⌜ (zFrom n ≤ length (now f)) × StoreShape n (now starts) (now runs) (now upper) (length (now u)) × Below n (now lower) ⌝ }
+    ensures { λ r. ⌜ Eliminated n (now (lower .entry)) (storeGiven n (now (f .entry)) (now (starts .entry)) (now (runs .entry)) (now (upper .entry)) (now (u .entry)))
         (now (f .entry)) (now (f .exit)) row r ⌝ }
 {
     let mut s = row;
     let mut p = 0;
     while p < lower.len() {
-        let i = wide32(lower[p]);
-        s = step_at(f, n, i, upper, runs, starts, u, s);
+        let i = base::slot(lower[p]);
+        s = subtract_row(f, n, i, starts, runs, upper, u, s);
         p += 1;
     }
     s
@@ -140,7 +111,7 @@ fn all_finite(w: &[f64], columns: &[Index]) -> bool
 {
     let mut p = 0;
     while p < columns.len() {
-        let j = wide16(columns[p]);
+        let j = base::wide(columns[p]);
         if is_finite(w[j]) {
             p += 1;
         } else {
@@ -171,7 +142,7 @@ fn scale(w: &[f64], columns: &[Index], u: &mut [f64], from: usize, d: f64) -> bo
 {
     let mut p = 0;
     while p < columns.len() {
-        let j = wide16(columns[p]);
+        let j = base::wide(columns[p]);
         let x = w[j] * d;
         if is_finite(x) {
             u[from + p] = x;
@@ -231,32 +202,32 @@ pub fn reduce_row(
     f: &mut [f64],
     n: usize,
     k: usize,
+    marks: &[u32],
     columns: &[Index],
     values: &[f64],
-    ic: &[u32],
     b: f64,
     lower: &[u32],
-    upper: &[Index],
-    runs: &[u32],
     starts: &[u32],
+    runs: &[u32],
+    upper: &[Index],
     u: &mut [f64],
 ) -> Pivot
-    requires { ⌜ Reducible n k (length (now f)) (now ic) (now columns) (now values) (now lower) (now upper) (now runs) (now starts) (length (now u)) ⌝ }
+    requires { ⌜ Reducible n k (length (now f)) (now marks) (now columns) (now values) (now lower) (now starts) (now runs) (now upper) (length (now u)) ⌝ }
     ensures { λ r. ⌜ ((S : System) (rows : List Row)
-        → Held S rows n k (now (f .entry)) (now (upper .entry)) (now (runs .entry)) (now (starts .entry)) (now (u .entry))
-        → Lent S k (now (lower .entry)) (placesOf (now (ic .entry)) (now (columns .entry))) (now (values .entry)) b
+        → RowsHeld S rows n k (now (f .entry)) (now (starts .entry)) (now (runs .entry)) (now (upper .entry)) (now (u .entry))
+        → RowLent S k (now (lower .entry)) (placesOf (orderOf n (now (marks .entry))) (now (columns .entry))) (now (values .entry)) b
         → Closed S k
         → Reduced S rows n k (now (starts .entry)) (now (f .entry)) (now (f .exit)) (now (u .entry)) (now (u .exit)) r) ⌝ }
 {
-    load_row(&mut f[..n], columns, values, ic);
+    load_row(&mut f[..n], n, marks, columns, values);
     let sums = RowSums {
         sum: b,
         reciprocal: 0.0,
         y: 0.0,
     };
-    let row = eliminate(f, n, lower, upper, runs, starts, u, sums);
-    let above = index_part(upper, runs, starts, k);
-    let from = wide32(starts[k]);
+    let row = eliminate(f, n, lower, starts, runs, upper, u, sums);
+    let above = lent::list_at(starts, runs, upper, k);
+    let from = base::slot(starts[k]);
     finish_row(&f[..n], k, above, u, from, row)
 }
 
@@ -267,7 +238,7 @@ fn clear_lower(w: &mut [f64], places: &[u32])
 {
     let mut p = 0;
     while p < places.len() {
-        w[wide32(places[p])] = 0.0;
+        w[base::slot(places[p])] = 0.0;
         p += 1;
     }
 }
@@ -278,7 +249,7 @@ fn clear_upper(w: &mut [f64], places: &[Index])
 {
     let mut p = 0;
     while p < places.len() {
-        w[wide16(places[p])] = 0.0;
+        w[base::wide(places[p])] = 0.0;
         p += 1;
     }
 }
@@ -289,17 +260,17 @@ pub fn close_row(
     n: usize,
     k: usize,
     lower: &[u32],
-    upper: &[Index],
-    runs: &[u32],
     starts: &[u32],
+    runs: &[u32],
+    upper: &[Index],
     d: &mut [f64],
     row: RowSums,
 )
-    requires { ⌜ Closable n k (length (now f)) (now lower) (now upper) (now runs) (now starts) (length (now d)) ⌝ }
+    requires { ⌜ Closable n k (length (now f)) (now lower) (now starts) (now runs) (now upper) (length (now d)) ⌝ }
     ensures { λ _. ⌜ Shut n k (now (lower .entry)) (listAt (now (starts .entry)) (now (runs .entry)) (now (upper .entry)) k)
         (now (f .entry)) (now (f .exit)) (now (d .entry)) (now (d .exit)) row ⌝ }
 {
-    let above = index_part(upper, runs, starts, k);
+    let above = lent::list_at(starts, runs, upper, k);
     f[k] = 0.0;
     clear_lower(f, lower);
     clear_upper(f, above);
@@ -314,20 +285,20 @@ pub fn keep_by_rows(w: &[f64], lower: &[u32], l: &mut [f64], from: usize)
 {
     let mut p = 0;
     while p < lower.len() {
-        l[from + p] = w[wide32(lower[p])];
+        l[from + p] = w[base::slot(lower[p])];
         p += 1;
     }
 }
 
 // t less the products of the factors and z at the listed places, one after the other: the back steps take u and z so, another right side L and y.
-pub fn less_products(t: f64, places: &[Index], factors: &[f64], z: &[f64]) -> f64
+pub fn subtract_products(t: f64, places: &[Index], factors: &[f64], z: &[f64]) -> f64
     requires { ⌜ (length (now places) ≡ length (now factors)) × Below (length (now z)) (now places) ⌝ }
     ensures { λ r. ⌜ rest any t (now (places .entry)) (now (factors .entry)) (now (z .entry)) ≡ ok r ⌝ }
 {
     let mut s = t;
     let mut p = 0;
     while p < places.len() {
-        let j = wide16(places[p]);
+        let j = base::wide(places[p]);
         s = s - factors[p] * z[j];
         p += 1;
     }
@@ -339,20 +310,20 @@ fn back_at(
     f: &[f64],
     n: usize,
     k: usize,
-    upper: &[Index],
-    runs: &[u32],
     starts: &[u32],
+    runs: &[u32],
+    upper: &[Index],
     u: &[f64],
 ) -> f64
-    requires { ⌜ (k < n) × (length (now f) ≡ 3 * n) × Shape n (now upper) (now runs) (now starts) (length (now u)) ⌝ }
+    requires { ⌜ (k < n) × (length (now f) ≡ 3 * n) × StoreShape n (now starts) (now runs) (now upper) (length (now u)) ⌝ }
     ensures { λ r. ⌜ rest any (getD (now (f .entry)) (n + k) nan) (listAt (now (starts .entry)) (now (runs .entry)) (now (upper .entry)) k)
         (rowOf (now (starts .entry)) (now (u .entry)) k) (drop (zFrom n) (now (f .entry))) ≡ ok r ⌝ }
 {
     let t = f[n + k];
-    let above = index_part(upper, runs, starts, k);
-    let us = values_part(u, starts, k);
+    let above = lent::list_at(starts, runs, upper, k);
+    let us = lent::values_at(starts, u, k);
     let z = scratch::Z * n;
-    less_products(t, above, us, &f[z..])
+    subtract_products(t, above, us, &f[z..])
 }
 
 // What the back steps find: every z, or the place at which a result is not finite.
@@ -365,22 +336,22 @@ pub enum Back {
 pub fn back_steps(
     f: &mut [f64],
     n: usize,
-    upper: &[Index],
-    runs: &[u32],
     starts: &[u32],
+    runs: &[u32],
+    upper: &[Index],
     u: &[f64],
 ) -> Back
-    requires { ⌜ (length (now f) ≡ 3 * n) × Shape n (now upper) (now runs) (now starts) (length (now u))
+    requires { ⌜ (length (now f) ≡ 3 * n) × StoreShape n (now starts) (now runs) (now upper) (length (now u))
         × ((k : ℕ) → k < n → finite (getD (now f) (n + k) nan) ≡ true) ⌝ }
     ensures { λ r. ⌜ (numberedBack (drop (zFrom n) (now (f .exit))) r
-        ≡ back (storeGiven n (now (f .entry)) (now (upper .entry)) (now (runs .entry)) (now (starts .entry)) (now (u .entry))) n (drop (zFrom n) (now (f .entry))))
+        ≡ back (storeGiven n (now (f .entry)) (now (starts .entry)) (now (runs .entry)) (now (upper .entry)) (now (u .entry))) n (drop (zFrom n) (now (f .entry))))
         × (take (zFrom n) (now (f .exit)) ≡ take (zFrom n) (now (f .entry))) ⌝ }
 {
     let z = scratch::Z * n;
     let mut k = n;
     while 0 < k {
         let i = k - 1;
-        let t = back_at(f, n, i, upper, runs, starts, u);
+        let t = back_at(f, n, i, starts, runs, upper, u);
         if is_finite(t) {
             f[z + i] = t;
             k = i;

@@ -17,8 +17,8 @@ use Rattle.base.specs.declared.Ended.{Ended}
 use Rattle.base.specs.declared.Ended.the-variants.{Complete, Declined}
 use Rattle.matrix.specs.Input.{Input, stored}
 use Rattle.matrix.specs.Questions.{askStructure, askSolve, askRight}
-use Rattle.arithmetic.specs.Arith.{Fault, zeroPivot, overflow, Out, ok, met, Result}
-use Rattle.arithmetic.specs.Again.{solvedAgain}
+use Rattle.arithmetic.specs.Arith.{Fault, zeroPivot, overflow, Out, ok, met, judged, Result}
+use Rattle.arithmetic.specs.Again.{wholeAgain}
 use Rattle.outcome.specs.Buffers.{Buffers, sizes, patternTests, structureTests, rightTests, bufferTests, askShape, scratchCleared, cleared, Outcome, ended, stop}
 use Rattle.base.specs.declared.Sizes.{Sizes}
 use Rattle.outcome.specs.Structure.{askPlaces, counts, structured, structure}
@@ -153,4 +153,4 @@ module _ (f : Form) (i : Input) (s : Buffers) where
       stop-first numberOfEnd Declined end-told s (scratchCleared s) refl (askShape (i .n) (rightTests i ++ bufferTests f (i .n) (sizes s))) _ (ask-shape-within (i .n) (rightTests i ++ bufferTests f (i .n) (sizes s)))
       (stop-scratch numberOfEnd Declined end-told s (scratchCleared s) refl (askRight (i .n) (i .r) (i .c) (i .b)) _ (within-wide 5 6 3 8 _ (omega arith) (omega arith) (right-within (i .n) (i .r) (i .c) (i .b)))
       (stop-checked numberOfEnd Declined end-told s (scratchCleared s) refl (askFactors f (i .n) s) _ factored
-      (resolved-ends (solvedAgain (factorsOf f i s)))))
+      (resolved-ends (judged (wholeAgain (factorsOf f i s))))))

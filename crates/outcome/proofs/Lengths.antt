@@ -24,7 +24,8 @@ use Rattle.fill.specs.Fill.{Pattern, flip, upperRow, lowerRow, upper}
 use Rattle.base.specs.Lists.{nought, table, padded, joined}
 use Rattle.base.specs.TableLaws.{length-table}
 use Rattle.placement.specs.Placing.{Way, after, placed, startOf}
-use Rattle.arithmetic.specs.Arith.{Fault, Out, ok, met, System, Row, none, Result, solved}
+use Rattle.arithmetic.specs.Arith.{Fault, Out, ok, met, System, Row, none, Result}
+use Rattle.outcome.proofs.Meaning.{listed-stops}
 use Rattle.base.specs.declared.Refusal.{Refusal}
 use Rattle.base.specs.declared.Refusal.the-variants.{Rows, Lengths}
 use Rattle.base.specs.declared.Asked.{Asked}
@@ -140,8 +141,8 @@ kept-same f i z a u v d x h =
     (length-table (λ k. getD (a .rows) k none .d) (i .n) ∙ sym d) (length-table _ (i .n) ∙ sym x))
 
 long-listed : (i : Input) (a : Result) → listed i ≡ ok a → LongTo (system i) (i .n) (a .rows)
-unfolding listed system
-long-listed i a e = solved-length (system i) a e
+unfolding system
+long-listed i a e = solved-length (system i) a (sym (listed-stops i) ∙ e)
 
 own-length : (i : Input) (z : List Float) → length (ownOrder (i .c) (i .n) z) ≡ i .n
 unfolding ownOrder

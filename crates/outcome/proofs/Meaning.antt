@@ -1,4 +1,4 @@
--- M' by the inverse order, and x by the column order.
+-- M' by the inverse order, x by the column order, and the listed operations as code does them.
 use mathlib.Core.Path.{_≡_, refl, sym, ap, ap₂, _∙_}
 use mathlib.Core.Bool.{Bool, true, false, _||_}
 use mathlib.Core.List.{List, [], _∷_, _++_, map}
@@ -18,6 +18,15 @@ use Rattle.matrix.specs.Questions.{IsOrder, badColumn}
 use Rattle.matrix.specs.OrderLaws.{order-below, place-of, place-hits}
 use Rattle.matrix.specs.Input.{ic, Input, stored, ownOrder}
 use Rattle.base.specs.declared.Found.the-variants.{Nothing}
+use Rattle.arithmetic.specs.Arith.{Out, Result}
+use Rattle.arithmetic.specs.Stopping.{solved}
+use Rattle.arithmetic.specs.StoppingLaws.{solved-is}
+use Rattle.outcome.specs.Solve.{system, listed}
+
+-- the listed operations up to the first fault
+pub listed-stops : (i : Input) → listed i ≡ solved (system i)
+unfolding listed
+listed-stops i = solved-is (system i)
 
 -- x(c(k)) = z(k)
 pub x-at : (i : Input) (z : List Float) (k : ℕ) → IsOrder (i .c) (i .n) → k < i .n → getD (ownOrder (i .c) (i .n) z) (getD (i .c) k 0) nan ≡ getD z k nan

@@ -12,9 +12,9 @@ use Rattle.base.specs.Answers.{spot, absent}
 use Rattle.placement.specs.Placing.{firstAt}
 use Rattle.matrix.specs.Input.{Input, rightAt, ownOrder}
 use Rattle.matrix.specs.Questions.{askRight}
-use Rattle.arithmetic.specs.Arith.{Out, ok, met}
+use Rattle.arithmetic.specs.Arith.{Out, ok, met, judged}
 use Rattle.arithmetic.specs.RowEnd.{finiteAll}
-use Rattle.arithmetic.specs.Again.{Factors, solvedAgain}
+use Rattle.arithmetic.specs.Again.{Factors, wholeAgain}
 use Rattle.base.specs.declared.Form.{Form}
 use Rattle.base.specs.declared.Form.the-variants.{Plain, Shared, ByRow}
 use Rattle.base.specs.declared.Side.{Side}
@@ -106,4 +106,4 @@ resolve f i s =
     stop Declined (askShape (i .n) (rightTests i ++ bufferTests f (i .n) (sizes s))) s
     (stop Declined (askRight (i .n) (i .r) (i .c) (i .b)) (scratchCleared s)
     (stop Declined (askFactors f (i .n) s) (scratchCleared s)
-    (resolved i s (solvedAgain (factorsOf f i s)))))
+    (resolved i s (judged (wholeAgain (factorsOf f i s))))))

@@ -10,7 +10,7 @@ use Rattle.fill.specs.Fill.{Pattern, upperRow, lowerRow, flip}
 use Rattle.placement.specs.Placing.{firstAt}
 use Rattle.matrix.specs.Input.{Input, stored, entries, rightAt, ownOrder}
 use Rattle.matrix.specs.Questions.{askSolve}
-use Rattle.arithmetic.specs.Arith.{Fault, zeroPivot, overflow, Out, ok, met, System, Row, none, Result, solved}
+use Rattle.arithmetic.specs.Arith.{Fault, zeroPivot, overflow, Out, ok, met, judged, System, Row, none, Result, wholeRun}
 use Rattle.base.specs.declared.Form.{Form}
 use Rattle.base.specs.declared.Form.the-variants.{Plain, Shared, ByRow}
 use Rattle.base.specs.declared.Side.{Side}
@@ -35,9 +35,9 @@ system i =
       rhs = rightAt i;
     }
 
--- the listed operations up to the first fault: 12 or 13 at the place at work, or factors and z
+-- the listed operations, judged: 12 or 13 at the place at work, or factors and z
 unfoldable pub listed : Input → Out Result
-listed i = solved (system i)
+listed i = judged (wholeRun (system i))
 
 -- 12 and 13
 abbrev pub faultOf : Fault → Refusal

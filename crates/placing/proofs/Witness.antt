@@ -23,8 +23,8 @@ starts = 0 ∷ 2 ∷ 0 ∷ 0 ∷ []
 extent : Extent
 extent = record { used = 2; last = 0; entries = 2 }
 
-tailed : Tailed (take 2 index) runs starts 1 1 0
-unfolding listAt tails countAbove index runs starts
+tailed : Tailed starts runs (take 2 index) 1 1 0
+unfolding listAt tails countAbove starts runs index
 tailed =
     record {
       readable = record { run-in = omega arith; start-in = omega arith; rises = omega arith; inside = omega arith };
@@ -35,8 +35,8 @@ tailed =
 small : Small (2 ∷ [])
 small j h = let e : j ≡ 0 = omega arith in rw e (omega arith)
 
-ready-sharing : Ready Sharing index runs starts 4 (0 ∷ []) (2 ∷ []) 1 extent
-unfolding index runs starts extent
+ready-sharing : Ready Sharing starts runs index 4 (0 ∷ []) (2 ∷ []) 1 extent
+unfolding starts runs index extent
 ready-sharing =
     record {
       readable = λ i d. rw (List·Memᴰ·eq-of-singleton d) tailed;
@@ -50,7 +50,7 @@ ready-sharing =
       small = small;
     }
 
-ready-plain : Ready OneAfterAnother index starts starts 4 (2 ∷ []) (2 ∷ []) 1 extent
+ready-plain : Ready OneAfterAnother starts starts index 4 (2 ∷ []) (2 ∷ []) 1 extent
 unfolding index starts extent
 ready-plain =
     record {

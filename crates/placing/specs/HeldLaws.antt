@@ -19,7 +19,7 @@ use Rattle.placing.specs.Held.{Holding}
 use Rattle.placing.specs.declared.Way.{Way}
 use Rattle.placing.specs.declared.Extent.{Extent}
 
-module _ {way : Way} {T R : ℕ → List ℕ} {values k : ℕ} {index₀ index runs starts : List ℕ} {s : Extent} (held : Holding way T R values k index₀ index runs starts s) where
+module _ {way : Way} {T R : ℕ → List ℕ} {values k : ℕ} {index₀ starts runs index : List ℕ} {s : Extent} (held : Holding way T R values k index₀ starts runs index s) where
   pub slots-same : take (s .used) index ≡ placed (wayOf way) T R k .slots
   slots-same = ap (take (s .used)) (held .slots-are) ∙ take-at (placed (wayOf way) T R k .slots) (drop (s .used) index₀) (s .used) (sym (held .used-is))
 
@@ -64,7 +64,7 @@ module _ {way : Way} {T R : ℕ → List ℕ} {values k : ℕ} {index₀ index r
         (part-append (runOf (placed (wayOf way) T R k) i) (length (T i)) (placed (wayOf way) T R k .slots) (drop (s .used) index₀) (here .all i h .inside)
         ∙ here .all i h .reads)
 
-    pub list-readable : (i : ℕ) → i < k → Readable (take (s .used) index) runs starts i
+    pub list-readable : (i : ℕ) → i < k → Readable starts runs (take (s .used) index) i
     unfolding startOf
     list-readable i h =
         record {
@@ -75,10 +75,10 @@ module _ {way : Way} {T R : ℕ → List ℕ} {values k : ℕ} {index₀ index r
         }
 
 -- before any list is placed
-pub holding-none : (way : Way) (T R : ℕ → List ℕ) (values : ℕ) (index runs starts : List ℕ) → 0 < length starts → getD starts 0 0 ≡ 0
-    → Holding way T R values 0 index index runs starts (record { used = 0; last = 0; entries = 0 })
+pub holding-none : (way : Way) (T R : ℕ → List ℕ) (values : ℕ) (starts runs index : List ℕ) → 0 < length starts → getD starts 0 0 ≡ 0
+    → Holding way T R values 0 index starts runs index (record { used = 0; last = 0; entries = 0 })
 unfolding placed startOf table
-holding-none way T R values index runs starts h z =
+holding-none way T R values starts runs index h z =
     record {
       used-is = refl;
       last-is = refl;
@@ -96,7 +96,7 @@ drop-replicate v (suc u) zero = let e : 0 - suc u ≡ 0 = omega arith in rw e
 drop-replicate v (suc u) (suc n) = rw suc-sub-suc (drop-replicate v u n)
 
 -- a store that was cleared before the first list holds the placed slots and zeros
-pub padded-held : {way : Way} {T R : ℕ → List ℕ} {values k : ℕ} (store : List ℕ) {index runs starts : List ℕ} {s : Extent}
-    → Holding way T R values k (blank 0 store) index runs starts s → index ≡ padded 0 (length store) (placed (wayOf way) T R k .slots)
+pub padded-held : {way : Way} {T R : ℕ → List ℕ} {values k : ℕ} (store : List ℕ) {starts runs index : List ℕ} {s : Extent}
+    → Holding way T R values k (blank 0 store) starts runs index s → index ≡ padded 0 (length store) (placed (wayOf way) T R k .slots)
 unfolding blank padded
 padded-held store {s = s} held = held .slots-are ∙ rw (drop-replicate 0 (s .used) (length store), held .used-is)

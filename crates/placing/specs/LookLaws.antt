@@ -16,66 +16,66 @@ use Rattle.placing.specs.declared.Plan.{Plan}
 use Rattle.placing.specs.declared.Extent.{Extent}
 use Rattle.placing.specs.declared.Look.the-variants.{Fits, Short}
 
-module _ (way : Way) (index runs starts : List ℕ) (values : ℕ) (row list : List ℕ) (k : ℕ) (s : Extent) where
-  pub ready-planning : Ready way index runs starts values row list k s → Planning way (take (s .used) index) runs starts (s .last) k row list
+module _ (way : Way) (starts runs index : List ℕ) (values : ℕ) (row list : List ℕ) (k : ℕ) (s : Extent) where
+  pub ready-planning : Ready way starts runs index values row list k s → Planning way starts runs (take (s .used) index) (s .last) k row list
   ready-planning y = record { readable = y .readable; last-in = omega (arith, length-take-le (s .used) index (y .used-in), y .last-in) }
 
-  within-used : Ready way index runs starts values row list k s
-      → (planOf way index runs starts values row list k s .start ≤ s .used) × (planOf way index runs starts values row list k s .have ≤ length list)
+  within-used : Ready way starts runs index values row list k s
+      → (planOf way starts runs index values row list k s .start ≤ s .used) × (planOf way starts runs index values row list k s .have ≤ length list)
   unfolding planOf
   within-used y =
-      let w = plan-within (take (s .used) index) runs starts (s .last) k row list way (ready-planning y) in
+      let w = plan-within starts runs (take (s .used) index) (s .last) k row list way (ready-planning y) in
       (omega (arith, w .0, length-take-le (s .used) index (y .used-in)), w .1)
 
   -- what the test says
-  pub fits-room : fitsOf way index runs starts values row list k s ≡ true
-      → (s .used + (length list - planOf way index runs starts values row list k s .have) ≤ length index) × (s .entries + length list ≤ values)
+  pub fits-room : fitsOf way starts runs index values row list k s ≡ true
+      → (s .used + (length list - planOf way starts runs index values row list k s .have) ≤ length index) × (s .entries + length list ≤ values)
   unfolding fitsOf
   fits-room t =
-      let q = planOf way index runs starts values row list k s in
+      let q = planOf way starts runs index values row list k s in
       let r = and-cases (leb (s .used + (length list - q .have)) (length index)) (leb (s .entries + length list) values) t in
       (leb-true (s .used + (length list - q .have)) (length index) (r .0), leb-true (s .entries + length list) values (r .1))
 
-  module _ (y : Ready way index runs starts values row list k s) (p : Plan) (is : p ≡ asPlan (planOver way (take (s .used) index) runs starts (s .last) k row list)) where
-    have-is : p .have ≡ planOf way index runs starts values row list k s .have
+  module _ (y : Ready way starts runs index values row list k s) (p : Plan) (is : p ≡ asPlan (planOver way starts runs (take (s .used) index) (s .last) k row list)) where
+    have-is : p .have ≡ planOf way starts runs index values row list k s .have
     unfolding planOf
     have-is = ap (λ x. x .have) is
 
-    pub no-index : length index - s .used < length list - p .have → Short ≡ lookOf way index runs starts values row list k s
+    pub no-index : length index - s .used < length list - p .have → Short ≡ lookOf way starts runs index values row list k s
     unfolding fitsOf lookOf
     no-index h = rw (← have-is, lt-leb (s .used + (length list - p .have)) (length index) (omega (arith, y .used-in)))
 
-    pub no-values : values - s .entries < length list → Short ≡ lookOf way index runs starts values row list k s
+    pub no-values : values - s .entries < length list → Short ≡ lookOf way starts runs index values row list k s
     unfolding fitsOf lookOf
     no-values h =
         rw (lt-leb (s .entries + length list) values (omega (arith, y .entries-in)), and-false)
 
     pub looked-fits : length list - p .have ≤ length index - s .used → length list ≤ values - s .entries
         → (last : ℕ) → last ≡ cond (ltb (p .have) (length list)) (p .start) (s .last)
-        → Fits p (record { used = s .used + (length list - p .have); last = last; entries = s .entries + length list }) ≡ lookOf way index runs starts values row list k s
+        → Fits p (record { used = s .used + (length list - p .have); last = last; entries = s .entries + length list }) ≡ lookOf way starts runs index values row list k s
     unfolding planOf fitsOf lookOf extentOf
     looked-fits h g last e =
-        let q = planOver way (take (s .used) index) runs starts (s .last) k row list in
+        let q = planOver way starts runs (take (s .used) index) (s .last) k row list in
         let i : p .have ≡ q .have = ap (λ x. x .have) is in
         rw (e, is, le-leb (s .used + (length list - q .have)) (length index) (omega (arith, y .used-in)), le-leb (s .entries + length list) values (omega (arith, y .entries-in)))
 
   -- a look that fits: what it found, and what that keeps to
   pub record Looked (p : Plan) (next : Extent) : Type 0 where
-    pub fits : fitsOf way index runs starts values row list k s ≡ true
-    pub is : p ≡ asPlan (planOf way index runs starts values row list k s)
-    pub next-is : next ≡ extentOf way index runs starts values row list k s
+    pub fits : fitsOf way starts runs index values row list k s ≡ true
+    pub is : p ≡ asPlan (planOf way starts runs index values row list k s)
+    pub next-is : next ≡ extentOf way starts runs index values row list k s
     pub start-in : p .start ≤ s .used
     pub have-in : p .have ≤ length list
     pub index-room : s .used + (length list - p .have) ≤ length index
     pub values-room : s .entries + length list ≤ values
 
-  pub looked : Ready way index runs starts values row list k s → (p : Plan) (next : Extent) → lookOf way index runs starts values row list k s ≡ Fits p next → Looked p next
+  pub looked : Ready way starts runs index values row list k s → (p : Plan) (next : Extent) → lookOf way starts runs index values row list k s ≡ Fits p next → Looked p next
   unfolding lookOf
   looked y p next e =
-      by-test (fitsOf way index runs starts values row list k s)
+      by-test (fitsOf way starts runs index values row list k s)
       (λ t.
-      let q = planOf way index runs starts values row list k s in
-      let f : Fits (asPlan q) (extentOf way index runs starts values row list k s) ≡ Fits p next = rw t at e in
+      let q = planOf way starts runs index values row list k s in
+      let f : Fits (asPlan q) (extentOf way starts runs index values row list k s) ≡ Fits p next = rw t at e in
       let i : p ≡ asPlan q = cc in
       let w = within-used y in
       let r = fits-room t in
@@ -90,9 +90,9 @@ module _ (way : Way) (index runs starts : List ℕ) (values : ℕ) (row list : L
       })
       (λ t. let f : Short ≡ Fits p next = rw t at e in let z : _≡_ {A = ℕ} 0 1 = cc in absurd (omega arith))
 
-  pub not-looked : lookOf way index runs starts values row list k s ≡ Short → fitsOf way index runs starts values row list k s ≡ false
+  pub not-looked : lookOf way starts runs index values row list k s ≡ Short → fitsOf way starts runs index values row list k s ≡ false
   unfolding lookOf
   not-looked e =
-      by-test (fitsOf way index runs starts values row list k s)
+      by-test (fitsOf way starts runs index values row list k s)
       (λ t. let f : Fits _ _ ≡ Short = rw t at e in let z : _≡_ {A = ℕ} 0 1 = cc in absurd (omega arith))
       (λ t. t)

@@ -7,7 +7,7 @@ use native.Mathlib.Omega.{arith}
 use native.Mathlib.Numerals.{add-one}
 use native.Mathlib.Decide.{decLt}
 use lib.ListN.{set, length-drop, length, take, drop, getD, drop-of-length-le}
-use lib.Seq.{paste, drop-cons, take-all}
+use lib.Seq.{paste, paste-suc, drop-cons, take-all}
 use lib.Dec.{ltb, eqb}
 use borrow.Author.Tests.{lt-ltb, le-ltb, eq-eqb, ne-eqb}
 use Rattle.placement.specs.Placing.{firstAt, agree, fresh, appendAll, meets, overlap}
@@ -16,6 +16,11 @@ use Rattle.base.specs.Tests.{by-test}
 
 pub drop-at-one : {A : Type 0} (l : List A) (j : ℕ) (d : A) → j < length l → drop j l ≡ getD l j d ∷ drop (j + 1) l
 drop-at-one l j d h = rw (add-one, drop-cons l j d)
+
+-- entry j of a list is appended
+pub append-turn : (index₀ index rest : List ℕ) (used j v : ℕ) → index ≡ paste index₀ used rest j → v ≡ getD rest j 0 → j < length rest → used + length rest ≤ length index₀
+    → set index (used + j) v ≡ paste index₀ used rest (j + 1)
+append-turn index₀ index rest used j v e f h l = rw (e, f, add-one) (paste-suc index₀ used rest j 0 (omega arith) h)
 
 module _ (x : ℕ) (l : List ℕ) (j : ℕ) where
   pub first-end : length l ≤ j → firstAt x (drop j l) ≡ 0

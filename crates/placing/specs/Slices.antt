@@ -24,24 +24,24 @@ use Rattle.placing.specs.declared.Match.the-variants.{Same, Differs}
 use Rattle.base.specs.Index.{indexBound}
 
 -- place i's starts are in their slices, and its run is in the store
-pub record Readable (slots runs starts : List ℕ) (i : ℕ) : Type 0 where
+pub record Readable (starts runs slots : List ℕ) (i : ℕ) : Type 0 where
   pub run-in : i < length runs
   pub start-in : i + 1 < length starts
   pub rises : getD starts i 0 ≤ getD starts (i + 1) 0
   pub inside : getD runs i 0 + (getD starts (i + 1) 0 - getD starts i 0) ≤ length slots
 
 -- place i's list ascends, and has at most count entries above k
-pub record Tailed (slots runs starts : List ℕ) (k count i : ℕ) : Type 0 where
-  pub readable : Readable slots runs starts i
+pub record Tailed (starts runs slots : List ℕ) (k count i : ℕ) : Type 0 where
+  pub readable : Readable starts runs slots i
   pub ascends : Ascends 0 (listAt starts runs slots i)
   pub most : tails (listAt starts runs slots) k i ≤ count
 
 abbrev pub AllTailed : List ℕ → List ℕ → List ℕ → ℕ → ℕ → List ℕ → Type 0
-AllTailed slots runs starts k count row = (i : ℕ) → List·Memᴰ i row → Tailed slots runs starts k count i
+AllTailed starts runs slots k count row = (i : ℕ) → List·Memᴰ i row → Tailed starts runs slots k count i
 
 -- the list of the row's place j has count entries above k
 unfoldable pub fullAt : List ℕ → List ℕ → List ℕ → ℕ → ℕ → List ℕ → ℕ → Bool
-fullAt slots runs starts k count row j = eqb (tails (listAt starts runs slots) k (getD row j 0)) count
+fullAt starts runs slots k count row j = eqb (tails (listAt starts runs slots) k (getD row j 0)) count
 
 -- a tail by its numbers
 pub record IsTail (t : placement.Tail) (at most : ℕ) : Type 0 where
@@ -54,23 +54,23 @@ asPlan p = record { start = p .start; have = p .have }
 
 -- what the code asks of its row: nothing in the plain way, which reads no list
 abbrev pub Reads : Way → List ℕ → List ℕ → List ℕ → ℕ → List ℕ → List ℕ → Type 0
-Reads OneAfterAnother slots runs starts k row list = Unit {0}
-Reads Sharing slots runs starts k row list = AllTailed slots runs starts k (length list) row
+Reads OneAfterAnother starts runs slots k row list = Unit {0}
+Reads Sharing starts runs slots k row list = AllTailed starts runs slots k (length list) row
 
 -- place i's starts are in their slices, and its list has that many entries or more
-pub record TailIn (runs starts : List ℕ) (i most : ℕ) : Type 0 where
+pub record TailIn (starts runs : List ℕ) (i most : ℕ) : Type 0 where
   pub run-in : i < length runs
   pub start-in : i + 1 < length starts
   pub fits : getD starts i 0 + most ≤ getD starts (i + 1) 0
 
 -- what the code asks before it plans
-pub record Planning (way : Way) (slots runs starts : List ℕ) (last k : ℕ) (row list : List ℕ) : Type 0 where
-  pub readable : Reads way slots runs starts k row list
+pub record Planning (way : Way) (starts runs slots : List ℕ) (last k : ℕ) (row list : List ℕ) : Type 0 where
+  pub readable : Reads way starts runs slots k row list
   pub last-in : last ≤ length slots
 
 -- the plan for place k over what the slices hold
 unfoldable pub planOver : Way → List ℕ → List ℕ → List ℕ → ℕ → ℕ → List ℕ → List ℕ → placement.Plan
-planOver way slots runs starts last k row list = wayOf way (listAt starts runs slots) (runAt runs) slots last k row list
+planOver way starts runs slots last k row list = wayOf way (listAt starts runs slots) (runAt runs) slots last k row list
 
 -- a plan, with its start within the used slots and what stands already within the list
 pub record Planned (slots list : List ℕ) (p : placement.Plan) (r : Plan) : Type 0 where
@@ -83,8 +83,8 @@ abbrev pub Small : List ℕ → Type 0
 Small list = (j : ℕ) → j < length list → getD list j 0 < indexBound
 
 -- what the code asks of the slices before it places or compares the list of place k
-pub record Ready (way : Way) (index runs starts : List ℕ) (values : ℕ) (row list : List ℕ) (k : ℕ) (s : Extent) : Type 0 where
-  pub readable : Reads way (take (s .used) index) runs starts k row list
+pub record Ready (way : Way) (starts runs index : List ℕ) (values : ℕ) (row list : List ℕ) (k : ℕ) (s : Extent) : Type 0 where
+  pub readable : Reads way starts runs (take (s .used) index) k row list
   pub used-in : s .used ≤ length index
   pub last-in : s .last ≤ s .used
   pub entries-in : s .entries ≤ values
@@ -94,10 +94,10 @@ pub record Ready (way : Way) (index runs starts : List ℕ) (values : ℕ) (row 
   pub value-limit : values < 4294967296
   pub small : Small list
 
-module _ (way : Way) (index runs starts : List ℕ) (values : ℕ) (row list : List ℕ) (k : ℕ) (s : Extent) where
+module _ (way : Way) (starts runs index : List ℕ) (values : ℕ) (row list : List ℕ) (k : ℕ) (s : Extent) where
   -- the plan over the used slots
   unfoldable pub planOf : placement.Plan
-  planOf = planOver way (take (s .used) index) runs starts (s .last) k row list
+  planOf = planOver way starts runs (take (s .used) index) (s .last) k row list
 
   -- questions 10 and 11: does the list fit the index and the value store?
   unfoldable pub fitsOf : Bool
@@ -119,7 +119,7 @@ module _ (way : Way) (index runs starts : List ℕ) (values : ℕ) (row list : L
 -- ---- writing
 
 -- what the code asks before it writes: the list has room, and its entries fit their slots
-pub record Writable (index starts list : List ℕ) (k : ℕ) (s : Extent) (have : ℕ) : Type 0 where
+pub record Writable (starts index list : List ℕ) (k : ℕ) (s : Extent) (have : ℕ) : Type 0 where
   pub have-in : have ≤ length list
   pub index-room : s .used + (length list - have) ≤ length index
   pub start-room : k + 1 < length starts
@@ -127,22 +127,22 @@ pub record Writable (index starts list : List ℕ) (k : ℕ) (s : Extent) (have 
   pub small : Small list
 
 -- the slots after the used ones hold what the list lacks, list start k + 1 the entries so far; all else is as it was
-pub record WrittenBy (index starts list : List ℕ) (k : ℕ) (s : Extent) (have : ℕ) (index′ starts′ : List ℕ) : Type 0 where
+pub record WrittenBy (starts index list : List ℕ) (k : ℕ) (s : Extent) (have : ℕ) (starts′ index′ : List ℕ) : Type 0 where
   pub index-is : index′ ≡ paste index (s .used) (drop have list) (length list - have)
   pub starts-are : starts′ ≡ set starts (k + 1) (s .entries + length list)
 
 -- the answer of placing place k's list, and the index store and the list starts at exit
-pub record Writes (way : Way) (index runs starts : List ℕ) (values : ℕ) (row list : List ℕ) (k : ℕ) (s : Extent) (r : Put) (index′ starts′ : List ℕ) : Type 0 where
-  pub answer : r ≡ cond (fitsOf way index runs starts values row list k s) (Done (extentOf way index runs starts values row list k s)) Full
-  pub index-is : index′ ≡ cond (fitsOf way index runs starts values row list k s)
-      (paste index (s .used) (drop (planOf way index runs starts values row list k s .have) list) (length list - planOf way index runs starts values row list k s .have))
+pub record Writes (way : Way) (starts runs index : List ℕ) (values : ℕ) (row list : List ℕ) (k : ℕ) (s : Extent) (r : Put) (starts′ index′ : List ℕ) : Type 0 where
+  pub answer : r ≡ cond (fitsOf way starts runs index values row list k s) (Done (extentOf way starts runs index values row list k s)) Full
+  pub index-is : index′ ≡ cond (fitsOf way starts runs index values row list k s)
+      (paste index (s .used) (drop (planOf way starts runs index values row list k s .have) list) (length list - planOf way starts runs index values row list k s .have))
       index
-  pub starts-are : starts′ ≡ cond (fitsOf way index runs starts values row list k s) (set starts (k + 1) (s .entries + length list)) starts
+  pub starts-are : starts′ ≡ cond (fitsOf way starts runs index values row list k s) (set starts (k + 1) (s .entries + length list)) starts
 
 -- ---- comparing
 
 -- what the code asks before it compares
-pub record Standing (index runs starts list : List ℕ) (k : ℕ) (s : Extent) (p : Plan) : Type 0 where
+pub record Standing (starts runs index list : List ℕ) (k : ℕ) (s : Extent) (p : Plan) : Type 0 where
   pub have-in : p .have ≤ length list
   pub index-room : s .used + (length list - p .have) ≤ length index
   pub run-room : k < length runs
@@ -151,13 +151,13 @@ pub record Standing (index runs starts list : List ℕ) (k : ℕ) (s : Extent) (
 
 -- run start k, list starts k and k + 1 and what would be appended stand in the stores already
 unfoldable pub sameAt : List ℕ → List ℕ → List ℕ → List ℕ → ℕ → Extent → Plan → Bool
-sameAt index runs starts list k s p =
+sameAt starts runs index list k s p =
     eqb (getD runs k 0) (p .start) && eqb (getD starts k 0) (s .entries) && eqb (getD starts (k + 1) 0) (s .entries + length list)
     && agree (take (length list - p .have) (drop (s .used) index)) (drop (p .have) list)
 
 -- the answer of comparing
 unfoldable pub matchOf : Way → List ℕ → List ℕ → List ℕ → ℕ → List ℕ → List ℕ → ℕ → Extent → Match
-matchOf way index runs starts values row list k s =
-    cond (fitsOf way index runs starts values row list k s)
-    (cond (sameAt index runs starts list k s (asPlan (planOf way index runs starts values row list k s))) (Same (extentOf way index runs starts values row list k s)) Differs)
+matchOf way starts runs index values row list k s =
+    cond (fitsOf way starts runs index values row list k s)
+    (cond (sameAt starts runs index list k s (asPlan (planOf way starts runs index values row list k s))) (Same (extentOf way starts runs index values row list k s)) Differs)
     Differs

@@ -77,11 +77,11 @@ tail-most T R n k i h l d =
     )
 
 reads-way : (way : Way) (T R : ℕ → List ℕ) (n k : ℕ) → Suited way T R n → k < n → (row list : List ℕ) → RowIs way (R k) row → list ≡ T k
-    → (slots runs starts : List ℕ) → ((i : ℕ) → i < k → Readable slots runs starts i) → ((i : ℕ) → i < k → listAt starts runs slots i ≡ T i)
-    → Reads way slots runs starts k row list
+    → (starts runs slots : List ℕ) → ((i : ℕ) → i < k → Readable starts runs slots i) → ((i : ℕ) → i < k → listAt starts runs slots i ≡ T i)
+    → Reads way starts runs slots k row list
 unfolding tails
-reads-way OneAfterAnother T R n k h l row list e q slots runs starts f g = tt
-reads-way Sharing T R n k h l row list e q slots runs starts f g = λ i d.
+reads-way OneAfterAnother T R n k h l row list e q starts runs slots f g = tt
+reads-way Sharing T R n k h l row list e q starts runs slots f g = λ i d.
     let m : List·Memᴰ i (R k) = rw e at d in
     let b = h .lower k l i m in
     record {
@@ -99,8 +99,8 @@ small-asc p n h j l = omega (arith, mem-asc p n (getD (asc p n) j 0) (mem-at (as
 past-used : (slots index index₀ : List ℕ) (u m : ℕ) → index ≡ slots ++ drop u index₀ → u ≡ length slots → drop (u + m) index ≡ drop (u + m) index₀
 past-used slots index index₀ u m e f = rw (e, f, drop-append-add slots (drop (length slots) index₀) m) (drop-drop m (length slots) index₀)
 
-module _ {way : Way} {T R : ℕ → List ℕ} {n values k : ℕ} {index₀ index runs starts row list : List ℕ} {s : Extent}
-    (turn : Turn way T R n values k index₀ index runs starts row list s) where
+module _ {way : Way} {T R : ℕ → List ℕ} {n values k : ℕ} {index₀ starts runs index row list : List ℕ} {s : Extent}
+    (turn : Turn way T R n values k index₀ starts runs index row list s) where
   upto : k ≤ n
   upto = omega (arith, turn .below)
 
@@ -109,10 +109,10 @@ module _ {way : Way} {T R : ℕ → List ℕ} {n values k : ℕ} {index₀ index
 
   -- what the code asks holds at a turn, where the stores are within 32 bits
   pub turn-ready : k < length runs → k + 1 < length starts → length index₀ < 4294967296 → values < 4294967296 → Small list
-      → Ready way index runs starts values row list k s
+      → Ready way starts runs index values row list k s
   turn-ready a b c d e =
       record {
-        readable = reads-way way T R n k (turn .suited) (turn .below) row list (turn .row-is) (turn .list-is) (take (s .used) index) runs starts
+        readable = reads-way way T R n k (turn .suited) (turn .below) row list (turn .row-is) (turn .list-is) starts runs (take (s .used) index)
             (list-readable (turn .held) n (turn .suited) upto) (list-used (turn .held) n (turn .suited) upto);
         used-in = omega (arith, turn .held .used-in, index-long (turn .held));
         last-in = omega (arith, turn .held .last-is, turn .held .used-is, here .ended);
@@ -124,7 +124,7 @@ module _ {way : Way} {T R : ℕ → List ℕ} {n values k : ℕ} {index₀ index
         small = e;
       }
 
-  pub plan-same : planOf way index runs starts values row list k s ≡ planAt (wayOf way) T R (placed (wayOf way) T R k) k
+  pub plan-same : planOf way starts runs index values row list k s ≡ planAt (wayOf way) T R (placed (wayOf way) T R k) k
   unfolding planOf planOver
   plan-same =
       plan-way way T R n k (turn .suited) (turn .below) row (turn .row-is) (listAt starts runs (take (s .used) index)) (runOf (placed (wayOf way) T R k)) (runAt runs)
@@ -132,20 +132,20 @@ module _ {way : Way} {T R : ℕ → List ℕ} {n values k : ℕ} {index₀ index
       ∙ rw (slots-same (turn .held), turn .held .last-is, turn .list-is)
 
   -- the code's test is question 10 or 11 at k
-  pub fits-same : fitsOf way index runs starts values row list k s ≡ room (wayOf way) T R (length index₀) values k
+  pub fits-same : fitsOf way starts runs index values row list k s ≡ room (wayOf way) T R (length index₀) values k
   unfolding fitsOf placed startOf
   fits-same =
       rw (plan-same, turn .list-is, index-long (turn .held), turn .held .used-is, turn .held .entries-are, after-length (placed (wayOf way) T R k) (T k) (planAt (wayOf way) T R (placed (wayOf way) T R k) k))
 
   -- stores that hold k's list besides
-  pub next-held : fitsOf way index runs starts values row list k s ≡ true → (index′ runs′ starts′ : List ℕ)
-      → index′ ≡ placed (wayOf way) T R (suc k) .slots ++ drop (extentOf way index runs starts values row list k s .used) index₀
-      → take (suc k) runs′ ≡ take k runs ++ (planOf way index runs starts values row list k s .start ∷ [])
+  pub next-held : fitsOf way starts runs index values row list k s ≡ true → (starts′ runs′ index′ : List ℕ)
+      → index′ ≡ placed (wayOf way) T R (suc k) .slots ++ drop (extentOf way starts runs index values row list k s .used) index₀
+      → take (suc k) runs′ ≡ take k runs ++ (planOf way starts runs index values row list k s .start ∷ [])
       → take (suc (suc k)) starts′ ≡ take (suc k) starts ++ ((s .entries + length list) ∷ [])
-      → Holding way T R values (suc k) index₀ index′ runs′ starts′ (extentOf way index runs starts values row list k s)
+      → Holding way T R values (suc k) index₀ starts′ runs′ index′ (extentOf way starts runs index values row list k s)
   unfolding placed after startOf extentOf table
-  next-held t index′ runs′ starts′ a b c =
-      let r = fits-room way index runs starts values row list k s t in
+  next-held t starts′ runs′ index′ a b c =
+      let r = fits-room way starts runs index values row list k s t in
       record {
         used-is = rw (plan-same, turn .list-is, turn .held .used-is) (sym (after-length (placed (wayOf way) T R k) (T k) (planAt (wayOf way) T R (placed (wayOf way) T R k) k)));
         last-is = rw (plan-same, turn .list-is, turn .held .last-is);
@@ -158,84 +158,84 @@ module _ {way : Way} {T R : ℕ → List ℕ} {n values k : ℕ} {index₀ index
       }
 
   -- the index store once what the list lacks is written
-  written-slots : paste index (s .used) (drop (planOf way index runs starts values row list k s .have) list) (length list - planOf way index runs starts values row list k s .have)
-      ≡ placed (wayOf way) T R (suc k) .slots ++ drop (extentOf way index runs starts values row list k s .used) index₀
+  written-slots : paste index (s .used) (drop (planOf way starts runs index values row list k s .have) list) (length list - planOf way starts runs index values row list k s .have)
+      ≡ placed (wayOf way) T R (suc k) .slots ++ drop (extentOf way starts runs index values row list k s .used) index₀
   unfolding placed after extentOf
   written-slots =
-      let have = planOf way index runs starts values row list k s .have in
+      let have = planOf way starts runs index values row list k s .have in
       let m = length list - have in
       rw (take-rest have list, slots-same (turn .held), past-used (placed (wayOf way) T R k .slots) index index₀ (s .used) m (turn .held .slots-are) (turn .held .used-is), plan-same, turn .list-is)
 
-  pub stepped : (r : Put) (index′ runs′ starts′ : List ℕ) → Writes way index runs starts values row list k s r index′ starts′ → k + 1 < length starts
-      → (fitsOf way index runs starts values row list k s ≡ true → take (suc k) runs′ ≡ take k runs ++ (planOf way index runs starts values row list k s .start ∷ []))
-      → Stepped way T R values k index₀ index′ runs′ starts′ r
-  stepped r index′ runs′ starts′ w l f =
-      by-test (fitsOf way index runs starts values row list k s)
+  pub stepped : (r : Put) (starts′ runs′ index′ : List ℕ) → Writes way starts runs index values row list k s r starts′ index′ → k + 1 < length starts
+      → (fitsOf way starts runs index values row list k s ≡ true → take (suc k) runs′ ≡ take k runs ++ (planOf way starts runs index values row list k s .start ∷ []))
+      → Stepped way T R values k index₀ starts′ runs′ index′ r
+  stepped r starts′ runs′ index′ w l f =
+      by-test (fitsOf way starts runs index values row list k s)
       (λ t.
-      let e : r ≡ Done (extentOf way index runs starts values row list k s) = w .answer ∙ rw t in
+      let e : r ≡ Done (extentOf way starts runs index values row list k s) = w .answer ∙ rw t in
       let g : starts′ ≡ set starts (k + 1) (s .entries + length list) = w .starts-are ∙ rw t in
       rw e (
         sym fits-same ∙ t,
-        next-held t index′ runs′ starts′ (w .index-is ∙ rw t written-slots) (f t)
+        next-held t starts′ runs′ index′ (w .index-is ∙ rw t written-slots) (f t)
             (ap (take (suc (suc k))) g ∙ rw (add-one) (take-suc-set starts (suc k) (s .entries + length list) (omega arith))),
       ))
       (λ t. let e : r ≡ Full = w .answer ∙ rw t in rw e (sym fits-same ∙ t))
 
 -- ---- what the calls that write promise
 
-module _ (way : Way) (index runs starts : List ℕ) (values : ℕ) (row list : List ℕ) (k : ℕ) (s : Extent) where
-  pub writes-full : fitsOf way index runs starts values row list k s ≡ false → Writes way index runs starts values row list k s Full index starts
+module _ (way : Way) (starts runs index : List ℕ) (values : ℕ) (row list : List ℕ) (k : ℕ) (s : Extent) where
+  pub writes-full : fitsOf way starts runs index values row list k s ≡ false → Writes way starts runs index values row list k s Full starts index
   writes-full e = record { answer = rw e; index-is = rw e; starts-are = rw e }
 
-  pub writes-done : (p : Plan) (next : Extent) → Looked way index runs starts values row list k s p next → (index′ starts′ : List ℕ)
-      → WrittenBy index starts list k s (p .have) index′ starts′ → Writes way index runs starts values row list k s (Done next) index′ starts′
-  writes-done p next w index′ starts′ b =
-      let h : p .have ≡ planOf way index runs starts values row list k s .have = ap (λ x. x .have) (w .is) in
+  pub writes-done : (p : Plan) (next : Extent) → Looked way starts runs index values row list k s p next → (starts′ index′ : List ℕ)
+      → WrittenBy starts index list k s (p .have) starts′ index′ → Writes way starts runs index values row list k s (Done next) starts′ index′
+  writes-done p next w starts′ index′ b =
+      let h : p .have ≡ planOf way starts runs index values row list k s .have = ap (λ x. x .have) (w .is) in
       record { answer = rw (w .fits, w .next-is); index-is = rw (w .fits, ← h) (b .index-is); starts-are = rw (w .fits) (b .starts-are) }
 
-  pub place-done : Ready way index runs starts values row list k s → (p : Plan) (next : Extent) → Looked way index runs starts values row list k s p next
-      → (index′ runs′ starts′ : List ℕ) → WrittenBy index starts list k s (p .have) index′ starts′ → runs′ ≡ set runs k (p .start)
-      → PlaceEnds way index runs starts values row list k s (Done next) index′ runs′ starts′
-  place-done y p next w index′ runs′ starts′ b e =
-      let h : p .start ≡ planOf way index runs starts values row list k s .start = ap (λ x. x .start) (w .is) in
-      let v = writes-done p next w index′ starts′ b in
+  pub place-done : Ready way starts runs index values row list k s → (p : Plan) (next : Extent) → Looked way starts runs index values row list k s p next
+      → (starts′ runs′ index′ : List ℕ) → WrittenBy starts index list k s (p .have) starts′ index′ → runs′ ≡ set runs k (p .start)
+      → PlaceEnds way starts runs index values row list k s (Done next) starts′ runs′ index′
+  place-done y p next w starts′ runs′ index′ b e =
+      let h : p .start ≡ planOf way starts runs index values row list k s .start = ap (λ x. x .start) (w .is) in
+      let v = writes-done p next w starts′ index′ b in
       record {
         writes = v;
         runs-are = rw (w .fits, ← h) e;
-        steps = λ T R n index₀ turn. stepped turn (Done next) index′ runs′ starts′ v (y .start-room) (λ t. rw (← h) (ap (take (suc k)) e ∙ take-suc-set runs k (p .start) (y .run-room)));
+        steps = λ T R n index₀ turn. stepped turn (Done next) starts′ runs′ index′ v (y .start-room) (λ t. rw (← h) (ap (take (suc k)) e ∙ take-suc-set runs k (p .start) (y .run-room)));
       }
 
-  pub place-full : Ready way index runs starts values row list k s → fitsOf way index runs starts values row list k s ≡ false
-      → PlaceEnds way index runs starts values row list k s Full index runs starts
+  pub place-full : Ready way starts runs index values row list k s → fitsOf way starts runs index values row list k s ≡ false
+      → PlaceEnds way starts runs index values row list k s Full starts runs index
   place-full y e =
       let v = writes-full e in
       record {
         writes = v;
         runs-are = rw e;
-        steps = λ T R n index₀ turn. stepped turn Full index runs starts v (y .start-room) (λ t. absurd (true≢false (sym t ∙ e)));
+        steps = λ T R n index₀ turn. stepped turn Full starts runs index v (y .start-room) (λ t. absurd (true≢false (sym t ∙ e)));
       }
 
 -- in the plain way list start k is where k's run starts
-plain-run : {T R : ℕ → List ℕ} {n values k : ℕ} {index₀ index starts row list : List ℕ} {s : Extent} (starts′ : List ℕ)
-    → Turn OneAfterAnother T R n values k index₀ index starts starts row list s → starts′ ≡ set starts (k + 1) (s .entries + length list)
-    → take (suc k) starts′ ≡ take k starts ++ (planOf OneAfterAnother index starts starts values row list k s .start ∷ [])
+plain-run : {T R : ℕ → List ℕ} {n values k : ℕ} {index₀ starts index row list : List ℕ} {s : Extent} (starts′ : List ℕ)
+    → Turn OneAfterAnother T R n values k index₀ starts starts index row list s → starts′ ≡ set starts (k + 1) (s .entries + length list)
+    → take (suc k) starts′ ≡ take k starts ++ (planOf OneAfterAnother starts starts index values row list k s .start ∷ [])
 unfolding planOf planOver plain appendAll
-plain-run {T} {R} {n} {values} {k} {index₀} {index} {starts} {row} {list} {s} starts′ turn e =
+plain-run {T} {R} {n} {values} {k} {index₀} {starts} {index} {row} {list} {s} starts′ turn e =
     ap (take (suc k)) e
     ∙ take-set-le (suc k) starts (k + 1) (s .entries + length list) (omega arith)
     ∙ take-suc starts k 0 (starts-long (turn .held))
     ∙ rw (start-same (turn .held) k (omega arith), slots-same (turn .held), plain-starts T R k .1)
 
-module _ (index starts : List ℕ) (values : ℕ) (list : List ℕ) (k : ℕ) (s : Extent) where
-  pub plain-done : Ready OneAfterAnother index starts starts values list list k s → (p : Plan) (next : Extent)
-      → Looked OneAfterAnother index starts starts values list list k s p next
-      → (index′ starts′ : List ℕ) → WrittenBy index starts list k s (p .have) index′ starts′ → PlainEnds index starts values list k s (Done next) index′ starts′
-  plain-done y p next w index′ starts′ b =
-      let v = writes-done OneAfterAnother index starts starts values list list k s p next w index′ starts′ b in
-      record { writes = v; steps = λ T R n index₀ turn. stepped turn (Done next) index′ starts′ starts′ v (y .start-room) (λ t. plain-run starts′ turn (b .starts-are)) }
+module _ (starts index : List ℕ) (values : ℕ) (list : List ℕ) (k : ℕ) (s : Extent) where
+  pub plain-done : Ready OneAfterAnother starts starts index values list list k s → (p : Plan) (next : Extent)
+      → Looked OneAfterAnother starts starts index values list list k s p next
+      → (starts′ index′ : List ℕ) → WrittenBy starts index list k s (p .have) starts′ index′ → PlainEnds starts index values list k s (Done next) starts′ index′
+  plain-done y p next w starts′ index′ b =
+      let v = writes-done OneAfterAnother starts starts index values list list k s p next w starts′ index′ b in
+      record { writes = v; steps = λ T R n index₀ turn. stepped turn (Done next) starts′ starts′ index′ v (y .start-room) (λ t. plain-run starts′ turn (b .starts-are)) }
 
-  pub plain-full : Ready OneAfterAnother index starts starts values list list k s → fitsOf OneAfterAnother index starts starts values list list k s ≡ false
-      → PlainEnds index starts values list k s Full index starts
+  pub plain-full : Ready OneAfterAnother starts starts index values list list k s → fitsOf OneAfterAnother starts starts index values list list k s ≡ false
+      → PlainEnds starts index values list k s Full starts index
   plain-full y e =
-      let v = writes-full OneAfterAnother index starts starts values list list k s e in
-      record { writes = v; steps = λ T R n index₀ turn. stepped turn Full index starts starts v (y .start-room) (λ t. absurd (true≢false (sym t ∙ e))) }
+      let v = writes-full OneAfterAnother starts starts index values list list k s e in
+      record { writes = v; steps = λ T R n index₀ turn. stepped turn Full starts starts index v (y .start-room) (λ t. absurd (true≢false (sym t ∙ e))) }

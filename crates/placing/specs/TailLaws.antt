@@ -15,7 +15,7 @@ use Rattle.base.specs.Tests.{by-test, true-ext}
 use Rattle.base.specs.declared.Found.the-variants.{At, Nothing}
 use Rattle.placement.specs.Placing.{countAbove, tails, bestFrom, best}
 use Rattle.placement.specs.ListLaws.{Ascends, count-all, count-tail, count-le, mem-at}
-use Rattle.placing.specs.Slices.{Readable, Tailed, AllTailed, fullAt, IsTail}
+use Rattle.placing.specs.Slices.{TailIn, Readable, Tailed, AllTailed, fullAt, IsTail}
 
 count-append : (k : ℕ) (xs ys : List ℕ) → countAbove k (xs ++ ys) ≡ countAbove k xs + countAbove k ys
 unfolding countAbove
@@ -41,38 +41,47 @@ above-test k c m xs a pos h le =
     let b : Ascends (suc k) (getD xs d 0 ∷ drop (suc d) xs) = rw (e, drop-cons xs d 0 in-list) at (count-tail k m xs a) in
     lt-ltb k (getD xs d 0) (b .0))
 
-pub list-length : (slots runs starts : List ℕ) (i : ℕ) → Readable slots runs starts i → length (listAt starts runs slots i) ≡ getD starts (i + 1) 0 - getD starts i 0
+pub list-length : (starts runs slots : List ℕ) (i : ℕ) → Readable starts runs slots i → length (listAt starts runs slots i) ≡ getD starts (i + 1) 0 - getD starts i 0
 unfolding listAt
-list-length slots runs starts i h =
+list-length starts runs slots i h =
     length-take-le (getD starts (i + 1) 0 - getD starts i 0) (drop (getD runs i 0) slots) (simp length-drop (omega (arith, h .inside)))
 
 -- ---- by what the code reads
 
-pub tailed-at : (slots runs starts : List ℕ) (k count p i : ℕ) → p ≡ i → Tailed slots runs starts k count i → Tailed slots runs starts k count p
-tailed-at slots runs starts k count p i e r = rw e r
+-- the starts of place i, read at p
+pub rise-at : (s : List ℕ) (p i : ℕ) → p ≡ i → getD s i 0 ≤ getD s (i + 1) 0 → getD s p 0 ≤ getD s (p + 1) 0
+rise-at s p i e h = rw e h
 
-module _ (slots runs starts : List ℕ) (k count i p x y : ℕ) (r : Tailed slots runs starts k count i) (e : p ≡ i) (f : x ≡ getD starts (p + 1) 0) (g : y ≡ getD starts p 0) where
-  size-is : x - y ≡ length (listAt starts runs slots i)
-  size-is = rw (f, g, e) (sym (list-length slots runs starts i (r .readable)))
+pub length-at : (s : List ℕ) (p i x y : ℕ) → p ≡ i → x ≡ getD s (p + 1) 0 → y ≡ getD s p 0 → x - y ≡ getD s (i + 1) 0 - getD s i 0
+length-at s p i x y e f g = rw (f, g, e)
 
-  pub tail-short : x - y < count → false ≡ eqb (tails (listAt starts runs slots) k i) count
+module _ (starts runs slots : List ℕ) (k count i m : ℕ) (r : Tailed starts runs slots k count i) (e : m ≡ getD starts (i + 1) 0 - getD starts i 0) where
+  size-is : m ≡ length (listAt starts runs slots i)
+  size-is = e ∙ sym (list-length starts runs slots i (r .readable))
+
+  pub tail-short : m < count → false ≡ eqb (tails (listAt starts runs slots) k i) count
   unfolding tails
   tail-short h =
       sym (ne-eqb (countAbove k (listAt starts runs slots i)) count (λ q. absurd (omega (arith, count-le k (listAt starts runs slots i), size-is))))
 
-  entry-at : (z : ℕ) → z ≡ getD runs p 0 → 0 < count → count ≤ x - y → getD (listAt starts runs slots i) (x - y - count) 0 ≡ getD slots (z + (x - y - count)) 0
-  unfolding listAt
-  entry-at z h pos l =
-      let n : x - y ≡ getD starts (i + 1) 0 - getD starts i 0 = rw (f, g, e) in
-      getD-take (getD starts (i + 1) 0 - getD starts i 0) (drop (getD runs i 0) slots) (x - y - count) 0 (omega arith)
-      ∙ getD-drop (getD runs i 0) slots (x - y - count) 0 ∙ rw (h, e)
+  pub tail-in : count ≤ m → TailIn starts runs i count
+  tail-in h = record { run-in = r .readable .run-in; start-in = r .readable .start-in; fits = omega (arith, r .readable .rises) }
 
-  pub tail-told : (z v : ℕ) → z ≡ getD runs p 0 → v ≡ getD slots (z + (x - y - count)) 0 → 0 < count → count ≤ x - y → ltb k v ≡ eqb (tails (listAt starts runs slots) k i) count
-  unfolding tails
-  tail-told z v h q pos l =
-      let entry : getD (listAt starts runs slots i) (length (listAt starts runs slots i) - count) 0 ≡ v =
-      ap (λ n. getD (listAt starts runs slots i) (n - count) 0) (sym size-is) ∙ entry-at z h pos l ∙ sym q in
-      rw (← entry) (above-test k count 0 (listAt starts runs slots i) (r .ascends) pos (omega (arith, size-is)) (r .most))
+  module _ (z : ℕ) (f : z ≡ getD runs i 0 + (getD starts (i + 1) 0 - getD starts i 0 - count)) (pos : 0 < count) (l : count ≤ m) where
+    pub tail-slot : z < length slots
+    tail-slot = omega (arith, r .readable .inside)
+
+    entry-at : getD (listAt starts runs slots i) (length (listAt starts runs slots i) - count) 0 ≡ getD slots z 0
+    unfolding listAt
+    entry-at =
+        ap (λ n. getD (listAt starts runs slots i) (n - count) 0) (sym size-is ∙ e)
+        ∙ getD-take (getD starts (i + 1) 0 - getD starts i 0) (drop (getD runs i 0) slots) (getD starts (i + 1) 0 - getD starts i 0 - count) 0 (omega arith)
+        ∙ getD-drop (getD runs i 0) slots (getD starts (i + 1) 0 - getD starts i 0 - count) 0 ∙ rw f
+
+    pub tail-told : (v : ℕ) → v ≡ getD slots z 0 → ltb k v ≡ eqb (tails (listAt starts runs slots) k i) count
+    unfolding tails
+    tail-told v q =
+        rw (q, ← entry-at) (above-test k count 0 (listAt starts runs slots i) (r .ascends) pos (omega (arith, size-is)) (r .most))
 
 -- ---- the best of a row in which no place has more than c
 
@@ -99,23 +108,23 @@ best-some f c i m (suc j) (x ∷ xs) h l e lt le =
     (λ t. rw t (best-some f c x (f x) j xs (lt 0 (omega arith)) (omega arith) e (λ a q. lt (suc a) (omega arith)) (λ a q. le (suc a) (omega arith))))
     (λ t. rw t (best-some f c i m j xs h (omega arith) e (λ a q. lt (suc a) (omega arith)) (λ a q. le (suc a) (omega arith))))
 
-module _ (slots runs starts : List ℕ) (k count : ℕ) (row : List ℕ) (all : AllTailed slots runs starts k count row) (pos : 0 < count) where
+module _ (starts runs slots : List ℕ) (k count : ℕ) (row : List ℕ) (all : AllTailed starts runs slots k count row) (pos : 0 < count) where
   at-most : (j : ℕ) → j < length row → tails (listAt starts runs slots) k (getD row j 0) ≤ count
   at-most j l = all (getD row j 0) (mem-at row j l) .most
 
-  less : (j : ℕ) → j < length row → fullAt slots runs starts k count row j ≡ false → tails (listAt starts runs slots) k (getD row j 0) < count
+  less : (j : ℕ) → j < length row → fullAt starts runs slots k count row j ≡ false → tails (listAt starts runs slots) k (getD row j 0) < count
   unfolding fullAt
   less j l e = omega (arith, at-most j l, eqb-false (tails (listAt starts runs slots) k (getD row j 0)) count e)
 
-  pub found-tail : (j : ℕ) → first (fullAt slots runs starts k count row) (length row) ≡ At j
+  pub found-tail : (j : ℕ) → first (fullAt starts runs slots k count row) (length row) ≡ At j
       → (j < length row) × IsTail (best (tails (listAt starts runs slots) k) row) (getD row j 0) count
   unfolding fullAt
   found-tail j e =
-      let r = first-found (fullAt slots runs starts k count row) (length row) j e in
+      let r = first-found (fullAt starts runs slots k count row) (length row) j e in
       let b = best-some (tails (listAt starts runs slots) k) count 0 0 j row pos (r .0) (eqb-true _ _ (r .1))
-      (λ l h. less l (omega (arith, r .0)) (first-none (fullAt slots runs starts k count row) j (r .2) l h)) at-most in
+      (λ l h. less l (omega (arith, r .0)) (first-none (fullAt starts runs slots k count row) j (r .2) l h)) at-most in
       (r .0, record { at-is = sym (ap (λ t. t .at) b); most-is = sym (ap (λ t. t .most) b) })
 
-  pub found-none : first (fullAt slots runs starts k count row) (length row) ≡ Nothing → best (tails (listAt starts runs slots) k) row .most < count
+  pub found-none : first (fullAt starts runs slots k count row) (length row) ≡ Nothing → best (tails (listAt starts runs slots) k) row .most < count
   found-none e =
-      best-none (tails (listAt starts runs slots) k) count 0 0 row pos (λ j l. less j l (first-none (fullAt slots runs starts k count row) (length row) e j l))
+      best-none (tails (listAt starts runs slots) k) count 0 0 row pos (λ j l. less j l (first-none (fullAt starts runs slots k count row) (length row) e j l))

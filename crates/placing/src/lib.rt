@@ -23,52 +23,54 @@ pub enum Way {
     Sharing,
 }
 
-// A 32-bit number as an index.
-fn wide(x: u32) -> usize
-    ensures { λ r. ⌜ (r ≡ x) × (r < 4294967296) ⌝ }
+// How long place i's list is.
+fn list_length(starts: &[u32], i: Place) -> usize
+    requires { ⌜ (i .0 + 1 < length (now starts)) × (getD (now starts) (i .0) 0 ≤ getD (now starts) (i .0 + 1) 0) ⌝ }
+    ensures { λ r. ⌜ (r ≡ getD (now (starts .entry)) (i .0 + 1) 0 - getD (now (starts .entry)) (i .0) 0) × (r < 4294967296) ⌝ }
 {
-    x as usize
+    let p = base::slot(i.0);
+    base::slot(starts[p + 1]) - base::slot(starts[p])
 }
 
-// A slot of an index store as a 32-bit number.
-fn entry(x: Index) -> u32
-    ensures { λ r. ⌜ (r ≡ x) × (r < indexBound) ⌝ }
+// Where the last most entries of place i's list start.
+fn tail_start(starts: &[u32], runs: &[u32], i: Place, most: usize) -> usize
+    requires { ⌜ TailIn (now starts) (now runs) (i .0) most ⌝ }
+    ensures { λ r. ⌜ r ≡ getD (now (runs .entry)) (i .0) 0 + (getD (now (starts .entry)) (i .0 + 1) 0 - getD (now (starts .entry)) (i .0) 0 - most) ⌝ }
 {
-    x as u32
+    let p = base::slot(i.0);
+    base::slot(runs[p]) + (list_length(starts, i) - most)
 }
 
 // Has place i's list count entries above k? It ascends and has no more of them, so one entry tells.
-fn has_tail(slots: &[Index], runs: &[u32], starts: &[u32], i: Place, k: Place, count: usize) -> bool
-    requires { ⌜ Tailed (now slots) (now runs) (now starts) (k .0) count (i .0) ⌝ }
+fn has_tail(starts: &[u32], runs: &[u32], slots: &[Index], i: Place, k: Place, count: usize) -> bool
+    requires { ⌜ Tailed (now starts) (now runs) (now slots) (k .0) count (i .0) ⌝ }
     requires { ⌜ 0 < count ⌝ }
     ensures { λ r. ⌜ r ≡ eqb (tails (listAt (now (starts .entry)) (now (runs .entry)) (now (slots .entry))) (k .0) (i .0)) count ⌝ }
 {
-    let p = wide(i.0);
-    let length = wide(starts[p + 1]) - wide(starts[p]);
-    if length < count {
+    if list_length(starts, i) < count {
         return false;
     }
-    let first = wide(runs[p]) + (length - count);
-    k.0 < entry(slots[first])
+    let first = tail_start(starts, runs, i, count);
+    k.0 < base::number(slots[first])
 }
 
 // "the first whose T(i) has the most entries above k", where that number is count: its index in the row.
 fn full_tail(
-    slots: &[Index],
-    runs: &[u32],
     starts: &[u32],
+    runs: &[u32],
+    slots: &[Index],
     row: &[u32],
     k: Place,
     count: usize,
 ) -> Found
-    requires { ⌜ AllTailed (now slots) (now runs) (now starts) (k .0) count (now row) ⌝ }
+    requires { ⌜ AllTailed (now starts) (now runs) (now slots) (k .0) count (now row) ⌝ }
     requires { ⌜ 0 < count ⌝ }
-    ensures { λ r. ⌜ r ≡ first (fullAt (now (slots .entry)) (now (runs .entry)) (now (starts .entry)) (k .0) count (now (row .entry))) (length (now (row .entry))) ⌝ }
+    ensures { λ r. ⌜ r ≡ first (fullAt (now (starts .entry)) (now (runs .entry)) (now (slots .entry)) (k .0) count (now (row .entry))) (length (now (row .entry))) ⌝ }
 {
     let mut j: usize = 0;
     while j < row.len() {
         let i = Place(row[j]);
-        if has_tail(slots, runs, starts, i, k, count) {
+        if has_tail(starts, runs, slots, i, k, count) {
             return Found::At(j);
         }
         j += 1;
@@ -82,7 +84,7 @@ fn first_at(s: &[Index], x: u32) -> usize
 {
     let mut j: usize = 0;
     while j < s.len() {
-        if entry(s[j]) == x {
+        if base::number(s[j]) == x {
             return j;
         }
         j += 1;
@@ -107,7 +109,7 @@ fn agrees(s: &[Index], t: &[u32]) -> bool
     let end = smaller(s.len(), t.len());
     let mut j: usize = 0;
     while j < end {
-        if entry(s[j]) != t[j] {
+        if base::number(s[j]) != t[j] {
             return false;
         }
         j += 1;
@@ -149,28 +151,18 @@ fn overlap_plan(slots: &[Index], last: usize, list: &[u32]) -> Plan
     fresh_plan(slots, list)
 }
 
-// Where the last most entries of place i's list start.
-fn tail_start(runs: &[u32], starts: &[u32], i: Place, most: usize) -> usize
-    requires { ⌜ TailIn (now runs) (now starts) (i .0) most ⌝ }
-    ensures { λ r. ⌜ r ≡ getD (now (runs .entry)) (i .0) 0 + (getD (now (starts .entry)) (i .0 + 1) 0 - getD (now (starts .entry)) (i .0) 0 - most) ⌝ }
-{
-    let p = wide(i.0);
-    let length = wide(starts[p + 1]) - wide(starts[p]);
-    wide(runs[p]) + (length - most)
-}
-
 // Steps 1 to 3: where place k's list goes.
 fn shared_plan(
-    slots: &[Index],
-    runs: &[u32],
     starts: &[u32],
+    runs: &[u32],
+    slots: &[Index],
     last: usize,
     k: Place,
     row: &[u32],
     list: &[u32],
 ) -> Plan
-    requires { ⌜ Planning Way.Sharing (now slots) (now runs) (now starts) last (k .0) (now row) (now list) ⌝ }
-    ensures { λ r. ⌜ r ≡ asPlan (planOver Way.Sharing (now (slots .entry)) (now (runs .entry)) (now (starts .entry)) last (k .0) (now (row .entry)) (now (list .entry))) ⌝ }
+    requires { ⌜ Planning Way.Sharing (now starts) (now runs) (now slots) last (k .0) (now row) (now list) ⌝ }
+    ensures { λ r. ⌜ r ≡ asPlan (planOver Way.Sharing (now (starts .entry)) (now (runs .entry)) (now (slots .entry)) last (k .0) (now (row .entry)) (now (list .entry))) ⌝ }
 {
     if list.len() == 0 {
         return Plan {
@@ -178,12 +170,12 @@ fn shared_plan(
             have: 0,
         };
     }
-    let found = full_tail(slots, runs, starts, row, k, list.len());
+    let found = full_tail(starts, runs, slots, row, k, list.len());
     match found {
         Found::At(j) => {
             let i = Place(row[j]);
             Plan {
-                start: tail_start(runs, starts, i, list.len()),
+                start: tail_start(starts, runs, i, list.len()),
                 have: list.len(),
             }
         }
@@ -194,28 +186,28 @@ fn shared_plan(
 // Where place k's list goes, in either way.
 fn plan_list(
     way: Way,
-    slots: &[Index],
-    runs: &[u32],
     starts: &[u32],
+    runs: &[u32],
+    slots: &[Index],
     last: usize,
     k: Place,
     row: &[u32],
     list: &[u32],
 ) -> Plan
-    requires { ⌜ Planning way (now slots) (now runs) (now starts) last (k .0) (now row) (now list) ⌝ }
-    ensures { λ r. ⌜ Planned (now (slots .entry)) (now (list .entry)) (planOver way (now (slots .entry)) (now (runs .entry)) (now (starts .entry)) last (k .0) (now (row .entry)) (now (list .entry))) r ⌝ }
+    requires { ⌜ Planning way (now starts) (now runs) (now slots) last (k .0) (now row) (now list) ⌝ }
+    ensures { λ r. ⌜ Planned (now (slots .entry)) (now (list .entry)) (planOver way (now (starts .entry)) (now (runs .entry)) (now (slots .entry)) last (k .0) (now (row .entry)) (now (list .entry))) r ⌝ }
 {
     match way {
         Way::OneAfterAnother => Plan {
             start: slots.len(),
             have: 0,
         },
-        Way::Sharing => shared_plan(slots, runs, starts, last, k, row, list),
+        Way::Sharing => shared_plan(starts, runs, slots, last, k, row, list),
     }
 }
 
 // A number that 32 bits hold.
-fn narrow(x: usize) -> u32
+fn number32(x: usize) -> u32
     requires { ⌜ x < 4294967296 ⌝ }
     ensures { λ r. ⌜ r ≡ x ⌝ }
 {
@@ -230,7 +222,7 @@ fn append(index: &mut [Index], used: usize, rest: &[u32])
 {
     let mut j: usize = 0;
     while j < rest.len() {
-        index[used + j] = rest[j] as Index;
+        index[used + j] = base::narrow(rest[j]);
         j += 1;
     }
 }
@@ -261,21 +253,21 @@ pub enum Look {
 // Where place k's list would go, and does it fit? Nothing is written: placing and comparing both start from this.
 fn look_for(
     way: Way,
-    index: &[Index],
-    runs: &[u32],
     starts: &[u32],
+    runs: &[u32],
+    index: &[Index],
     values: usize,
     row: &[u32],
     list: &[u32],
     k: Place,
     s: Extent,
 ) -> Look
-    requires { ⌜ Ready way (now index) (now runs) (now starts) values (now row) (now list) (k .0) s ⌝ }
-    ensures { λ r. ⌜ r ≡ lookOf way (now (index .entry)) (now (runs .entry)) (now (starts .entry)) values (now (row .entry)) (now (list .entry)) (k .0) s ⌝ }
+    requires { ⌜ Ready way (now starts) (now runs) (now index) values (now row) (now list) (k .0) s ⌝ }
+    ensures { λ r. ⌜ r ≡ lookOf way (now (starts .entry)) (now (runs .entry)) (now (index .entry)) values (now (row .entry)) (now (list .entry)) (k .0) s ⌝ }
 {
     let used = s.used;
     let entries = s.entries;
-    let plan = plan_list(way, &index[..used], runs, starts, s.last, k, row, list);
+    let plan = plan_list(way, starts, runs, &index[..used], s.last, k, row, list);
     let lack = list.len() - plan.have;
     if index.len() - used < lack {
         return Look::Short;
@@ -295,14 +287,14 @@ fn look_for(
 }
 
 // What place k's list lacks goes after the used slots, and its values end where list start k + 1 says.
-fn write_list(index: &mut [Index], starts: &mut [u32], list: &[u32], k: Place, s: Extent, have: usize)
-    requires { ⌜ Writable (now index) (now starts) (now list) (k .0) s have ⌝ }
-    ensures { λ _. ⌜ WrittenBy (now (index .entry)) (now (starts .entry)) (now (list .entry)) (k .0) s have (now (index .exit)) (now (starts .exit)) ⌝ }
+fn write_list(starts: &mut [u32], index: &mut [Index], list: &[u32], k: Place, s: Extent, have: usize)
+    requires { ⌜ Writable (now starts) (now index) (now list) (k .0) s have ⌝ }
+    ensures { λ _. ⌜ WrittenBy (now (starts .entry)) (now (index .entry)) (now (list .entry)) (k .0) s have (now (starts .exit)) (now (index .exit)) ⌝ }
 {
     let free = s.used;
     append(index, free, &list[have..]);
-    let p = wide(k.0);
-    starts[p + 1] = narrow(s.entries + list.len());
+    let p = base::slot(k.0);
+    starts[p + 1] = number32(s.entries + list.len());
 }
 
 // The answer of placing a list: how much is placed now, or that the stores have no room for it.
@@ -314,25 +306,25 @@ pub enum Put {
 // Place k's list into the stores, if it fits the index store and the value store.
 pub fn place_list(
     way: Way,
-    index: &mut [Index],
-    runs: &mut [u32],
     starts: &mut [u32],
+    runs: &mut [u32],
+    index: &mut [Index],
     values: usize,
     row: &[u32],
     list: &[u32],
     k: Place,
     s: Extent,
 ) -> Put
-    requires { ⌜ Ready way (now index) (now runs) (now starts) values (now row) (now list) (k .0) s ⌝ }
-    ensures { λ r. ⌜ PlaceEnds way (now (index .entry)) (now (runs .entry)) (now (starts .entry)) values (now (row .entry)) (now (list .entry)) (k .0) s r (now (index .exit)) (now (runs .exit)) (now (starts .exit)) ⌝ }
+    requires { ⌜ Ready way (now starts) (now runs) (now index) values (now row) (now list) (k .0) s ⌝ }
+    ensures { λ r. ⌜ PlaceEnds way (now (starts .entry)) (now (runs .entry)) (now (index .entry)) values (now (row .entry)) (now (list .entry)) (k .0) s r (now (starts .exit)) (now (runs .exit)) (now (index .exit)) ⌝ }
 {
-    let found = look_for(way, index, runs, starts, values, row, list, k, s);
+    let found = look_for(way, starts, runs, index, values, row, list, k, s);
     match found {
         Look::Fits(plan, next) => {
             let have = plan.have;
-            write_list(index, starts, list, k, s, have);
-            let p = wide(k.0);
-            runs[p] = narrow(plan.start);
+            write_list(starts, index, list, k, s, have);
+            let p = base::slot(k.0);
+            runs[p] = number32(plan.start);
             Put::Done(next)
         }
         Look::Short => Put::Full,
@@ -340,22 +332,22 @@ pub fn place_list(
 }
 
 // The same in the plain form, which has no run starts: the list starts are the run starts.
-pub fn place_plain(
-    index: &mut [Index],
+pub fn append_list(
     starts: &mut [u32],
+    index: &mut [Index],
     values: usize,
     list: &[u32],
     k: Place,
     s: Extent,
 ) -> Put
-    requires { ⌜ Ready Way.OneAfterAnother (now index) (now starts) (now starts) values (now list) (now list) (k .0) s ⌝ }
-    ensures { λ r. ⌜ PlainEnds (now (index .entry)) (now (starts .entry)) values (now (list .entry)) (k .0) s r (now (index .exit)) (now (starts .exit)) ⌝ }
+    requires { ⌜ Ready Way.OneAfterAnother (now starts) (now starts) (now index) values (now list) (now list) (k .0) s ⌝ }
+    ensures { λ r. ⌜ PlainEnds (now (starts .entry)) (now (index .entry)) values (now (list .entry)) (k .0) s r (now (starts .exit)) (now (index .exit)) ⌝ }
 {
     let found = look_for(
         Way::OneAfterAnother,
+        starts,
+        starts,
         index,
-        starts,
-        starts,
         values,
         list,
         list,
@@ -365,7 +357,7 @@ pub fn place_plain(
     match found {
         Look::Fits(plan, next) => {
             let have = plan.have;
-            write_list(index, starts, list, k, s, have);
+            write_list(starts, index, list, k, s, have);
             Put::Done(next)
         }
         Look::Short => Put::Full,
@@ -380,46 +372,46 @@ pub enum Match {
 
 // Do the starts of place k and the slots from the used ones on hold what placing would write?
 fn stands(
-    index: &[Index],
-    runs: &[u32],
     starts: &[u32],
+    runs: &[u32],
+    index: &[Index],
     list: &[u32],
     k: Place,
     s: Extent,
     plan: Plan,
 ) -> bool
-    requires { ⌜ Standing (now index) (now runs) (now starts) (now list) (k .0) s plan ⌝ }
-    ensures { λ r. ⌜ r ≡ sameAt (now (index .entry)) (now (runs .entry)) (now (starts .entry)) (now (list .entry)) (k .0) s plan ⌝ }
+    requires { ⌜ Standing (now starts) (now runs) (now index) (now list) (k .0) s plan ⌝ }
+    ensures { λ r. ⌜ r ≡ sameAt (now (starts .entry)) (now (runs .entry)) (now (index .entry)) (now (list .entry)) (k .0) s plan ⌝ }
 {
-    let p = wide(k.0);
+    let p = base::slot(k.0);
     let have = plan.have;
     let used = s.used;
     let end = used + (list.len() - have);
-    (wide(runs[p]) == plan.start)
-        & (wide(starts[p]) == s.entries)
-        & (wide(starts[p + 1]) == s.entries + list.len())
+    (base::slot(runs[p]) == plan.start)
+        & (base::slot(starts[p]) == s.entries)
+        & (base::slot(starts[p + 1]) == s.entries + list.len())
         & agrees(&index[used..end], &list[have..])
 }
 
 // Do the stores hold place k's list where placing would put it? Nothing is written.
 pub fn check_list(
     way: Way,
-    index: &[Index],
-    runs: &[u32],
     starts: &[u32],
+    runs: &[u32],
+    index: &[Index],
     values: usize,
     row: &[u32],
     list: &[u32],
     k: Place,
     s: Extent,
 ) -> Match
-    requires { ⌜ Ready way (now index) (now runs) (now starts) values (now row) (now list) (k .0) s ⌝ }
-    ensures { λ r. ⌜ CheckEnds way (now (index .entry)) (now (runs .entry)) (now (starts .entry)) values (now (row .entry)) (now (list .entry)) (k .0) s r ⌝ }
+    requires { ⌜ Ready way (now starts) (now runs) (now index) values (now row) (now list) (k .0) s ⌝ }
+    ensures { λ r. ⌜ CheckEnds way (now (starts .entry)) (now (runs .entry)) (now (index .entry)) values (now (row .entry)) (now (list .entry)) (k .0) s r ⌝ }
 {
-    let found = look_for(way, index, runs, starts, values, row, list, k, s);
+    let found = look_for(way, starts, runs, index, values, row, list, k, s);
     match found {
         Look::Fits(plan, next) => {
-            if stands(index, runs, starts, list, k, s, plan) {
+            if stands(starts, runs, index, list, k, s, plan) {
                 return Match::Same(next);
             }
             Match::Differs

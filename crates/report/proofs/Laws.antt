@@ -6,13 +6,15 @@ use Prim.Native.Nat.{ℕ, _+_, _≤_, _<_}
 use native.Mathlib.Numerals.{add-one}
 use lib.ListN.{length, getD, set, drop, drop-of-length-le}
 use lib.Seq.{sets, drop-cons}
+use Rattle.base.specs.Limits.{maxRows}
 use Rattle.base.specs.Answers.{numberOf, placeOf, numberOfAnswer, placeOfAnswer, countsOf, numberOfEnd, placeOfEnd, spot}
 use Rattle.base.specs.declared.Counts.{Counts}
+use Rattle.base.specs.declared.Form.{Form}
 use Rattle.base.specs.declared.Place.{Place}
 use Rattle.base.specs.declared.Side.{Side}
 use Rattle.base.specs.declared.Side.the-variants.{Lower, Upper}
 use Rattle.lookup.specs.declared.Span.{Span}
-use Rattle.lookup.specs.Lookup.{Lists, spanIn}
+use Rattle.lookup.specs.Lookup.{SideLists, spanIn}
 use Rattle.lookup.specs.LookupLaws.{span-in}
 use borrow.Author.Tests.{eq-eqb, ne-eqb, lt-ltb, le-ltb}
 use Rattle.base.specs.declared.Answer.{Answer}
@@ -62,11 +64,11 @@ unshaped-put o f q number place report₀ report e g n p h = rw (← e, g) (n, h
 pub span-put : (s t : Span) (report₀ report : List ℕ) (number : ℕ) → s ≡ t → (number ≡ 0) × (report ≡ sets report₀ 0 (spanSlots s)) → (number ≡ 0) × (report ≡ sets report₀ 0 (spanSlots t))
 span-put s t report₀ report number e h = rw (← e) h
 
-pub span-told : (side side′ : Side) (k k′ : Place) (n extra : ℕ) (l u : Lists) (s : Span) → side ≡ side′ → k ≡ k′ → s ≡ spanIn side k n extra l u → s ≡ spanIn side′ k′ n extra l u
-span-told side side′ k k′ n extra l u s e f h = rw (← e, ← f) h
+pub span-told : (f : Form) (side side′ : Side) (k k′ : Place) (n : ℕ) (l u : SideLists) (s : Span) → side ≡ side′ → k ≡ k′ → s ≡ spanIn f side k n l u → s ≡ spanIn f side′ k′ n l u
+span-told f side side′ k k′ n l u s e g h = rw (← e, ← g) h
 
-pub span-rises : (side : Side) (k : Place) (n extra : ℕ) (l u : Lists) (s : Span) → s ≡ spanIn side k n extra l u → s .from ≤ s .to
-span-rises side k n extra l u s h = span-in side k n extra l u s h .up
+pub span-rises : (f : Form) (side : Side) (k : Place) (n : ℕ) (l u : SideLists) (s : Span) → s ≡ spanIn f side k n l u → s .from ≤ s .to
+span-rises f side k n l u s h = span-in f side k n l u s h .up
 
 pub side-lower : (c : ℕ) → c ≡ 0 → Lower ≡ sideNumbered c
 side-lower c e = rw (eq-eqb c 0 e)
@@ -74,8 +76,8 @@ side-lower c e = rw (eq-eqb c 0 e)
 pub side-upper : (c : ℕ) → (c ≡ 0 → ⊥) → Upper ≡ sideNumbered c
 side-upper c e = rw (ne-eqb c 0 e)
 
-pub place-below : (k : ℕ) → k < 4096 → spot k ≡ placeIn k
-place-below k l = rw (lt-ltb k 4096 l)
+pub place-below : (k : ℕ) → k < maxRows → spot k ≡ placeIn k
+place-below k l = rw (lt-ltb k maxRows l)
 
-pub place-beyond : (k : ℕ) → 4096 ≤ k → spot 4096 ≡ placeIn k
-place-beyond k l = rw (le-ltb k 4096 l)
+pub place-beyond : (k : ℕ) → maxRows ≤ k → spot maxRows ≡ placeIn k
+place-beyond k l = rw (le-ltb k maxRows l)

@@ -6,8 +6,10 @@ use Prim.Native.Nat.{ℕ, _-_}
 use lib.Dec.{eqb, ltb}
 use lib.Seq.{sets}
 use Rattle.base.specs.Answers.{numberOf, placeOf, numberOfAnswer, placeOfAnswer, countsOf, numberOfEnd, placeOfEnd, spot}
+use Rattle.base.specs.Limits.{maxRows}
 use Rattle.base.specs.declared.Answer.{Answer}
 use Rattle.base.specs.declared.Ended.{Ended}
+use Rattle.base.specs.declared.Form.{Form}
 use Rattle.base.specs.declared.Place.{Place}
 use Rattle.base.specs.declared.Side.{Side}
 use Rattle.base.specs.declared.Side.the-variants.{Lower, Upper}
@@ -15,6 +17,7 @@ use Rattle.matrix.specs.declared.Shaped.{Shaped}
 use Rattle.matrix.specs.declared.Shaped.the-variants.{Shape, Unshaped}
 use Rattle.outcome.specs.Buffers.{Buffers, Outcome}
 use Rattle.lookup.specs.declared.Span.{Span}
+use Rattle.lookup.specs.Lookup.{SideLists, spanIn}
 use Rattle.matrix_file.specs.MatrixFile.{Left}
 
 -- place and counts of an answer
@@ -50,6 +53,10 @@ spanSlots s = s .from ∷ (s .to - s .from) ∷ []
 abbrev pub sideNumbered : ℕ → Side
 sideNumbered c = cond (eqb c 0) Lower Upper
 
--- a place of a call, in 32 bits: none from 4,096 on is below n
+-- a place of a call, in 32 bits: none from the greatest n on is below n
 abbrev pub placeIn : ℕ → Place
-placeIn k = spot (cond (ltb k 4096) k 4096)
+placeIn k = spot (cond (ltb k maxRows) k maxRows)
+
+-- the list of a side at a place, both by their numbers
+abbrev pub listSlots : Form → ℕ → ℕ → ℕ → SideLists → SideLists → List ℕ
+listSlots f side place n l u = spanSlots (spanIn f (sideNumbered side) (placeIn place) n l u)

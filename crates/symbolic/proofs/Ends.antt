@@ -21,8 +21,8 @@ use Rattle.fill.specs.Fill.{Pattern, upperRow, lowerRow, flip}
 use Rattle.fill.specs.ListLaws.{lower-is-upper, lower-rows-columns}
 use Rattle.matrix.specs.Input.{Input, stored}
 use Rattle.placement.specs.Placing.{placed, startOf}
-use Rattle.rows.specs.Rows.{rowSteps}
-use Rattle.rows.specs.ListLaws.{products-rows}
+use Rattle.marks.specs.Rows.{rowSteps}
+use Rattle.marks.specs.ListLaws.{products-rows}
 use Rattle.outcome.specs.Forms.{wayOf, listsOf, rowsOf, placedTo, indexNeed, valueNeed}
 use Rattle.outcome.specs.Structure.{askPlaces, counts}
 use Rattle.outcome.specs.Placed.{RunsAre, PlacedSide}
@@ -49,12 +49,12 @@ way-is Shared = refl
 way-is ByRow = refl
 
 module _ (f : Form) (side : Side) (P : Pattern) (n : ℕ) (store : List ℕ) (values : ℕ) (starts runs index : List ℕ) (e : Extent)
-    (h : Holding (placingOf f) (listsOf f side P n) (rowsOf side P) values n (blank 0 store) index runs starts e) (z : Stores (placingOf f) n store values starts runs) (r : RunsIn f starts runs) where
+    (h : Holding (placingOf f) (listsOf f side P n) (rowsOf side P) values n (blank 0 store) starts runs index e) (z : Stores (placingOf f) n store values starts runs) (r : RunsIn f starts runs) where
   runs-end : RunsAre f side P n starts runs
   unfolding placedTo
   runs-end = go f h (z .runs-size) r
     where
-      go : (f : Form) → Holding (placingOf f) (listsOf f side P n) (rowsOf side P) values n (blank 0 store) index runs starts e → length runs ≡ runCount (placingOf f) n → RunsIn f starts runs
+      go : (f : Form) → Holding (placingOf f) (listsOf f side P n) (rowsOf side P) values n (blank 0 store) starts runs index e → length runs ≡ runCount (placingOf f) n → RunsIn f starts runs
           → RunsAre f side P n starts runs
       go Plain h l r = r
       go Shared h l r = runs-whole h l

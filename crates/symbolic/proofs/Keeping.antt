@@ -15,9 +15,9 @@ use Rattle.base.specs.declared.Side.the-variants.{Upper}
 use Rattle.fill.specs.Fill.{Pattern, filled, upperRow, lowerRow, flip}
 use Rattle.placement.specs.PlacingLaws.{room}
 use Rattle.marks.specs.Marks.{ListIn, members}
-use Rattle.rows.specs.Rows.{Stored, Renewed, rowSteps, lengthIn, Countable}
-use Rattle.rows.specs.FillLaws.{upper-below}
-use Rattle.rows.specs.ListLaws.{lower-members, lower-le, upper-le, row-products-is, held-countable, products-fit}
+use Rattle.marks.specs.Rows.{Stored, Renewed, rowSteps, lengthIn, Countable}
+use Rattle.marks.specs.FillLaws.{upper-below}
+use Rattle.marks.specs.ListLaws.{lower-members, lower-le, upper-le, row-products-is, held-countable, products-fit}
 use Rattle.placing.specs.Ways.{wayOf, Suited}
 use Rattle.placing.specs.Slices.{Ready}
 use Rattle.placing.specs.Held.{Holding, RowIs, Turn, Stepped}
@@ -44,7 +44,7 @@ suited-of way P n = fill-suited way Upper P n
 
 -- the lists that are placed can be read
 pub stored-held : {way : Way} {P : Pattern} {n values k : ℕ} {index₀ index runs starts : List ℕ} {e : Extent} → k ≤ n
-    → Holding way (upperRow P n) (lowerRow P) values k index₀ index runs starts e → Stored P n k index runs starts
+    → Holding way (upperRow P n) (lowerRow P) values k index₀ starts runs index e → Stored P n k index runs starts
 stored-held {way} {P} {n} {values} {k} {index₀} {index} {runs} {starts} {e} l h = record {
   list = λ i b. list-held h n (suited-of way P n) l i b;
   read = λ i b.
@@ -78,17 +78,17 @@ module _ {way : Way} {P : Pattern} {n k t cuts : ℕ} {store : List ℕ} {values
   keep-members = h .lists .lower ∙ sym (lower-members P n t k s (h .below) (h .lists .marks))
 
   pub keep-turn : (row list : List ℕ) → RowIs way (lowerRow P k) row → list ≡ upperRow P n k
-      → Turn way (upperRow P n) (lowerRow P) n values k (blank 0 store) index runs starts row list e
+      → Turn way (upperRow P n) (lowerRow P) n values k (blank 0 store) starts runs index row list e
   keep-turn row list r l = record { suited = suited-of way P n; below = h .below; row-is = r; list-is = l; held = h .at .held }
 
-  pub keep-ready : (row list : List ℕ) → RowIs way (lowerRow P k) row → list ≡ upperRow P n k → Ready way index runs starts values row list k e
+  pub keep-ready : (row list : List ℕ) → RowIs way (lowerRow P k) row → list ≡ upperRow P n k → Ready way starts runs index values row list k e
   keep-ready row list r l =
       let z = h .at .stores in
       turn-ready (keep-turn row list r l) (omega (arith, h .below, z .runs-size, run-count way n)) (omega (arith, h .below, z .starts-size))
       (omega (arith, z .slots-fit, blank-length 0 store)) (omega (arith, z .values-fit))
       (rw l (λ j b. let u = upper-below P n k j b in omega (arith, h .few)))
 
-  module _ (e′ : Extent) (index′ runs′ starts′ : List ℕ) (held : Holding way (upperRow P n) (lowerRow P) values (suc k) (blank 0 store) index′ runs′ starts′ e′) where
+  module _ (e′ : Extent) (index′ runs′ starts′ : List ℕ) (held : Holding way (upperRow P n) (lowerRow P) values (suc k) (blank 0 store) starts′ runs′ index′ e′) where
     next-store : Stored P n (k + 1) index′ runs′ starts′
     next-store = let b = h .below in rw add-one (stored-held (omega arith) held)
 
@@ -112,11 +112,11 @@ module _ {way : Way} {P : Pattern} {n k t cuts : ℕ} {store : List ℕ} {values
 
 -- what a step of placing told
 pub stepped-done : (way : Way) (T R : ℕ → List ℕ) (values k : ℕ) (index₀ index runs starts : List ℕ) (r : Put) (e : Extent) → r ≡ Done e
-    → Stepped way T R values k index₀ index runs starts r → (room (wayOf way) T R (length index₀) values k ≡ true) × Holding way T R values (suc k) index₀ index runs starts e
+    → Stepped way T R values k index₀ starts runs index r → (room (wayOf way) T R (length index₀) values k ≡ true) × Holding way T R values (suc k) index₀ starts runs index e
 stepped-done way T R values k index₀ index runs starts r e q h = rw q at h
 
 pub stepped-full : (way : Way) (T R : ℕ → List ℕ) (values k : ℕ) (store index runs starts : List ℕ) (r : Put) → r ≡ Full
-    → Stepped way T R values k (blank 0 store) index runs starts r → room (wayOf way) T R (length store) values k ≡ false
+    → Stepped way T R values k (blank 0 store) starts runs index r → room (wayOf way) T R (length store) values k ≡ false
 stepped-full way T R values k store index runs starts r q h =
     let f : room (wayOf way) T R (length (blank 0 store)) values k ≡ false = rw q at h in rw blank-length at f
 
@@ -131,10 +131,10 @@ module _ {P : Pattern} {n k : ℕ} {store : List ℕ} {values : ℕ} {starts ind
   lower-fits = omega (arith, h .below, h .size, lower-le P k)
 
   pub lower-turn : (list : List ℕ) → list ≡ take (listFrom n + count - listFrom n) (drop (listFrom n) s)
-      → Turn OneAfterAnother (lowerRow P) (lowerRow (flip P)) n values k (blank 0 store) index starts starts list list e
+      → Turn OneAfterAnother (lowerRow P) (lowerRow (flip P)) n values k (blank 0 store) starts starts index list list e
   lower-turn list l = record { suited = tt; below = h .below; row-is = tt; list-is = l ∙ part-is (listFrom n) count s ∙ h .list; held = h .held }
 
-  pub lower-ready : (list : List ℕ) → list ≡ take (listFrom n + count - listFrom n) (drop (listFrom n) s) → Ready OneAfterAnother index starts starts values list list k e
+  pub lower-ready : (list : List ℕ) → list ≡ take (listFrom n + count - listFrom n) (drop (listFrom n) s) → Ready OneAfterAnother starts starts index values list list k e
   lower-ready list l =
       let z = h .stores in
       turn-ready (lower-turn list l) (omega (arith, h .below, z .starts-size)) (omega (arith, h .below, z .starts-size))
@@ -143,7 +143,7 @@ module _ {P : Pattern} {n k : ℕ} {store : List ℕ} {values : ℕ} {starts ind
 
 -- what a step of placing told of it
 pub lower-stepped : (P : Pattern) (values k : ℕ) (store index starts : List ℕ) (r : Put)
-    → Stepped OneAfterAnother (lowerRow P) (lowerRow (flip P)) values k (blank 0 store) index starts starts r → LowerEnds P k store values starts index r
+    → Stepped OneAfterAnother (lowerRow P) (lowerRow (flip P)) values k (blank 0 store) starts starts index r → LowerEnds P k store values starts index r
 lower-stepped P values k store index starts (Done e) h = (rw blank-length at (h .0), rw add-one (h .1))
 lower-stepped P values k store index starts Full h = rw blank-length at h
 

@@ -13,10 +13,10 @@ use Rattle.fill.specs.Fill.{Pattern, filled}
 use Rattle.matrix.specs.Input.{Input}
 use Rattle.marks.specs.Marks.{Room, Base, Fresh, Holds, Free, Same, Parts, Below, markAt}
 use Rattle.marks.specs.MarkLaws.{holds-kept}
-use Rattle.rows.specs.Rows.{Cuts, Closed, LowerListed, Closing, UpperListed, Listed, But}
-use Rattle.rows.specs.CutLaws.{cuts-kept}
-use Rattle.rows.specs.FillLaws.{held-parts}
-use Rattle.rows.specs.ListLaws.{lower-marks, listed-both, listed-lower, listed-upper, listed-but, lower-le, upper-le}
+use Rattle.marks.specs.Rows.{Cuts, Closed, LowerListed, Closing, UpperListed, Listed, But}
+use Rattle.marks.specs.RenewLaws.{cuts-kept}
+use Rattle.marks.specs.FillLaws.{held-parts}
+use Rattle.marks.specs.ListLaws.{lower-marks, listed-both, listed-lower, listed-upper, listed-but, lower-le, upper-le}
 use Rattle.columns.specs.Columns.{orderOf, Untouched, Given, Ready}
 use Rattle.columns.specs.Sides.{sideRow, SideReady, SideLoaded, rowsIn}
 use Rattle.columns.proofs.Keeps.{order-read, stamped-keeps, unmarked-stamped, rows-same}

@@ -19,9 +19,9 @@ use Rattle.fill.specs.RowRule.{filled-flip}
 use Rattle.matrix.specs.Input.{Input, stored}
 use Rattle.placement.specs.PlacingLaws.{room}
 use Rattle.marks.specs.Marks.{Fresh}
-use Rattle.rows.specs.Rows.{Stored, Cuts, rowSteps}
-use Rattle.rows.specs.CutLaws.{cuts-kept}
-use Rattle.rows.specs.ListLaws.{lower-le}
+use Rattle.marks.specs.Rows.{Stored, Cuts, rowSteps}
+use Rattle.marks.specs.RenewLaws.{cuts-kept}
+use Rattle.marks.specs.ListLaws.{lower-le}
 use Rattle.outcome.specs.Structure.{fits, askPlaces}
 use Rattle.placing.specs.Ways.{wayOf}
 use Rattle.placing.specs.declared.Way.the-variants.{Sharing}

@@ -104,10 +104,10 @@ blank-twice : (l l′ : List ℕ) → l′ ≡ blank 0 l → l′ ≡ blank 0 l�
 blank-twice l l′ e = e ∙ blank-same 0 l l′ (sym (ap length e ∙ blank-length 0 l))
 
 cleared-held : (way : Way) (T R : ℕ → List ℕ) (n values : ℕ) (index index′ runs starts starts′ : List ℕ) → length starts ≡ n + 1
-    → index′ ≡ blank 0 index → starts′ ≡ blank 0 starts → Holding way T R values 0 (blank 0 index′) index′ runs starts′ nothing
+    → index′ ≡ blank 0 index → starts′ ≡ blank 0 starts → Holding way T R values 0 (blank 0 index′) starts′ runs index′ nothing
 cleared-held way T R n values index index′ runs starts starts′ l a b =
     rw (← blank-twice index index′ a)
-    (holding-none way T R values index′ runs starts′ (rw (b, blank-length) (omega arith)) (ap (λ x. getD x 0 0) b ∙ blank-at 0 starts 0 0 (omega arith)))
+    (holding-none way T R values starts′ runs index′ (rw (b, blank-length) (omega arith)) (ap (λ x. getD x 0 0) b ∙ blank-at 0 starts 0 0 (omega arith)))
 
 pub cleared-stores : (way : Way) (n values : ℕ) (index index′ starts starts′ runs runs′ : List ℕ) → Stores way n index values starts runs → length starts′ ≡ length starts → length runs′ ≡ length runs
     → length index′ ≡ length index → Stores way n index′ values starts′ runs′

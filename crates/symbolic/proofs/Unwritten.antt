@@ -53,7 +53,7 @@ part-stays index index′ slots slots′ more rest rest′ q a b c l h =
 
 module _ (way : Way) (T R : ℕ → List ℕ) (n values k m : ℕ) (suited : Suited way T R n) (up : k ≤ m) (most : m ≤ n)
     (index₀ index runs starts index′ runs′ starts′ : List ℕ) (e e′ : Extent)
-    (h : Holding way T R values k index₀ index runs starts e) (h′ : Holding way T R values m index₀ index′ runs′ starts′ e′) where
+    (h : Holding way T R values k index₀ starts runs index e) (h′ : Holding way T R values m index₀ starts′ runs′ index′ e′) where
   slot-stays : (q : ℕ) → q < e .used → getD index′ q 0 ≡ getD index q 0
   slot-stays q l =
       let grown = placed-grows (wayOf way) T R k (m - k) in
@@ -104,7 +104,7 @@ suited ByRow Lower v P n = absurd (false≢true v)
 held : (f : Form) (side : Side) → keeps f side ≡ true → (i : Input) (low : List ℕ) (lv : ℕ) (up : List ℕ) (uv k : ℕ) (ls lr li us ur ui s : List ℕ) (g : Progress)
     → At f i low lv up uv k ls lr li us ur ui s g
     → Holding (placingOf f) (listsOf f side (stored i) (i .n)) (rowsOf side (stored i)) (ofSide side lv uv) k (blank 0 (ofSide side low up))
-    (sideOf f side ls lr li us ur ui .index) (sideOf f side ls lr li us ur ui .runs) (sideOf f side ls lr li us ur ui .starts) (ofSide side (g .lower) (g .upper))
+    (sideOf f side ls lr li us ur ui .starts) (sideOf f side ls lr li us ur ui .runs) (sideOf f side ls lr li us ur ui .index) (ofSide side (g .lower) (g .upper))
 held f Upper v i low lv up uv k ls lr li us ur ui s g h = h .upper .held
 held Plain Lower v i low lv up uv k ls lr li us ur ui s g h = h .lower .0
 held Shared Lower v i low lv up uv k ls lr li us ur ui s g h = h .lower .0 .held

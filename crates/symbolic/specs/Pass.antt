@@ -17,7 +17,7 @@ use Rattle.fill.specs.Fill.{lowerRow, flip}
 use Rattle.base.specs.Limits.{maxRows, maxEntries}
 use Rattle.matrix.specs.Input.{Input, inputOf, stored}
 use Rattle.marks.specs.Marks.{Fresh}
-use Rattle.rows.specs.Rows.{rowSteps}
+use Rattle.marks.specs.Rows.{rowSteps}
 use Rattle.columns.specs.Columns.{Ready}
 use Rattle.columns.specs.Sides.{rowsIn}
 use Rattle.questions.specs.Settled.{Structured}
@@ -80,7 +80,7 @@ stampAt ByRow k = k + 1
 -- the lower side: rows one after another, columns with their cuts and the columns of M' still to come, or the count of its entries
 abbrev pub LowerAt : Form → Input → List ℕ → ℕ → ℕ → List ℕ → List ℕ → List ℕ → List ℕ → Progress → Type 0
 LowerAt Plain i store values k starts runs index s g =
-    Holding OneAfterAnother (lowerRow (stored i)) (lowerRow (flip (stored i))) values k (blank 0 store) index starts starts (g .lower)
+    Holding OneAfterAnother (lowerRow (stored i)) (lowerRow (flip (stored i))) values k (blank 0 store) starts starts index (g .lower)
     × Stores OneAfterAnother (i .n) store values starts starts
 LowerAt Shared i store values k starts runs index s g =
     ListsAt Sharing (flip (stored i)) (i .n) k (lowerCuts (i .n)) store values starts runs index s (g .lower) × Ready (i .n) k (g .window) (rowsIn i s) s

@@ -13,7 +13,7 @@ use Rattle.matrix.specs.Input.{Input, inputOf, stored}
 use Rattle.placement.specs.Placing.{plain}
 use Rattle.placement.specs.PlacingLaws.{room}
 use Rattle.marks.specs.Marks.{Room, Base, Fresh, Holds}
-use Rattle.rows.specs.Rows.{Stored, Cuts, Held, But, rowSteps}
+use Rattle.marks.specs.Rows.{Stored, Cuts, Held, But, rowSteps}
 use Rattle.columns.specs.Sides.{sidePattern, SideReady, Inverse, Sound, rowsIn}
 use Rattle.placing.specs.Ways.{wayOf}
 use Rattle.placing.specs.Held.{Holding}
@@ -108,7 +108,7 @@ pub record Stores (way : Way) (n : ℕ) (store : List ℕ) (values : ℕ) (start
 
 -- a side's lists before place k, in stores that were cleared before the first
 pub record ListsAt (way : Way) (P : Pattern) (n k cuts : ℕ) (store : List ℕ) (values : ℕ) (starts runs index s : List ℕ) (e : Extent) : Type 0 where
-  pub held : Holding way (upperRow P n) (lowerRow P) values k (blank 0 store) index runs starts e
+  pub held : Holding way (upperRow P n) (lowerRow P) values k (blank 0 store) starts runs index e
   pub cut : Cuts P n k cuts s
   pub stores : Stores way n store values starts runs
 
@@ -143,7 +143,7 @@ pub record KeepLower (P : Pattern) (n k : ℕ) (store : List ℕ) (values : ℕ)
   pub space : Room n s
   pub size : count ≡ length (lowerRow P k)
   pub list : take count (drop (listFrom n) s) ≡ lowerRow P k
-  pub held : Holding OneAfterAnother (lowerRow P) (lowerRow (flip P)) values k (blank 0 store) index starts starts e
+  pub held : Holding OneAfterAnother (lowerRow P) (lowerRow (flip P)) values k (blank 0 store) starts starts index e
   pub stores : Stores OneAfterAnother n store values starts starts
 
 -- the same, for some pattern and some store
@@ -154,7 +154,7 @@ pub record KeepingLower (n k values : ℕ) (starts index s : List ℕ) (count : 
 
 abbrev pub LowerEnds : Pattern → ℕ → List ℕ → ℕ → List ℕ → List ℕ → Put → Type 0
 LowerEnds P k store values starts index (Done e) =
-    (room plain (lowerRow P) (lowerRow (flip P)) (length store) values k ≡ true) × Holding OneAfterAnother (lowerRow P) (lowerRow (flip P)) values (k + 1) (blank 0 store) index starts starts e
+    (room plain (lowerRow P) (lowerRow (flip P)) (length store) values k ≡ true) × Holding OneAfterAnother (lowerRow P) (lowerRow (flip P)) values (k + 1) (blank 0 store) starts starts index e
 LowerEnds P k store values starts index Full = room plain (lowerRow P) (lowerRow (flip P)) (length store) values k ≡ false
 
 -- ---- the products of place k, added to those before

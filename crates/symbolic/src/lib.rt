@@ -7,7 +7,7 @@ ghost use Prim.Native.Nat.{ℕ, _+_, _-_, _≤_};
 ghost use lib.ListN.{length};
 ghost use Rattle.matrix.specs.Input.{inputOf};
 ghost use Rattle.fill.specs.Fill.{Pattern};
-ghost use Rattle.rows.specs.Rows.{rowSteps};
+ghost use Rattle.marks.specs.Rows.{rowSteps};
 ghost use Rattle.base.specs.Lists.{blank, sum};
 ghost use Rattle.base.specs.declared.Form.{Form};
 ghost use Rattle.placing.specs.declared.Way.{Way};
@@ -100,9 +100,9 @@ fn open_place(
     let p = k.0 as usize;
     let end = columns::load(side, marks, n, stamp, p, window, columns, starts, r);
     let cuts = cuts_of(side, n);
-    let below = rows::close_place(marks, n, stamp, k, cuts, index, runs);
-    if rows::has_diagonal(marks, stamp, k) {
-        let above = rows::list_upper(marks, n, stamp, k, below);
+    let below = marks::close_place(marks, n, stamp, k, cuts, index, runs);
+    if marks::has_diagonal(marks, stamp, k) {
+        let above = marks::list_upper(marks, n, stamp, k, below);
         return Opened::Row(OpenRow {
             below,
             above,
@@ -134,9 +134,9 @@ fn keep_shared(
     let end = mid + row.above;
     let put = placing::place_list(
         Way::Sharing,
-        index,
-        runs,
         starts,
+        runs,
+        index,
         values,
         &marks[at..mid],
         &marks[mid..end],
@@ -145,7 +145,7 @@ fn keep_shared(
     );
     match put {
         Put::Done(next) => {
-            rows::renew_cuts(marks, n, stamp, k, row.below, cuts, index, runs, starts);
+            marks::renew_cuts(marks, n, stamp, k, row.below, cuts, index, runs, starts);
             Put::Done(next)
         }
         Put::Full => Put::Full,
@@ -169,10 +169,10 @@ fn keep_plain(
 {
     let mid = scratch::LIST * n + row.below;
     let end = mid + row.above;
-    let put = placing::place_plain(index, starts, values, &marks[mid..end], k, e);
+    let put = placing::append_list(starts, index, values, &marks[mid..end], k, e);
     match put {
         Put::Done(next) => {
-            rows::renew_cuts(
+            marks::renew_cuts(
                 marks,
                 n,
                 stamp,
@@ -205,7 +205,7 @@ fn keep_lower(
 {
     let at = scratch::LIST * n;
     let mid = at + below;
-    placing::place_plain(index, starts, values, &marks[at..mid], k, e)
+    placing::append_list(starts, index, values, &marks[at..mid], k, e)
 }
 
 // The products of place k, added to those before it: its lower row stands in scratch.
@@ -215,7 +215,7 @@ fn add_products(n: usize, starts: &[u32], marks: &[u32], below: usize, before: u
 {
     let at = scratch::LIST * n;
     let end = at + below;
-    before + rows::row_products(&marks[at..end], starts)
+    before + marks::row_products(&marks[at..end], starts)
 }
 
 // One side of a sharing form at place k: its lists are found, and T(k) goes into the stores.

@@ -1,10 +1,13 @@
 //! Runs all checks and ends with one line, `N passed, M failed`.
 //!
 //! Options: --seed S (default 1), --cases N (random cases of the calls, default 40000), --case K (that one alone),
-//! --only GROUP (known, consistency, cases, lookups, forms, damaged, files, program, header).
+//! --only GROUP (one of GROUPS).
 use lilacpliers_tests::checks::cases::Range;
 use lilacpliers_tests::checks::*;
 use std::process::ExitCode;
+
+const GROUPS: [&str; 10] =
+    ["known", "consistency", "cases", "lookups", "forms", "damaged", "files", "nulls", "program", "header"];
 
 struct Options {
     seed: u64,
@@ -18,6 +21,10 @@ fn number(text: Option<String>, option: &str) -> Result<u64, String> {
     text.parse().map_err(|_| format!("{option} wants a number, not {text}"))
 }
 
+fn group(text: Option<String>) -> Result<String, String> {
+    text.filter(|text| GROUPS.contains(&text.as_str())).ok_or(format!("--only wants one of {GROUPS:?}"))
+}
+
 fn options() -> Result<Options, String> {
     let mut options = Options { seed: 1, cases: 40_000, case: None, only: None };
     let mut words = std::env::args().skip(1);
@@ -26,7 +33,7 @@ fn options() -> Result<Options, String> {
             "--seed" => options.seed = number(words.next(), "--seed")?,
             "--cases" => options.cases = number(words.next(), "--cases")?,
             "--case" => options.case = Some(number(words.next(), "--case")?),
-            "--only" => options.only = Some(words.next().ok_or("--only wants a group")?),
+            "--only" => options.only = Some(group(words.next())?),
             _ => return Err(format!("unknown option {word}")),
         }
     }
@@ -45,6 +52,7 @@ impl Options {
 
 fn check_reference(options: &Options, tally: &mut Tally) {
     if options.wants("known") {
+        known::near_fails(tally);
         known::run(&Reference, tally);
         printed::known_outputs(tally);
     }
@@ -52,8 +60,7 @@ fn check_reference(options: &Options, tally: &mut Tally) {
         consistency::run(options.range(options.cases / 10), tally);
     }
     if options.wants("forms") {
-        let compared = forms::run(&Reference, options.range(options.cases / 4), tally);
-        println!("reference: {compared} inputs in three forms");
+        forms::run(&Reference, options.range(options.cases / 4), tally);
     }
     if options.wants("files") {
         files::examples(tally);
@@ -78,8 +85,7 @@ fn check_library(library: &dyn Solver, options: &Options, tally: &mut Tally) {
         cases::lookups(library, options.range(options.cases / 4), tally);
     }
     if options.wants("forms") {
-        let compared = forms::run(library, options.range(options.cases / 4), tally);
-        println!("library: {compared} inputs in three forms");
+        forms::run(library, options.range(options.cases / 4), tally);
     }
     check_library_files(library, options, tally);
 }
@@ -96,11 +102,12 @@ fn check_library_files(library: &dyn Solver, options: &Options, tally: &mut Tall
     }
 }
 
-fn check_program(options: &Options, tally: &mut Tally) {
-    match printed::executable() {
-        Some(path) => printed::run(&path, options.range(options.cases / 100), tally),
-        None => println!("program: target/bin/solve is missing and LILACPLIERS_PROGRAM is not set, so it is not run"),
-    }
+fn check_nulls(options: &Options, tally: &mut Tally) {
+    let library = Library { nulls: true };
+    nulls::run(&library, tally);
+    cases::run(&library, options.range(options.cases / 10), tally);
+    cases::lookups(&library, options.range(options.cases / 20), tally);
+    files::round_trips(&library, options.range(options.cases / 40), tally);
 }
 
 fn main() -> ExitCode {
@@ -114,21 +121,16 @@ fn main() -> ExitCode {
     println!("seed {}", options.seed);
     let mut tally = Tally::default();
     check_reference(&options, &mut tally);
-    match library() {
-        Some(library) => check_library(library, &options, &mut tally),
-        None => println!("library: not linked (feature `library`), so the reference alone is checked"),
+    check_library(&Library { nulls: false }, &options, &mut tally);
+    if options.wants("nulls") {
+        check_nulls(&options, &mut tally);
     }
     if options.wants("program") {
-        check_program(&options, &mut tally);
+        printed::run(&printed::executable(), options.range(options.cases / 100), &mut tally);
     }
     if options.wants("header") {
         header::run(&mut tally);
         signatures::run(&mut tally);
     }
-    println!("{} passed, {} failed", tally.passed, tally.failed);
-    if tally.failed == 0 {
-        ExitCode::SUCCESS
-    } else {
-        ExitCode::FAILURE
-    }
+    tally.close()
 }

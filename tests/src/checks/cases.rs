@@ -16,6 +16,7 @@ pub struct Range {
 }
 
 impl Range {
+    /// The numbers of the cases to run.
     pub fn numbers(&self) -> std::ops::Range<u64> {
         match self.only {
             Some(number) => number..number + 1,
@@ -23,10 +24,12 @@ impl Range {
         }
     }
 
+    /// The generator of a case.
     pub fn random(&self, number: u64) -> Random {
         Random::for_case(self.seed, number)
     }
 
+    /// What a failed case is called, so that it can be run alone.
     pub fn label(&self, group: &str, number: u64) -> String {
         format!("{group} seed {} case {number}", self.seed)
     }
@@ -48,6 +51,7 @@ pub fn compare_case(solver: &dyn Solver, case: &Case) -> (Answer, Compared) {
     (whole, result)
 }
 
+/// Runs random cases against the reference, and says which answers they met.
 pub fn run(solver: &dyn Solver, range: Range, tally: &mut Tally) -> Reached {
     let mut reached = Reached::new();
     for number in range.numbers() {
@@ -62,6 +66,7 @@ pub fn run(solver: &dyn Solver, range: Range, tally: &mut Tally) -> Reached {
     reached
 }
 
+/// Runs random lookups against the reference.
 pub fn lookups(solver: &dyn Solver, range: Range, tally: &mut Tally) {
     for number in range.numbers() {
         let (lists, side, place) = generate::lookup_case(&mut range.random(number));
@@ -79,7 +84,7 @@ pub fn reached_all(solver: &dyn Solver, reached: &Reached, tally: &mut Tally) {
     for &call in solver.calls() {
         for number in numbers_of(call) {
             let met = reached.get(&(format!("{call:?}"), number)).copied().unwrap_or(0);
-            let result = if met > 0 { Ok(()) } else { compare::differ("cases that met it", met, "at least one") };
+            let result = compare::at_least("cases that met it", met, 1);
             tally.add(|| format!("{call:?} answer {number} is tried"), result);
         }
     }

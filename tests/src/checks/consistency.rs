@@ -45,6 +45,14 @@ fn products_by_rows(fill: &Fill) -> u64 {
     fill.lower_rows.iter().flatten().map(|&i| fill.upper[i].len() as u64).sum()
 }
 
+/// The first place whose (k, k) is not filled.
+fn null_pivot(input: &Input) -> Option<usize> {
+    let pattern: Vec<Vec<usize>> =
+        entries_by_place(input).iter().map(|row| row.iter().map(|e| e.0).collect()).collect();
+    let table = elimination_game(&pattern);
+    (0..input.n).find(|&k| !table[k][k])
+}
+
 fn check_fill(input: &Input) -> Compared {
     let entries = entries_by_place(input);
     let pattern: Vec<Vec<usize>> = entries.iter().map(|row| row.iter().map(|e| e.0).collect()).collect();
@@ -133,9 +141,6 @@ fn check_solution(input: &Input) -> Compared {
     let call = Call::Solve(Form::Plain);
     let mut buffers = Buffers::for_call(call, input.n, Slots::all(input.n * input.n));
     let answer = reference::run(call, input, &mut buffers);
-    if answer.number == 9 {
-        return Ok(());
-    }
     let z: Vec<f64> = input.c.iter().map(|&j| buffers.x[j as usize]).collect();
     let found = if answer.number == 0 { Ok(z) } else { Err((answer.number, answer.place as usize)) };
     compare::same("solution", &found, &Square::new(input).solve())
@@ -147,9 +152,7 @@ fn check_lists(input: &Input, form: Form) -> Compared {
     let call = Call::Structure(form);
     let mut buffers = Buffers::for_call(call, input.n, Slots::all(input.n * input.n));
     let answer = reference::run(call, input, &mut buffers);
-    if answer.number != 0 {
-        return Ok(());
-    }
+    compare::same("number", &answer.number, &0)?;
     let lists = reference::Lists { form, n: input.n, lower: buffers.lower, upper: buffers.upper };
     let lower = if form == Form::Plain { &fill.lower_rows } else { &fill.lower_columns };
     for k in 0..input.n {
@@ -163,11 +166,17 @@ fn check_lists(input: &Input, form: Form) -> Compared {
     Ok(())
 }
 
-/// Solving again from the factors gives the bits of the solve.
+/// Solving again from the factors gives the bits of the solve; refactoring gives its answer.
 fn check_resolve(input: &Input, form: Form) -> Compared {
     let mut buffers = Buffers::for_call(Call::Solve(form), input.n, Slots::all(input.n * input.n));
-    if reference::run(Call::Solve(form), input, &mut buffers).number != 0 {
-        return Ok(());
+    let answer = reference::run(Call::Solve(form), input, &mut buffers);
+    if answer.number != 0 {
+        let structure = Call::Structure(form);
+        let mut lists = Buffers::for_call(structure, input.n, Slots::all(input.n * input.n));
+        compare::same("number", &reference::run(structure, input, &mut lists).number, &0)?;
+        let mut presented = Buffers { d: buffers.d, x: buffers.x, ..lists };
+        let refused = reference::run(Call::Refactor(form), input, &mut presented);
+        return compare::same("refactoring what cannot be solved", &refused, &answer);
     }
     let solved = buffers.clone();
     let again = reference::run(Call::Resolve(form), input, &mut buffers);
@@ -178,10 +187,23 @@ fn check_resolve(input: &Input, form: Form) -> Compared {
     compare::buffers(&buffers, &solved)
 }
 
+/// A null pivot is refused by every call that finds the fill.
+fn check_null_pivot(input: &Input, place: usize) -> Compared {
+    for call in CALLS.into_iter().filter(|call| matches!(call, Call::Structure(_) | Call::Solve(_))) {
+        let mut buffers = Buffers::for_call(call, input.n, Slots::all(input.n * input.n));
+        let answer = reference::run(call, input, &mut buffers);
+        compare::same(&format!("{call:?}"), &answer, &Refusal { number: 9, place: place as u64 }.into())?;
+    }
+    Ok(())
+}
+
 fn check(random: &mut Random) -> Compared {
     let n = random.pick(&[1, 2, 3, 5, 8, 13, 21, 34]);
     let input = generate::sound_input(random, n);
     check_fill(&input)?;
+    if let Some(place) = null_pivot(&input) {
+        return check_null_pivot(&input, place);
+    }
     check_solution(&input)?;
     for form in [Form::Plain, Form::Shared] {
         check_lists(&input, form)?;
@@ -190,6 +212,7 @@ fn check(random: &mut Random) -> Compared {
     Ok(())
 }
 
+/// Checks the reference on random matrices.
 pub fn run(range: Range, tally: &mut Tally) {
     for number in range.numbers() {
         let result = check(&mut range.random(number));

@@ -2,15 +2,15 @@
 use super::cases::Range;
 use super::header::repository;
 use super::{known, Solver, Tally};
-use crate::compare::{self, Compared};
+use crate::compare::{self, Compared, Difference};
 use crate::generate;
 use crate::load;
 use crate::model::*;
 use crate::random::Random;
 use crate::reference::matrix_file;
 
-/// Shape and read of a file, into buffers for n rows and e entries, against the reference.
-fn compare_file(solver: &dyn Solver, file: &[u8], into: &Input) -> Compared {
+/// Compares shape and read of a file, into the buffers of `into`, with the reference.
+pub fn compare_file(solver: &dyn Solver, file: &[u8], into: &Input) -> Compared {
     compare::same("shape", &solver.shape(file)?, &matrix_file::shape(file))?;
     let mut expected = into.clone();
     let answer = matrix_file::read(file, &mut expected);
@@ -30,7 +30,7 @@ fn two_blocks(random: &mut Random) -> Input {
     }
 }
 
-/// Each byte of a two-block file changed; in the second pass the checks are made right again.
+/// Changes each byte of a two-block file; in the second pass the checks are made right again.
 pub fn damaged(solver: &dyn Solver, seed: u64, tally: &mut Tally) {
     let mut random = Random::new(seed);
     let input = two_blocks(&mut random);
@@ -51,7 +51,7 @@ pub fn damaged(solver: &dyn Solver, seed: u64, tally: &mut Tally) {
     }
 }
 
-/// Files of every length near whole blocks, of more blocks than needed, and with other block numbers.
+/// Tries files of every length near whole blocks, of more blocks than needed, and with other block numbers.
 pub fn lengths(solver: &dyn Solver, seed: u64, tally: &mut Tally) {
     let mut random = Random::new(seed);
     let input = two_blocks(&mut random);
@@ -73,7 +73,7 @@ pub fn lengths(solver: &dyn Solver, seed: u64, tally: &mut Tally) {
     tally.add(|| "blocks exchanged".to_string(), compare_file(solver, &swapped, &into));
 }
 
-/// Files whose n and e are any numbers, the checks right.
+/// Tries files whose n and e are any numbers, the checks right.
 pub fn heads(solver: &dyn Solver, tally: &mut Tally) {
     let near = [0u32, 1, 2, 9, 4_096, 4_097, 65_536, 65_537, 1 << 31, u32::MAX];
     for n in near {
@@ -90,14 +90,20 @@ pub fn heads(solver: &dyn Solver, tally: &mut Tally) {
     }
 }
 
+/// Compares writing the matrix over the bytes of `before` with the reference: the answer and the file.
+pub fn compare_written(solver: &dyn Solver, input: &Input, before: &[u8]) -> Result<(Answer, Vec<u8>), Difference> {
+    let mut expected = before.to_vec();
+    let answer = matrix_file::write(input, &mut expected);
+    let mut file = before.to_vec();
+    compare::same("answer of write", &solver.write(input, &mut file)?, &answer)?;
+    compare::numbers("file", &file, &expected)?;
+    Ok((answer, file))
+}
+
 fn written_and_read(solver: &dyn Solver, random: &mut Random) -> Compared {
     let (input, length) = generate::matrix_to_write(random);
     let before: Vec<u8> = (0..length).map(|_| random.bits() as u8).collect();
-    let mut expected = before.clone();
-    let answer = matrix_file::write(&input, &mut expected);
-    let mut file = before;
-    compare::same("answer of write", &solver.write(&input, &mut file)?, &answer)?;
-    compare::numbers("file", &file, &expected)?;
+    let (answer, file) = compare_written(solver, &input, &before)?;
     if answer.number != 0 {
         return Ok(());
     }
@@ -108,6 +114,7 @@ fn written_and_read(solver: &dyn Solver, random: &mut Random) -> Compared {
     compare::matrices(&back, &input, true)
 }
 
+/// Random matrices are written and read back.
 pub fn round_trips(solver: &dyn Solver, range: Range, tally: &mut Tally) {
     for number in range.numbers() {
         let result = written_and_read(solver, &mut range.random(number));

@@ -26,8 +26,8 @@ fn agree(solver: &dyn Solver, cases: &mut [Case; 3]) -> Compared {
     Ok(())
 }
 
-/// Returns how many inputs had no form short of slots.
-pub fn run(solver: &dyn Solver, range: Range, tally: &mut Tally) -> u64 {
+/// Only inputs with no form short of slots are compared: of many, at least half must be of that kind.
+pub fn run(solver: &dyn Solver, range: Range, tally: &mut Tally) {
     let mut compared = 0;
     for number in range.numbers() {
         let (input, mut cases) = generate::three_forms(&mut range.random(number));
@@ -39,5 +39,8 @@ pub fn run(solver: &dyn Solver, range: Range, tally: &mut Tally) -> u64 {
         let result = agree(solver, &mut cases);
         tally.add(|| format!("{} {} n {}", range.label("forms", number), solver.name(), input.n), result);
     }
-    compared
+    if range.only.is_none() {
+        let enough = compare::at_least("inputs in three forms", compared, range.count / 2);
+        tally.add(|| format!("forms seed {} {}", range.seed, solver.name()), enough);
+    }
 }

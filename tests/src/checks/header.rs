@@ -1,4 +1,4 @@
-//! The C header: read by a C compiler and, with the library, used by a C program.
+//! The C header: read by a C compiler, and used by a C program with the library.
 use super::Tally;
 use crate::compare::{self, Compared};
 use std::path::PathBuf;
@@ -46,9 +46,8 @@ fn linked() -> Compared {
     result
 }
 
+/// Checks the header by itself, and with a C program that uses the library.
 pub fn run(tally: &mut Tally) {
     tally.add(|| "C header".to_string(), syntax());
-    if cfg!(feature = "library") {
-        tally.add(|| "C program over the library".to_string(), linked());
-    }
+    tally.add(|| "C program over the library".to_string(), linked());
 }

@@ -1,6 +1,8 @@
 //! Cases with known figures: the paper's boundary graphs, Report 114's example and grid, the test load.
+use super::cases::compare_case;
 use super::{Solver, Tally};
 use crate::compare::{self, Compared, Difference};
+use crate::generate::Case;
 use crate::load;
 use crate::model::*;
 
@@ -116,7 +118,7 @@ fn arrow(solver: &dyn Solver) -> Compared {
     compare::same("one upper plain slot fewer", &answer, &Refusal { number: 11, place: 1 }.into())
 }
 
-/// The same graph with each of the four stores one slot short: T(0) = {1,2}, T(1) = {2}, lower rows {}, {0}, {0,1}.
+/// Solves the arrow with each of the four stores one slot short: T(0) = {1,2}, T(1) = {2}, lower rows {}, {0}, {0,1}.
 fn arrow_lacks(solver: &dyn Solver) -> Compared {
     let rows = [vec![(0, 9.0), (1, 1.0), (2, 1.0)], vec![(0, 1.0), (1, 9.0)], vec![(0, 1.0), (2, 9.0)]];
     let input = load::from_rows(&rows, &[1.0, 1.0, 1.0]);
@@ -180,31 +182,69 @@ fn report_114_example(solver: &dyn Solver) -> Compared {
     Ok(())
 }
 
+/// Lists of the same length whose numbers differ by rounding only; a NaN is near nothing.
 fn near(name: &str, found: &[f64], expected: &[f64]) -> Compared {
+    compare::same(&format!("length of {name}"), &found.len(), &expected.len())?;
     for (slot, (&a, &b)) in found.iter().zip(expected).enumerate() {
-        if (a - b).abs() > 1e-12 * b.abs() {
+        let close = (a - b).abs() <= 1e-12 * b.abs();
+        if !close {
             return compare::differ(format!("{name}[{slot}]"), a, b);
         }
     }
     Ok(())
 }
 
+/// `near` itself: what it must let pass and what it must not.
+pub fn near_fails(tally: &mut Tally) {
+    let inf = f64::INFINITY;
+    let asked: [(&[f64], &[f64], bool); 10] = [
+        (&[], &[], true),
+        (&[1.0, 2.0], &[1.0, 2.0], true),
+        (&[1.0 + f64::EPSILON], &[1.0], true),
+        (&[1.0 + 1e-11], &[1.0], false),
+        (&[f64::NAN], &[1.0], false),
+        (&[1.0], &[f64::NAN], false),
+        (&[f64::NAN], &[f64::NAN], false),
+        (&[inf], &[1.0], false),
+        (&[1.0], &[1.0, 2.0], false),
+        (&[1.0, 2.0], &[1.0], false),
+    ];
+    for (found, expected, passes) in asked {
+        let result = compare::same("passes", &near("x", found, expected).is_ok(), &passes);
+        tally.add(|| format!("near {found:?} {expected:?}"), result);
+    }
+}
+
 /// The order that Report 114's driver prints for the 3 by 3 grid, counted from 0.
 pub const GRID_ORDER: [u16; 9] = [0, 2, 6, 8, 5, 4, 1, 3, 7];
 
+/// Report 114's 3 by 3 grid problem with one order for rows and columns.
+pub fn grid_ordered(order: &[u16]) -> Input {
+    Input { r: order.to_vec(), c: order.to_vec(), ..load::grid(3) }
+}
+
+/// Compares every buffer of the three solves with the reference, bit by bit.
+fn solves_as_reference(solver: &dyn Solver, input: &Input, slots: Slots) -> Compared {
+    for form in SOLVES {
+        let call = Call::Solve(form);
+        let buffers = Buffers::for_call(call, input.n, slots);
+        compare_case(solver, &Case { call, input: input.clone(), buffers, report: 4 }).1?;
+    }
+    Ok(())
+}
+
 fn grid_in(solver: &dyn Solver, order: &[u16], expected: Counts, slots: Slots) -> Result<Vec<f64>, Difference> {
-    let mut input = load::grid(3);
-    input.r = order.to_vec();
-    input.c = order.to_vec();
-    let mut solution = Vec::new();
+    let input = grid_ordered(order);
+    solves_as_reference(solver, &input, Slots::all(20))?;
+    let (_, first) = solve(solver, Form::Plain, &input, Slots::all(20))?;
+    near("x", &first.x, &[1.0, 2.0, 3.0, 4.0, 5.0, 6.0, 7.0, 8.0, 9.0])?;
     for form in SOLVES {
         let (answer, buffers) = solve(solver, form, &input, Slots::all(20))?;
         compare::same("answer", &answer, &expected.into())?;
-        near("x", &buffers.x, &[1.0, 2.0, 3.0, 4.0, 5.0, 6.0, 7.0, 8.0, 9.0])?;
-        solution = buffers.x;
+        compare::floats(&format!("x of the {form:?} form"), &buffers.x, &first.x)?;
     }
     uses(solver, &input, expected, slots)?;
-    Ok(solution)
+    Ok(first.x)
 }
 
 /// The shared form fits index stores of exactly these slots, and one fewer on either side is refused.
@@ -265,33 +305,24 @@ fn test_load(solver: &dyn Solver, figures: &LoadFigures) -> Compared {
     uses(solver, &input, figures.counts, shared)
 }
 
-/// Other seeds and sizes of the test load, all three solves, against the reference.
+/// Solves the test load of other seeds and sizes in all three forms, against the reference.
 fn loads_against_reference(solver: &dyn Solver) -> Compared {
     for (n, seed) in [(1, 1), (2, 7), (40, 3), (150, 1), (300, 9), (512, 65_535)] {
-        let input = load::test_load(n, seed);
-        for form in SOLVES {
-            let call = Call::Solve(form);
-            let buffers = Buffers::for_call(call, n, Slots::all(n * n));
-            let case = crate::generate::Case { call, input: input.clone(), buffers, report: 4 };
-            super::cases::compare_case(solver, &case).1?;
-        }
+        solves_as_reference(solver, &load::test_load(n, seed), Slots::all(n * n))?;
     }
     Ok(())
 }
 
-/// The whole range of n: a tridiagonal system of 4,096.
+/// Tries the whole range of n: a tridiagonal system of 4,096.
 fn largest_tridiagonal(solver: &dyn Solver) -> Compared {
     let input = load::tridiagonal(4_096);
-    for call in
-        [Call::Structure(Form::Shared), Call::Solve(Form::Plain), Call::Solve(Form::Shared), Call::Solve(Form::Row)]
-    {
-        let buffers = Buffers::for_call(call, input.n, Slots::all(4_095));
-        let case = crate::generate::Case { call, input: input.clone(), buffers, report: 4 };
-        super::cases::compare_case(solver, &case).1?;
-    }
-    Ok(())
+    solves_as_reference(solver, &input, Slots::all(4_095))?;
+    let call = Call::Structure(Form::Shared);
+    let buffers = Buffers::for_call(call, input.n, Slots::all(4_095));
+    compare_case(solver, &Case { call, input, buffers, report: 4 }).1
 }
 
+/// Runs every case with known figures on the solver.
 pub fn run(solver: &dyn Solver, tally: &mut Tally) {
     let graphs: [(&str, Compared); 13] = [
         ("the paper's file", solves(solver, &paper_matrix(), counts(1, 1, 1), &[1.0, 2.0])),

@@ -5,45 +5,76 @@ pub mod files;
 pub mod forms;
 pub mod header;
 pub mod known;
+pub mod nulls;
+#[cfg(all(feature = "standin", not(feature = "library")))]
+pub mod planted;
 pub mod printed;
 pub mod signatures;
 
 use crate::compare::{Compared, Difference};
 use crate::model::*;
 use crate::reference::{self, matrix_file, Lists};
+use std::process::ExitCode;
 
-/// How many checks passed and failed. Failures are printed as they come, up to a limit.
-#[derive(Default)]
+/// How many checks passed and failed. The first failures are printed as they come.
 pub struct Tally {
     pub passed: u64,
     pub failed: u64,
+    /// How many failures are printed.
+    shown: u64,
 }
 
-const SHOWN: u64 = 40;
+impl Default for Tally {
+    fn default() -> Tally {
+        Tally { passed: 0, failed: 0, shown: 40 }
+    }
+}
 
 impl Tally {
+    /// A tally that prints no failures, where they are expected.
+    pub fn silent() -> Tally {
+        Tally { shown: 0, ..Tally::default() }
+    }
+
+    /// Counts one check; its name is made only where it is printed.
     pub fn add(&mut self, name: impl FnOnce() -> String, result: Compared) {
         match result {
             Ok(()) => self.passed += 1,
             Err(difference) => {
                 self.failed += 1;
-                if self.failed <= SHOWN {
+                if self.failed <= self.shown {
                     println!("FAILED {}: {difference}", name());
                 }
             }
+        }
+    }
+
+    /// Prints the closing line; the exit status is a failure where a check failed.
+    pub fn close(&self) -> ExitCode {
+        println!("{} passed, {} failed", self.passed, self.failed);
+        if self.failed == 0 {
+            ExitCode::SUCCESS
+        } else {
+            ExitCode::FAILURE
         }
     }
 }
 
 /// The calls of one solver. An error is a fault of the call itself, as a slot written outside its buffer.
 pub trait Solver {
+    /// What failures call it.
     fn name(&self) -> &'static str;
     /// The calls that it has.
     fn calls(&self) -> &'static [Call];
+    /// Runs a call; `report` is the length of the report lent to it.
     fn run(&self, call: Call, input: &Input, buffers: &mut Buffers, report: usize) -> Result<Answer, Difference>;
+    /// Looks a list up: its offset and length.
     fn lookup(&self, lists: &Lists, side: Side, place: usize) -> Result<(usize, usize), Difference>;
+    /// Finds n and e of a matrix file, or its refusal.
     fn shape(&self, file: &[u8]) -> Result<Result<(usize, usize), Refusal>, Difference>;
+    /// Reads a matrix file into the lent buffers.
     fn read(&self, file: &[u8], matrix: &mut Input) -> Result<Answer, Difference>;
+    /// Writes a matrix file into the lent bytes.
     fn write(&self, matrix: &Input, file: &mut Vec<u8>) -> Result<Answer, Difference>;
 }
 
@@ -98,7 +129,10 @@ fn masked(call: Call, answer: Answer, report: usize) -> Answer {
 
 /// The library behind the C interface.
 #[cfg(any(feature = "library", feature = "standin"))]
-pub struct Library;
+pub struct Library {
+    /// Whether buffers of length 0 are lent as NULL.
+    pub nulls: bool,
+}
 
 #[cfg(any(feature = "library", feature = "standin"))]
 impl Solver for Library {
@@ -111,34 +145,27 @@ impl Solver for Library {
     }
 
     fn run(&self, call: Call, input: &Input, buffers: &mut Buffers, report: usize) -> Result<Answer, Difference> {
+        crate::ffi::lend_nulls(self.nulls);
         crate::ffi::run(call, input, buffers, report)
     }
 
     fn lookup(&self, lists: &Lists, side: Side, place: usize) -> Result<(usize, usize), Difference> {
+        crate::ffi::lend_nulls(self.nulls);
         crate::ffi::lookup(lists, side, place)
     }
 
     fn shape(&self, file: &[u8]) -> Result<Result<(usize, usize), Refusal>, Difference> {
+        crate::ffi::lend_nulls(self.nulls);
         crate::ffi::shape(file)
     }
 
     fn read(&self, file: &[u8], matrix: &mut Input) -> Result<Answer, Difference> {
+        crate::ffi::lend_nulls(self.nulls);
         crate::ffi::read(file, matrix)
     }
 
     fn write(&self, matrix: &Input, file: &mut Vec<u8>) -> Result<Answer, Difference> {
+        crate::ffi::lend_nulls(self.nulls);
         crate::ffi::write(matrix, file)
-    }
-}
-
-/// The library, where one is linked.
-pub fn library() -> Option<&'static dyn Solver> {
-    #[cfg(any(feature = "library", feature = "standin"))]
-    {
-        Some(&Library)
-    }
-    #[cfg(not(any(feature = "library", feature = "standin")))]
-    {
-        None
     }
 }

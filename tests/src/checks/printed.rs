@@ -7,36 +7,42 @@ use crate::load;
 use crate::model::*;
 use crate::random::Random;
 use crate::reference::{matrix_file, program};
-use std::io::Write;
+use std::io::{ErrorKind, Write};
 use std::path::{Path, PathBuf};
-use std::process::{Command, Stdio};
+use std::process::{Command, Output, Stdio};
 
 /// The executable: LILACPLIERS_PROGRAM, or target/bin/solve of the repository.
-pub fn executable() -> Option<PathBuf> {
-    if let Some(path) = std::env::var_os("LILACPLIERS_PROGRAM") {
-        return Some(PathBuf::from(path));
+pub fn executable() -> PathBuf {
+    match std::env::var_os("LILACPLIERS_PROGRAM") {
+        Some(path) => PathBuf::from(path),
+        None => super::header::repository().join("target").join("bin").join("solve"),
     }
-    let path = super::header::repository().join("target").join("bin").join("solve");
-    path.exists().then_some(path)
 }
 
-fn output_of(path: &Path, file: &[u8]) -> Result<Vec<u8>, std::io::Error> {
+fn output_of(path: &Path, file: &[u8]) -> Result<Output, std::io::Error> {
     let mut child = Command::new(path).stdin(Stdio::piped()).stdout(Stdio::piped()).spawn()?;
     if let Some(mut stdin) = child.stdin.take() {
-        // a program that has read enough may close its input early
-        let _ = stdin.write_all(file);
+        match stdin.write_all(file) {
+            // a program that has read enough may close its input early
+            Err(error) if error.kind() != ErrorKind::BrokenPipe => return Err(error),
+            _ => {}
+        }
     }
-    Ok(child.wait_with_output()?.stdout)
+    child.wait_with_output()
 }
 
 fn compare_output(path: &Path, file: &[u8]) -> Compared {
     match output_of(path, file) {
-        Ok(bytes) => compare::same("output", &String::from_utf8_lossy(&bytes).into_owned(), &program::output(file)),
+        Ok(output) => {
+            let text = String::from_utf8_lossy(&output.stdout).into_owned();
+            compare::same("output", &text, &program::output(file))?;
+            compare::same("exit status", &output.status.code(), &Some(0))
+        }
         Err(error) => compare::differ(format!("running {}", path.display()), error.to_string(), "a run"),
     }
 }
 
-/// The reference's own output for the paper's file, and its other fixed lines.
+/// Checks the reference's own output for the paper's file, and its other fixed lines.
 pub fn known_outputs(tally: &mut Tally) {
     let paper = "n 2 lower 1 upper 1 products 1\nx 0 3FF0000000000000\nx 1 4000000000000000\n";
     let expect = |file: &[u8], text: &str| compare::same("output", &program::output(file), &text.to_string());
@@ -72,6 +78,7 @@ fn chosen_files() -> Vec<(String, Vec<u8>)> {
         ("the paper's file".to_string(), matrix_file::file_of(&known::paper_matrix())),
         ("Report 114's example".to_string(), matrix_file::file_of(&known::report_example())),
         ("Report 114's grid".to_string(), matrix_file::file_of(&load::grid(3))),
+        ("Report 114's grid in its order".to_string(), matrix_file::file_of(&known::grid_ordered(&known::GRID_ORDER))),
         ("n = 64, e = 1,024".to_string(), matrix_file::file_of(&full(64, 1_024))),
         ("n = 64, the whole lower and upper side filled".to_string(), matrix_file::file_of(&bordered(64))),
         ("n = 65".to_string(), matrix_file::file_of(&load::tridiagonal(65))),
@@ -118,7 +125,12 @@ fn random_file(random: &mut Random) -> Vec<u8> {
     file
 }
 
+/// Runs the program on chosen files and on random ones; a missing program is one failure.
 pub fn run(path: &Path, range: Range, tally: &mut Tally) {
+    if !path.exists() {
+        let missing = compare::differ(path.display().to_string(), "no file", "the program");
+        return tally.add(|| "program".to_string(), missing);
+    }
     for (name, file) in chosen_files() {
         tally.add(|| format!("program on {name}"), compare_output(path, &file));
     }

@@ -119,9 +119,24 @@ fn exports() -> Compared {
     same_signatures(&exported_signatures(&text_of("crates/capi/src/lib.rt")?), &header)
 }
 
-pub fn run(tally: &mut Tally) {
-    tally.add(|| "declarations against the header".to_string(), declarations());
-    if cfg!(feature = "library") {
-        tally.add(|| "exports against the header".to_string(), exports());
+/// Checks that each declared function has a comment right above it.
+fn commented() -> Compared {
+    let text = text_of("include/lilacpliers.h")?;
+    let mut above = "";
+    let mut found = 0;
+    for line in text.lines() {
+        if line.starts_with("uint32_t lp_") {
+            found += 1;
+            compare::same(&format!("comment above {line}"), &above.ends_with("*/"), &true)?;
+        }
+        above = line;
     }
+    compare::same("functions", &found, &header_signatures(&text).len())
+}
+
+/// Checks that header, declarations and exports have the same functions with the same arguments.
+pub fn run(tally: &mut Tally) {
+    tally.add(|| "comments of the header".to_string(), commented());
+    tally.add(|| "declarations against the header".to_string(), declarations());
+    tally.add(|| "exports against the header".to_string(), exports());
 }

@@ -11,7 +11,7 @@ pub struct Solved {
     pub z: Vec<f64>,
 }
 
-/// 13 at k unless the result is finite.
+/// Question 13: the result, or a refusal at k unless it is finite.
 fn checked(k: usize, result: f64) -> Result<f64, Refusal> {
     if result.is_finite() {
         return Ok(result);
@@ -19,13 +19,13 @@ fn checked(k: usize, result: f64) -> Result<f64, Refusal> {
     refuse(13, k)
 }
 
-/// from - a·b, two roundings.
+/// The difference from - a·b in two roundings.
 fn minus_product(k: usize, from: f64, a: f64, b: f64) -> Result<f64, Refusal> {
     let product = checked(k, a * b)?;
     checked(k, from - product)
 }
 
-/// Places 0 to n - 1, then back.
+/// Eliminates places 0 to n - 1, then goes back.
 pub fn solve(fill: &Fill, entries: &[Vec<(usize, f64)>], right: &[f64]) -> Result<Solved, Refusal> {
     let n = right.len();
     let mut solved = Solved::default();
@@ -65,7 +65,7 @@ fn eliminate(k: usize, fill: &Fill, solved: &mut Solved, w: &mut [f64], right: f
     Ok(s)
 }
 
-/// From k = n - 1 down: z.
+/// The back steps, from k = n - 1 down, which find z.
 pub fn back(upper: &[Vec<usize>], u: &[Vec<f64>], y: &[f64]) -> Result<Vec<f64>, Refusal> {
     let mut z = vec![0.0; y.len()];
     for k in (0..y.len()).rev() {
@@ -91,12 +91,12 @@ pub fn forward(lower: &[Vec<(usize, f64)>], d: &[f64], right: &[f64]) -> Result<
     Ok(y)
 }
 
-/// b by place.
+/// The right side by place: slot k is b(r(k)).
 pub fn right_by_place(r: &[u16], b: &[f64]) -> Vec<f64> {
     r.iter().map(|&row| b[row as usize]).collect()
 }
 
-/// x(c(k)) = z(k).
+/// The solution by own column: x(c(k)) = z(k).
 pub fn own_order(c: &[u16], z: &[f64]) -> Vec<f64> {
     let mut x = vec![0.0; z.len()];
     for (k, &column) in c.iter().enumerate() {

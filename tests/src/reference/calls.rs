@@ -35,7 +35,7 @@ impl<'a> Structure<'a> {
         }
     }
 
-    /// 9, 10 and 11 at k.
+    /// Puts questions 9, 10 and 11 at k.
     fn ask(&mut self, k: usize, slots: &Slots) -> Result<(), Refusal> {
         if !self.fill.diagonal[k] {
             return refuse(9, k);
@@ -86,7 +86,7 @@ fn slots_of(buffers: &Buffers) -> Slots {
     }
 }
 
-/// 9 to 11 for every k.
+/// Puts questions 9 to 11 for every k.
 fn place_all<'a>(form: Form, fill: &'a Fill, slots: &Slots) -> Result<Structure<'a>, Refusal> {
     let mut structure = Structure::new(form, fill);
     for k in 0..fill.upper.len() {
@@ -95,7 +95,7 @@ fn place_all<'a>(form: Form, fill: &'a Fill, slots: &Slots) -> Result<Structure<
     Ok(structure)
 }
 
-/// 14 for every k.
+/// Puts question 14 for every k.
 fn match_all<'a>(form: Form, fill: &'a Fill, buffers: &Buffers) -> Result<Structure<'a>, Refusal> {
     let slots = slots_of(buffers);
     let mut structure = Structure::new(form, fill);
@@ -161,7 +161,7 @@ fn find(call: Call, input: &Input, buffers: &Buffers) -> Result<Found, Refusal> 
     Ok(found)
 }
 
-/// 5, 6 (b only), 15, 13: x.
+/// Puts questions 5, 6 (b only), 15 and 13, and finds x.
 fn another_right_side(form: Form, input: &Input, buffers: &Buffers) -> Result<Vec<f64>, Refusal> {
     questions::orders(input.n, &input.r, &input.c)?;
     questions::finite(&input.b, 0)?;
@@ -174,7 +174,7 @@ fn another_right_side(form: Form, input: &Input, buffers: &Buffers) -> Result<Ve
     Ok(arithmetic::own_order(&input.c, &z))
 }
 
-/// The slots of `from`, then zeros.
+/// Leaves the slots of `from`, then zeros.
 fn put<T: Copy + Default>(to: &mut [T], from: &[T]) {
     to.fill(T::default());
     to[..from.len()].copy_from_slice(from);
@@ -195,7 +195,7 @@ fn clear_store(store: &mut Store) {
     store.values.fill(0.0);
 }
 
-/// Zero in all that the call writes but x and scratch.
+/// Zeroes all that the call writes but x and scratch.
 fn clear_written(call: Call, buffers: &mut Buffers) {
     match call {
         Call::Structure(_) | Call::Solve(_) => {
@@ -217,7 +217,7 @@ fn clear_scratch(buffers: &mut Buffers) {
     buffers.scratch_u32.fill(0);
 }
 
-/// What a call that ends well leaves, scratch apart.
+/// Leaves what a call that ends well leaves, scratch apart.
 fn leave(call: Call, found: &Found, buffers: &mut Buffers) {
     clear_written(call, buffers);
     if let Call::Structure(_) | Call::Solve(Form::Plain | Form::Shared) = call {

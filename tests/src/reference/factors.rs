@@ -60,6 +60,7 @@ pub struct Factors<'a> {
 }
 
 impl<'a> Factors<'a> {
+    /// The factors as the buffers present them in the form.
     pub fn new(form: Form, n: usize, buffers: &'a Buffers) -> Factors<'a> {
         let shared = form == Form::Shared;
         Factors {
@@ -69,7 +70,7 @@ impl<'a> Factors<'a> {
         }
     }
 
-    /// 15: are lists well shaped and factors finite?
+    /// Question 15: are lists well shaped and factors finite?
     pub fn ask(&self) -> Result<(), Refusal> {
         for k in 0..self.d.len() {
             if !(self.lower.good(k) && self.upper.good(k) && self.d[k].is_finite()) {
@@ -79,7 +80,7 @@ impl<'a> Factors<'a> {
         Ok(())
     }
 
-    /// Row k of L: (i, L(k, i)), i ascending.
+    /// The rows of L: row k holds the pairs of i and L(k, i), i ascending.
     pub fn lower_rows(&self) -> Vec<Vec<(usize, f64)>> {
         let n = self.d.len();
         let mut rows = vec![Vec::new(); n];
@@ -95,7 +96,7 @@ impl<'a> Factors<'a> {
         rows
     }
 
-    /// T and u.
+    /// The lists T(k) and the values u along them.
     pub fn upper_rows(&self) -> (Vec<Vec<usize>>, Vec<Vec<f64>>) {
         let n = self.d.len();
         let lists = (0..n).map(|k| self.upper.list(k).iter().map(|&j| j as usize).collect()).collect();

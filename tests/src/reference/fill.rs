@@ -28,12 +28,14 @@ pub struct Fill {
 }
 
 impl Fill {
+    /// The fill of a matrix under its orders.
     pub fn of(input: &Input) -> Fill {
         let entries = entries_by_place(input);
         let pattern: Vec<Vec<usize>> = entries.iter().map(|row| row.iter().map(|e| e.0).collect()).collect();
         Fill::of_pattern(&pattern)
     }
 
+    /// The fill of M', given as the places of each row's entries.
     pub fn of_pattern(pattern: &[Vec<usize>]) -> Fill {
         let n = pattern.len();
         let mut fill = Fill {
@@ -63,14 +65,17 @@ impl Fill {
         }
     }
 
+    /// The number of filled positions below the diagonal.
     pub fn lower_count(&self) -> u64 {
         self.lower_rows.iter().map(|row| row.len() as u64).sum()
     }
 
+    /// The number of filled positions above the diagonal.
     pub fn upper_count(&self) -> u64 {
         self.upper.iter().map(|list| list.len() as u64).sum()
     }
 
+    /// The sum over k of the filled rows below k times the length of T(k).
     pub fn products(&self) -> u64 {
         let lengths = self.lower_columns.iter().zip(&self.upper);
         lengths.map(|(below, list)| below.len() as u64 * list.len() as u64).sum()

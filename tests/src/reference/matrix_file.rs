@@ -1,7 +1,9 @@
 //! The matrix file: blocks of 512 bytes with a number and two checks.
 use crate::model::*;
 
+/// Bytes of a block.
 pub const BLOCK: usize = 512;
+/// Bytes of the payload of a block.
 pub const PAYLOAD: usize = 504;
 const MODULUS: u64 = 65_521;
 /// What stands for every NaN in a file that is written.
@@ -71,7 +73,7 @@ impl Fields<'_> {
     }
 }
 
-/// 16, 17, 1, 18: n and e.
+/// Puts questions 16, 17, 1 and 18, and finds n and e.
 pub fn shape(file: &[u8]) -> Result<(usize, usize), Refusal> {
     if file.is_empty() || !file.len().is_multiple_of(BLOCK) || file.len() as u64 > 1 << 41 {
         return refuse(16, 0);
@@ -139,7 +141,7 @@ fn payload_of(m: &Input) -> Vec<u8> {
     bytes
 }
 
-/// Writes a file of the exact length: 1, 18 for e, 2.
+/// Puts questions 1, 18 (for e) and 2, and writes a file of the exact length.
 pub fn write(matrix: &Input, file: &mut [u8]) -> Answer {
     let (n, e) = (matrix.n, matrix.columns.len());
     if let Err(q) = super::questions::rows(n) {

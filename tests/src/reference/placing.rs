@@ -31,14 +31,14 @@ impl Placed {
         self.slots.extend(list.iter().map(|&j| j as u16));
     }
 
-    /// The plain form: behind what is there.
+    /// Places a list the plain way, behind what is there.
     pub fn append(&mut self, list: &[usize]) {
         let run = self.slots.len();
         self.write(list);
         self.close(run, list.len());
     }
 
-    /// The shared form's three steps for place k. `row`: the i < k that lead to k, `lists`: the side's lists.
+    /// Places list k by the shared form's three steps. `row`: the i < k that lead to k, `lists`: the side's lists.
     pub fn share(&mut self, k: usize, row: &[usize], lists: &[Vec<usize>]) {
         let list = &lists[k];
         let run = if list.is_empty() {
@@ -62,7 +62,7 @@ impl Placed {
         Some(self.runs[first] as usize + lists[first].len() - most)
     }
 
-    /// Step 3: over the end of the last run, or behind all.
+    /// Step 3: the list goes over the end of the last run, or behind all.
     fn overlap_or_append(&mut self, list: &[usize]) -> usize {
         if let Some(run) = self.overlap(list) {
             let standing = self.slots.len() - run;

@@ -7,6 +7,7 @@ const SMALL_ROWS: usize = 64;
 const SMALL_ENTRIES: usize = 1_024;
 const STORE: usize = 2_016;
 
+/// The lines that the program prints for a file.
 pub fn output(file: &[u8]) -> String {
     if file.len() > MAX_FILE {
         return "too large\n".to_string();

@@ -1,9 +1,10 @@
 //! Questions 1 to 8, each by itself.
 use crate::model::*;
 
+/// A question passed, or its refusal.
 pub type Asked = Result<(), Refusal>;
 
-/// 1: is n within its limits?
+/// Question 1: is n within its limits?
 pub fn rows(n: usize) -> Asked {
     if !(1..=MAX_ROWS).contains(&n) {
         return refuse(1, 0);
@@ -11,7 +12,7 @@ pub fn rows(n: usize) -> Asked {
     Ok(())
 }
 
-/// 2: are all lent lengths as stated?
+/// Question 2: are all lent lengths as stated?
 pub fn lengths(call: Call, input: &Input, buffers: &Buffers) -> Asked {
     if input_lengths(call, input) && side_lengths(call, input.n, buffers) && rest_lengths(call, input.n, buffers) {
         return Ok(());
@@ -50,7 +51,7 @@ fn rest_lengths(call: Call, n: usize, buffers: &Buffers) -> bool {
     scratch && (matches!(call, Call::Structure(_)) || whole)
 }
 
-/// 3: do starts begin at 0, never fall, and end at e?
+/// Question 3: do starts begin at 0, never fall, and end at e?
 pub fn starts(input: &Input) -> Asked {
     let s = &input.starts;
     for row in 0..input.n {
@@ -64,7 +65,7 @@ pub fn starts(input: &Input) -> Asked {
     Ok(())
 }
 
-/// 4: is each column below n?
+/// Question 4: is each column below n?
 pub fn columns(input: &Input) -> Asked {
     match input.columns.iter().position(|&j| j as usize >= input.n) {
         Some(entry) => refuse(4, entry),
@@ -72,7 +73,7 @@ pub fn columns(input: &Input) -> Asked {
     }
 }
 
-/// 5: are r and then c orders?
+/// Question 5: are r and then c orders?
 pub fn orders(n: usize, r: &[u16], c: &[u16]) -> Asked {
     if let Some(k) = order_fault(n, r) {
         return refuse(5, k);
@@ -87,7 +88,7 @@ fn order_fault(n: usize, order: &[u16]) -> Option<usize> {
     (0..n).find(|&k| order[k] as usize >= n || order[..k].contains(&order[k]))
 }
 
-/// 6: are the numbers finite? Places count from `from`.
+/// Question 6: are the numbers finite? Places count from `from`.
 pub fn finite(numbers: &[f64], from: usize) -> Asked {
     match numbers.iter().position(|v| !v.is_finite()) {
         Some(p) => refuse(6, p + from),
@@ -100,7 +101,7 @@ pub fn row_range(input: &Input, row: usize) -> std::ops::Range<usize> {
     input.starts[row] as usize..input.starts[row + 1] as usize
 }
 
-/// 7: by k, has each row an entry?
+/// Question 7: by k, has each row an entry?
 pub fn entries(input: &Input) -> Asked {
     for &row in &input.r {
         if row_range(input, row as usize).is_empty() {
@@ -110,7 +111,7 @@ pub fn entries(input: &Input) -> Asked {
     Ok(())
 }
 
-/// 8: by k, is no column twice in a row?
+/// Question 8: by k, is no column twice in a row?
 pub fn repeats(input: &Input) -> Asked {
     for &row in &input.r {
         let mut sorted = input.columns[row_range(input, row as usize)].to_vec();
@@ -122,7 +123,7 @@ pub fn repeats(input: &Input) -> Asked {
     Ok(())
 }
 
-/// 3 to 8 as the call puts them; structure skips 6.
+/// Puts questions 3 to 8 as the call does; the structure call skips 6.
 pub fn three_to_eight(call: Call, input: &Input) -> Asked {
     starts(input)?;
     columns(input)?;

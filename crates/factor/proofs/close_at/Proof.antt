@@ -24,7 +24,7 @@ close-row-requires : tie.Need-close-row-requires
 close-row-requires c κs =
     let s = c .before .before .before .before .before .before .before .before .before .before in
     let a = s .args in
-    subst (λ (l : List ℕ). Closable (a .n) (a .k .0) (length (now (a .work))) l (now (a .uindex)) (now (a .uruns)) (now (a .ustarts)) (length (now (a .d))))
+    subst (λ (l : List ℕ). Closable (a .n) (a .k .0) (length (now (a .work))) l (now (a .upper-starts)) (now (a .upper-runs)) (now (a .upper-index)) (length (now (a .d))))
     (sym (c .before .before .lower-part .ensures)) (s .pre .1)
 
 same-length : tie.Need-same-length
@@ -37,7 +37,7 @@ returns : tie.Need-returns
 returns c =
     let s = c .before .before .before .before .before .before .before .before .before .before .before .before .before .before .before in
     let a = s .args in
-    subst (λ (l : List ℕ). Shut (a .n) (a .k .0) l (listAt (now (a .ustarts)) (now (a .uruns)) (now (a .uindex)) (a .k .0)) (now (a .work)) (c .before .before .before .before .close-row .last .0)
+    subst (λ (l : List ℕ). Shut (a .n) (a .k .0) l (listAt (now (a .upper-starts)) (now (a .upper-runs)) (now (a .upper-index)) (a .k .0)) (now (a .work)) (c .before .before .before .before .close-row .last .0)
     (now (a .d)) (c .before .before .before .before .close-row .last .1 .1 .1 .1 .1 .1 .1 .0) (a .t)) (c .before .before .before .before .before .before .before .lower-part .ensures) (c .before .before .before .before .close-row .ensures)
 
 pub close-at-spec : {M : Type 1} → statement M

@@ -9,7 +9,7 @@ use Rattle.factor.proofs.copy_list.Statement.{statement}
 use Rattle.factor.proofs.copy_list.Tie as tie
 use Rattle.factor.proofs.copy_list.Reads as reads
 use Rattle.factor.proofs.copy_list.Lts as lts
-use Rattle.factor.proofs.wide16.Reads as wide16-reads
+use Rattle.base.proofs.number.Reads as number-reads
 use Rattle.factor.proofs.Parts.{copy-start, copy-turn, copy-end}
 
 abbrev Inv-loop : tie.InvT-loop
@@ -23,14 +23,14 @@ loop-holds c =
     let a = c .before .before .args in
     (omega arith, refl, copy-start (now (a .list)) (now (a .marks)) (a .at) 0)
 
-mul-wide16 : tie.Need-mul-wide16 Inv-loop μ-loop
-mul-wide16 c = search needs
+mul-number : tie.Need-mul-number Inv-loop μ-loop
+mul-number c = search needs
 
-shared-slice-read-wide16 : tie.Need-shared-slice-read-wide16 Inv-loop μ-loop
-shared-slice-read-wide16 c = search needs
+shared-slice-read-number : tie.Need-shared-slice-read-number Inv-loop μ-loop
+shared-slice-read-number c = search needs
 
-wide16-requires : tie.Need-wide16-requires Inv-loop μ-loop
-wide16-requires c κs = search needs
+number-requires : tie.Need-number-requires Inv-loop μ-loop
+number-requires c κs = search needs
 
 add-marks : tie.Need-add-marks Inv-loop μ-loop
 add-marks c = search needs
@@ -51,7 +51,7 @@ loop-again : tie.Need-loop-again Inv-loop μ-loop
 loop-again c =
     let l = c .before .before .before .loop in
     let a = c .before .before .before .before .before .before .args in
-    (omega arith, simp length-set (l .inv .1), copy-turn (now (a .list)) (l .marks) (a .at) (l .p) (c .wide16 .result) (c .wide16 .ensures) (omega arith) ∙ l .inv .2)
+    (omega arith, simp length-set (l .inv .1), copy-turn (now (a .list)) (l .marks) (a .at) (l .p) (c .number .result) (c .number .ensures .0) (omega arith) ∙ l .inv .2)
 
 same-length : tie.Need-same-length Inv-loop μ-loop
 same-length c = search needs
@@ -69,9 +69,9 @@ copy-list-spec =
     Inv-loop
     μ-loop
     loop-holds
-    mul-wide16
-    shared-slice-read-wide16
-    wide16-requires
+    mul-number
+    shared-slice-read-number
+    number-requires
     add-marks
     mul-marks
     slice-write-marks

@@ -6,9 +6,9 @@ use Rattle.factor.proofs.find_lower.Statement.{statement}
 use Rattle.factor.proofs.find_lower.Tie as tie
 use Rattle.factor.proofs.find_lower.Reads as reads
 use Rattle.factor.proofs.find_lower.Lts as lts
-use Rattle.rows.proofs.close_place.Reads as close-place-reads
-use Rattle.rows.proofs.load_row_place.Reads as load-row-place-reads
-use Rattle.rows.proofs.renew_cuts.Reads as renew-cuts-reads
+use Rattle.marks.proofs.close_place.Reads as close-place-reads
+use Rattle.marks.proofs.load_row_place.Reads as load-row-place-reads
+use Rattle.marks.proofs.renew_cuts.Reads as renew-cuts-reads
 
 add-stamp : tie.Need-add-stamp
 add-stamp c = search needs
@@ -18,19 +18,19 @@ mul-cuts c = search needs
 
 load-row-place-requires : tie.Need-load-row-place-requires
 load-row-place-requires c κs =
-    let F = c .before .before .before .before .before .before .before .before .before .before .pre in
+    let F = c .before .before .before .before .before .before .before .before .before .pre .1 in
     ((F .own-place, F .room), (F .row, (F .columns-below, F .inverse)))
 
 close-place-requires : tie.Need-close-place-requires
 close-place-requires c κs =
-    let F = c .before .before .before .before .before .before .before .before .before .before .before .before .before .before .pre in
+    let F = c .before .before .before .before .before .before .before .before .before .before .before .before .before .pre .1 in
     let l = c .before .before .before .load-row-place in
     (close-parts F (l .ensures) (l .kept .0), ((F .place, base-at _, room-kept _ _ _ (l .kept .0) (F .room)), close-blocks F (l .ensures) (l .kept .0)))
 
 renew-cuts-requires : tie.Need-renew-cuts-requires
 renew-cuts-requires c κs =
-    let s = c .before .before .before .before .before .before .before .before .before .before .before .before .before .before .before .before .before .before in
-    let F = s .pre in
+    let s = c .before .before .before .before .before .before .before .before .before .before .before .before .before .before .before .before .before in
+    let F = s .pre .1 in
     let l = c .before .before .before .before .before .before .before .load-row-place in
     let q = c .before .before .before .close-place in (
       F .store .read,
@@ -41,11 +41,11 @@ renew-cuts-requires c κs =
     )
 
 returns : tie.Need-returns
-returns c =
+returns c P F =
     let l = c .before .before .before .before .before .before .before .before .before .before .load-row-place in
     let q = c .before .before .before .before .before .before .close-place in
     let e = c .before .before .renew-cuts in
-    found (c .before .before .before .before .before .before .before .before .before .before .before .before .before .before .before .before .before .before .before .before .before .pre) (l .ensures) (l .kept .0) (q .ensures) (q .kept .0) (e .ensures) (e .kept .0)
+    found F (l .ensures) (l .kept .0) (q .ensures) (q .kept .0) (e .ensures) (e .kept .0)
 
 pub find-lower-spec : {M : Type 1} → statement M
 find-lower-spec =

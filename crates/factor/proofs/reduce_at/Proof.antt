@@ -1,6 +1,11 @@
 use Rattle.factor.specs.SystemLaws.{row-reducible, row-lent, system-closed}
+use Rattle.factor.specs.Factoring.{lists, RowAt, RowReady}
+use Rattle.factor.specs.TurnLaws.{row-room}
+use Rattle.factor.proofs.Parts.{own-list, own-right}
 use Rattle.outcome.specs.Solve.{system}
 use Rattle.matrix.specs.Input.{inputOf}
+use mathlib.Core.List.{List}
+use Prim.Native.Nat.{ℕ}
 use lib.ListN.{length}
 use denote.Ref.{now}
 use borrow.Author.Needs.{needs}
@@ -8,68 +13,74 @@ use Rattle.factor.proofs.reduce_at.Statement.{statement}
 use Rattle.factor.proofs.reduce_at.Tie as tie
 use Rattle.factor.proofs.reduce_at.Reads as reads
 use Rattle.factor.proofs.reduce_at.Lts as lts
-use Rattle.factor.proofs.inverse_part.Reads as inverse-part-reads
+use Rattle.factor.proofs.lower_at.Reads as lower-at-reads
 use Rattle.factor.proofs.lower_part.Reads as lower-part-reads
-use Rattle.factor.proofs.own_columns.Reads as own-columns-reads
-use Rattle.factor.proofs.own_right.Reads as own-right-reads
-use Rattle.factor.proofs.own_values.Reads as own-values-reads
+use Rattle.lent.proofs.own_row.Reads as own-row-reads
+use Rattle.lent.proofs.row_columns.Reads as row-columns-reads
+use Rattle.lent.proofs.row_right.Reads as row-right-reads
+use Rattle.lent.proofs.row_values.Reads as row-values-reads
 use Rattle.numeric.proofs.reduce_row.Reads as reduce-row-reads
 
-cast-place : tie.Need-cast-place
-cast-place c = search needs
+abbrev Begin : tie.After-lower-at → tie.Start
+Begin c = c .before .before .before .before .before .before .before .before .before .before .before .before .before .before .before
 
-lower-part-requires : tie.Need-lower-part-requires
-lower-part-requires c κs = search needs
+-- the row once its lower row stands in the marks, for any column order that fits
+stands : (c : tie.After-lower-at) (o : List ℕ)
+    → RowReady (Begin c .args .form) (inputOf (Begin c .args .n) (now (Begin c .args .starts)) (now (Begin c .args .columns)) (now (Begin c .args .values)) (now (Begin c .args .r)) o (now (Begin c .args .b))) (lists (now (Begin c .args .lower-starts)) (now (Begin c .args .lower-index)) (now (Begin c .args .upper-starts)) (now (Begin c .args .upper-runs)) (now (Begin c .args .upper-index)))
+    (Begin c .args .k .0) (length (now (Begin c .args .upper-values))) (length (now (Begin c .args .work))) (now (Begin c .args .marks))
+    → RowAt (inputOf (Begin c .args .n) (now (Begin c .args .starts)) (now (Begin c .args .columns)) (now (Begin c .args .values)) (now (Begin c .args .r)) o (now (Begin c .args .b))) (Begin c .args .k .0) (c .lower-at .result) (now (Begin c .args .upper-starts)) (now (Begin c .args .upper-runs)) (now (Begin c .args .upper-index))
+    (c .lower-at .last .1 .1 .1 .1 .1 .1 .1 .1 .1 .1 .1 .0) (length (now (Begin c .args .upper-values))) (length (now (Begin c .args .work)))
+stands c o h = h .row (c .lower-at .last .1 .1 .1 .1 .1 .1 .1 .1 .1 .1 .1 .0) (c .lower-at .result) (c .lower-at .kept .1 .1 .1 .1 .1 .1 .1 .1 .1 .1 .1 .0) (c .lower-at .ensures)
 
-inverse-part-requires : tie.Need-inverse-part-requires
-inverse-part-requires c κs = search needs
+here : (c : tie.After-lower-at) → RowAt (inputOf (Begin c .args .n) (now (Begin c .args .starts)) (now (Begin c .args .columns)) (now (Begin c .args .values)) (now (Begin c .args .r)) (Begin c .pre .0) (now (Begin c .args .b)))
+    (Begin c .args .k .0) (c .lower-at .result) (now (Begin c .args .upper-starts)) (now (Begin c .args .upper-runs)) (now (Begin c .args .upper-index))
+    (c .lower-at .last .1 .1 .1 .1 .1 .1 .1 .1 .1 .1 .1 .0) (length (now (Begin c .args .upper-values))) (length (now (Begin c .args .work)))
+here c = stands c (Begin c .pre .0) (Begin c .pre .1)
 
-own-columns-requires : tie.Need-own-columns-requires
-own-columns-requires c κs = search needs
+row-columns-requires : tie.Need-row-columns-requires
+row-columns-requires c κs =
+    let q = c .before .before .before .before .before .before in
+    let a = Begin q .args in
+    own-list (now (a .r)) (a .k) (c .own-row .result) (c .own-row .ensures) (now (a .starts)) _ (here q .columns)
 
-own-values-requires : tie.Need-own-values-requires
-own-values-requires c κs = search needs
+row-values-requires : tie.Need-row-values-requires
+row-values-requires c κs =
+    let q = c .before .before .before .before .before .before .before in
+    let a = Begin q .args in
+    own-list (now (a .r)) (a .k) (c .before .own-row .result) (c .before .own-row .ensures) (now (a .starts)) _ (here q .values)
 
-own-right-requires : tie.Need-own-right-requires
-own-right-requires c κs = search needs
+row-right-requires : tie.Need-row-right-requires
+row-right-requires c κs =
+    let q = c .before .before .before .before .before .before .before .before in
+    let a = Begin q .args in
+    own-right (now (a .r)) (a .k) (c .before .before .own-row .result) (c .before .before .own-row .ensures) _ (here q .right)
 
 reduce-row-requires : tie.Need-reduce-row-requires
 reduce-row-requires c κs =
-    let s = c .before .before .before .before .before .before .before .before .before .before .before .before .before .before .before .before .before .before .before .before in
-    let a = s .args in
-    row-reducible (inputOf (a .n) (now (a .starts)) (now (a .columns)) (now (a .values)) (now (a .r)) (now (a .c)) (now (a .b))) (a .k .0) (a .below) (now (a .ustarts)) (now (a .uruns))
-    (now (a .uindex)) (now (a .marks)) (length (now (a .uvalues))) (length (now (a .work))) (s .pre)
-    (now (c .before .before .before .before .own-columns .result)) (now (c .before .before .before .before .before .inverse-part .result)) (now (c .before .before .before .before .before .before .lower-part .result)) (now (c .before .before .before .own-values .result)) (c .before .before .own-right .result)
-    (c .before .before .before .before .own-columns .ensures) (c .before .before .before .own-values .ensures) (c .before .before .before .before .before .inverse-part .ensures) (c .before .before .own-right .ensures) (c .before .before .before .before .before .before .lower-part .ensures)
-
-same-length : tie.Need-same-length
-same-length c = search needs
-
-same-length-2 : tie.Need-same-length-2
-same-length-2 c = search needs
+    let p = c .before .before in
+    let q = p .before .before .before .before .before .before .before .before .before in
+    let a = Begin q .args in
+    row-reducible _ (a .k .0) (q .lower-at .result) (now (a .upper-starts)) (now (a .upper-runs)) (now (a .upper-index)) (q .lower-at .last .1 .1 .1 .1 .1 .1 .1 .1 .1 .1 .1 .0) (length (now (a .upper-values))) (length (now (a .work))) (here q)
+    (p .before .before .before .own-row .result) (now (p .before .before .row-columns .result)) (now (p .before .before .before .before .lower-part .result)) (now (p .before .row-values .result)) (p .row-right .result)
+    (p .before .before .before .own-row .ensures) (p .before .before .row-columns .ensures) (p .before .row-values .ensures) (p .row-right .ensures) (p .before .before .before .before .lower-part .ensures)
 
 returns : tie.Need-returns
-returns c rows h =
-    let s = c .before .before .before .before .before .before .before .before .before .before .before .before .before .before .before .before .before .before .before .before .before .before .before .before .before in
-    let a = s .args in
-    let i = inputOf (a .n) (now (a .starts)) (now (a .columns)) (now (a .values)) (now (a .r)) (now (a .c)) (now (a .b)) in
-    c .before .before .before .before .reduce-row .ensures (system i) rows h
-    (row-lent i (a .k .0) (a .below) (now (a .ustarts)) (now (a .uruns)) (now (a .uindex)) (now (a .marks)) (length (now (a .uvalues))) (length (now (a .work))) (s .pre)
-    (now (c .before .before .before .before .before .before .before .before .before .own-columns .result)) (now (c .before .before .before .before .before .before .before .before .before .before .inverse-part .result)) (now (c .before .before .before .before .before .before .before .before .before .before .before .lower-part .result)) (now (c .before .before .before .before .before .before .before .before .own-values .result)) (c .before .before .before .before .before .before .before .own-right .result)
-    (c .before .before .before .before .before .before .before .before .before .own-columns .ensures) (c .before .before .before .before .before .before .before .before .own-values .ensures) (c .before .before .before .before .before .before .before .before .before .before .inverse-part .ensures) (c .before .before .before .before .before .before .before .own-right .ensures) (c .before .before .before .before .before .before .before .before .before .before .before .lower-part .ensures))
-    (system-closed i (a .k .0) (s .pre .place))
+returns c =
+    let p = c .before .before .before .before .before .before .before in
+    let q = p .before .before .before .before .before .before .before .before .before in
+    let a = Begin q .args in (
+      q .lower-at .ensures,
+      λ o rows h H.
+          let i = (inputOf (a .n) (now (a .starts)) (now (a .columns)) (now (a .values)) (now (a .r)) o (now (a .b))) in
+          c .before .before .before .before .reduce-row .ensures (system i) rows H
+          (row-lent i (a .k .0) (q .lower-at .result) (now (a .upper-starts)) (now (a .upper-runs)) (now (a .upper-index)) (q .lower-at .last .1 .1 .1 .1 .1 .1 .1 .1 .1 .1 .1 .0) (length (now (a .upper-values))) (length (now (a .work))) (stands q o h)
+          (p .before .before .before .own-row .result) (now (p .before .before .row-columns .result)) (now (p .before .before .before .before .lower-part .result)) (now (p .before .row-values .result)) (p .row-right .result)
+          (p .before .before .before .own-row .ensures) (p .before .before .row-columns .ensures) (p .before .row-values .ensures) (p .row-right .ensures) (p .before .before .before .before .lower-part .ensures))
+          (system-closed i (a .k .0) (stands q o h .place)),
+    )
 
 pub reduce-at-spec : {M : Type 1} → statement M
 reduce-at-spec =
     tie.close
-    (tie.spec
-    cast-place
-    lower-part-requires
-    inverse-part-requires
-    own-columns-requires
-    own-values-requires
-    own-right-requires
-    reduce-row-requires
-    same-length
-    same-length-2
-    returns)
+    (tie.spec (λ c κs. c .before .before .before .before .before .before .before .before .before .before .before .before .before .before .pre .1 .asked) (λ c. search needs) (λ c κs. row-room (here (c .before .before .before .before))) (λ c κs. here (c .before .before .before .before .before) .own-place) row-columns-requires row-values-requires row-right-requires
+    reduce-row-requires (λ c. search needs) (λ c. search needs) (λ c. search needs) returns)

@@ -28,7 +28,7 @@ cast-t12 c =
     omega (
       arith,
       s .pre .few,
-      stopped-below (storeGiven (a .n) (now (a .work)) (now (a .uindex)) (now (a .uruns)) (now (a .ustarts)) (now (a .uvalues))) (a .n) (c .before .z .given .0 .0) (drop (zFrom (a .n)) (now (a .work)))
+      stopped-below (storeGiven (a .n) (now (a .work)) (now (a .upper-starts)) (now (a .upper-runs)) (now (a .upper-index)) (now (a .upper-values))) (a .n) (c .before .z .given .0 .0) (drop (zFrom (a .n)) (now (a .work)))
           (stopped-at _ _ (c .before .before .before .before .before .back-steps .result) _ (c .before .z .given .1) (c .before .before .before .before .before .back-steps .ensures .0)),
     )
 

@@ -1,17 +1,20 @@
-use Rattle.lookup.specs.Lookup.{sized}
 use borrow.Author.Needs.{needs}
+use native.Mathlib.Omega.{arith}
 use Rattle.lookup.proofs.side_fits.Statement.{statement}
 use Rattle.lookup.proofs.side_fits.Tie as tie
+use Rattle.lookup.specs.LookupLaws.{rows-few, sized-yes, sized-no}
 
 add-result : tie.Need-add-result
-add-result c = search needs
+add-result c = omega (arith, rows-few (c .before .before .before .before .args .n) (c .if1 .taken))
 
-add-result-2 : tie.Need-add-result-2
-add-result-2 c = search needs
+run-starts-requires : tie.Need-run-starts-requires
+run-starts-requires c κs = rows-few _ (c .if1 .taken)
 
 returns : tie.Need-returns
-unfolding sized
-returns c = search needs
+returns c = sized-yes _ _ _ _ _ _ (c .before .if1 .taken) (c .run-starts .ensures)
+
+returns-2 : tie.Need-returns-2
+returns-2 c = sized-no _ _ _ (c .if1 .left)
 
 pub side-fits-spec : {M : Type 1} → statement M
-side-fits-spec = tie.close (tie.spec add-result add-result-2 returns)
+side-fits-spec = tie.close (tie.spec add-result run-starts-requires returns returns-2)

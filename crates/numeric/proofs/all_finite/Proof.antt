@@ -11,7 +11,7 @@ use Rattle.numeric.proofs.all_finite.Tie as tie
 use Rattle.numeric.proofs.all_finite.Reads as reads
 use Rattle.numeric.proofs.all_finite.Lts as lts
 use Rattle.base.proofs.is_finite.Reads as is-finite-reads
-use Rattle.numeric.proofs.wide16.Reads as wide16-reads
+use Rattle.base.proofs.wide.Reads as wide-reads
 
 abbrev Inv-loop : tie.InvT-loop
 Inv-loop w columns p₀ p = (p ≤ length columns) × (finiteOn (drop p columns) w ≡ finiteOn columns w)
@@ -26,20 +26,20 @@ inside c = c .before .before .before .before .pre (c .before .loop .p) (c .loop-
 loop-holds : tie.Need-loop-holds Inv-loop μ-loop
 loop-holds c = search needs
 
-mul-wide16 : tie.Need-mul-wide16 Inv-loop μ-loop
-mul-wide16 c = search needs
+mul-wide : tie.Need-mul-wide Inv-loop μ-loop
+mul-wide c = search needs
 
-shared-slice-read-wide16 : tie.Need-shared-slice-read-wide16 Inv-loop μ-loop
-shared-slice-read-wide16 c = search needs
+shared-slice-read-wide : tie.Need-shared-slice-read-wide Inv-loop μ-loop
+shared-slice-read-wide c = search needs
 
-wide16-requires : tie.Need-wide16-requires Inv-loop μ-loop
-wide16-requires c κs = search needs
+wide-requires : tie.Need-wide-requires Inv-loop μ-loop
+wide-requires c κs = search needs
 
 mul-is-finite : tie.Need-mul-is-finite Inv-loop μ-loop
-mul-is-finite c = omega (arith, inside (c .before .before), c .wide16 .ensures)
+mul-is-finite c = omega (arith, inside (c .before .before), c .wide .ensures .0)
 
 shared-slice-read-is-finite : tie.Need-shared-slice-read-is-finite Inv-loop μ-loop
-shared-slice-read-is-finite c = rw (c .before .wide16 .ensures) (inside (c .before .before .before))
+shared-slice-read-is-finite c = rw (c .before .wide .ensures .0) (inside (c .before .before .before))
 
 is-finite-requires : tie.Need-is-finite-requires Inv-loop μ-loop
 is-finite-requires c κs = search needs
@@ -54,13 +54,13 @@ loop-again : tie.Need-loop-again Inv-loop μ-loop
 loop-again c =
     let a = c .before .before .before .before .before .before .before .before .before .args in
     let l = c .before .before .before .before .before .before .loop in
-    (omega arith, finiteOn-pass (now (a .columns)) (now (a .w)) (l .p) (omega arith) (sym (rw (c .before .before .before .wide16 .ensures) at (c .before .is-finite .ensures)) ∙ c .if1 .taken) ∙ l .inv .1)
+    (omega arith, finiteOn-pass (now (a .columns)) (now (a .w)) (l .p) (omega arith) (sym (rw (c .before .before .before .wide .ensures .0) at (c .before .is-finite .ensures)) ∙ c .if1 .taken) ∙ l .inv .1)
 
 returns : tie.Need-returns Inv-loop μ-loop
 returns c =
     let a = c .before .before .before .before .before .before .before .before .before .args in
     let l = c .before .before .before .before .before .before .loop in
-    sym (finiteOn-fail (now (a .columns)) (now (a .w)) (l .p) (omega arith) (sym (rw (c .before .before .before .wide16 .ensures) at (c .before .is-finite .ensures)) ∙ c .if1 .left)) ∙ l .inv .1
+    sym (finiteOn-fail (now (a .columns)) (now (a .w)) (l .p) (omega arith) (sym (rw (c .before .before .before .wide .ensures .0) at (c .before .is-finite .ensures)) ∙ c .if1 .left)) ∙ l .inv .1
 
 returns-2 : tie.Need-returns-2 Inv-loop μ-loop
 returns-2 c = sym (finiteOn-end (now (c .before .before .before .before .args .columns)) (now (c .before .before .before .before .args .w)) (c .before .loop .p) (omega arith)) ∙ c .before .loop .inv .1
@@ -72,9 +72,9 @@ all-finite-spec =
     Inv-loop
     μ-loop
     loop-holds
-    mul-wide16
-    shared-slice-read-wide16
-    wide16-requires
+    mul-wide
+    shared-slice-read-wide
+    wide-requires
     mul-is-finite
     shared-slice-read-is-finite
     is-finite-requires

@@ -9,9 +9,9 @@ use Rattle.numeric.proofs.back_at.Statement.{statement}
 use Rattle.numeric.proofs.back_at.Tie as tie
 use Rattle.numeric.proofs.back_at.Reads as reads
 use Rattle.numeric.proofs.back_at.Lts as lts
-use Rattle.numeric.proofs.index_part.Reads as index-part-reads
-use Rattle.numeric.proofs.less_products.Reads as less-products-reads
-use Rattle.numeric.proofs.values_part.Reads as values-part-reads
+use Rattle.lent.proofs.list_at.Reads as list-at-reads
+use Rattle.numeric.proofs.subtract_products.Reads as subtract-products-reads
+use Rattle.lent.proofs.values_at.Reads as values-at-reads
 use Rattle.base.specs.Scratch.{zFrom}
 
 add-t : tie.Need-add-t
@@ -23,38 +23,38 @@ mul-t c = search needs
 shared-slice-read-t : tie.Need-shared-slice-read-t
 shared-slice-read-t c = search needs
 
-index-part-requires : tie.Need-index-part-requires
-index-part-requires c κs = c .before .before .before .before .before .before .pre .2 .list (c .before .before .before .before .before .before .args .k) (c .before .before .before .before .before .before .pre .0)
+list-at-requires : tie.Need-list-at-requires
+list-at-requires c κs = c .before .before .before .before .before .before .pre .2 .list (c .before .before .before .before .before .before .args .k) (c .before .before .before .before .before .before .pre .0)
 
-values-part-requires : tie.Need-values-part-requires
-values-part-requires c κs = c .before .before .before .before .before .before .before .pre .2 .values (c .before .before .before .before .before .before .before .args .k) (c .before .before .before .before .before .before .before .pre .0)
+values-at-requires : tie.Need-values-at-requires
+values-at-requires c κs = c .before .before .before .before .before .before .before .pre .2 .values (c .before .before .before .before .before .before .before .args .k) (c .before .before .before .before .before .before .before .pre .0)
 
 mul-z : tie.Need-mul-z
 mul-z c = search needs
 
-mul-less-products : tie.Need-mul-less-products
-mul-less-products c = search needs
+mul-subtract-products : tie.Need-mul-subtract-products
+mul-subtract-products c = search needs
 
-sub-less-products : tie.Need-sub-less-products
-sub-less-products c = search needs
+sub-subtract-products : tie.Need-sub-subtract-products
+sub-subtract-products c = search needs
 
-part-less-products-start : tie.Need-part-less-products-start
-part-less-products-start c = search needs
+part-subtract-products-start : tie.Need-part-subtract-products-start
+part-subtract-products-start c = search needs
 
-part-less-products-end : tie.Need-part-less-products-end
-part-less-products-end c = search needs
+part-subtract-products-end : tie.Need-part-subtract-products-end
+part-subtract-products-end c = search needs
 
-less-products-requires : tie.Need-less-products-requires
-less-products-requires c κs =
+subtract-products-requires : tie.Need-subtract-products-requires
+subtract-products-requires c κs =
     let t = c .before .before .before .before .before .before .before .before .before in
     let a = t .args in
-    let r = ready (a .n) (a .k) (now (a .upper)) (now (a .runs)) (now (a .starts)) (now (a .u)) _ _ (t .pre .2) (t .pre .0) (c .before .before .index-part .ensures) (c .before .values-part .ensures) in
+    let r = ready (a .n) (a .k) (now (a .starts)) (now (a .runs)) (now (a .upper)) (now (a .u)) _ _ (t .pre .2) (t .pre .0) (c .before .before .list-at .ensures) (c .before .values-at .ensures) in
     (r .0, rw (tail-length (now (a .f)) (a .n) (t .pre .1)) (r .1))
 
 returns : tie.Need-returns
 returns c =
     let a = c .before .before .before .before .before .before .before .before .before .before .args in
-    rest-is _ _ _ _ _ _ _ _ (c .before .before .before .index-part .ensures) (c .before .before .values-part .ensures) (tail-is (now (a .f)) (zFrom (a .n))) (c .less-products .ensures)
+    rest-is _ _ _ _ _ _ _ _ (c .before .before .before .list-at .ensures) (c .before .before .values-at .ensures) (tail-is (now (a .f)) (zFrom (a .n))) (c .subtract-products .ensures)
 
 pub back-at-spec : {M : Type 1} → statement M
 back-at-spec =
@@ -63,12 +63,12 @@ back-at-spec =
     add-t
     mul-t
     shared-slice-read-t
-    index-part-requires
-    values-part-requires
+    list-at-requires
+    values-at-requires
     mul-z
-    mul-less-products
-    sub-less-products
-    part-less-products-start
-    part-less-products-end
-    less-products-requires
+    mul-subtract-products
+    sub-subtract-products
+    part-subtract-products-start
+    part-subtract-products-end
+    subtract-products-requires
     returns)

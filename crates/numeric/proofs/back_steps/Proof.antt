@@ -1,6 +1,6 @@
 use Rattle.numeric.proofs.Turns.{scratch-turn, scratch-stop, back-end}
 use Rattle.numeric.specs.Stores.{storeGiven}
-use Rattle.arithmetic.specs.Arith.{back}
+use Rattle.arithmetic.specs.Stopping.{back}
 use denote.Ref.{now}
 use lib.Ieee.{nan}
 use lib.Seq.{take-set-le}
@@ -18,12 +18,12 @@ use Rattle.numeric.proofs.back_at.Reads as back-at-reads
 use Rattle.base.specs.Scratch.{zFrom}
 
 abbrev Inv-loop : tie.InvT-loop
-Inv-loop f₀ n upper runs starts u z k₀ f k =
+Inv-loop f₀ n starts runs upper u z k₀ f k =
     (z ≡ zFrom n) × (k ≤ n) × (length f ≡ length f₀) × (take (zFrom n) f ≡ take (zFrom n) f₀)
-    × (back (storeGiven n f₀ upper runs starts u) k (drop (zFrom n) f) ≡ back (storeGiven n f₀ upper runs starts u) n (drop (zFrom n) f₀))
+    × (back (storeGiven n f₀ starts runs upper u) k (drop (zFrom n) f) ≡ back (storeGiven n f₀ starts runs upper u) n (drop (zFrom n) f₀))
 
 abbrev μ-loop : tie.MeasureT-loop
-μ-loop f₀ n upper runs starts u z k₀ f k = k
+μ-loop f₀ n starts runs upper u z k₀ f k = k
 
 mul-z : tie.Need-mul-z Inv-loop μ-loop
 mul-z c = search needs
@@ -61,7 +61,7 @@ loop-again c =
       omega arith,
       simp length-set (l .inv .2),
       take-set-le (zFrom (a .n)) (l .f) (zFrom (a .n) + (l .k - 1)) (c .before .before .back-at .result) (omega arith) ∙ l .inv .3,
-      scratch-turn (a .n) (l .k) (l .k - 1) (now (a .upper)) (now (a .runs)) (now (a .starts)) (now (a .u)) (now (a .f)) (l .f) (c .before .before .back-at .result)
+      scratch-turn (a .n) (l .k) (l .k - 1) (now (a .starts)) (now (a .runs)) (now (a .upper)) (now (a .u)) (now (a .f)) (l .f) (c .before .before .back-at .result)
           (omega arith) (omega arith) (l .inv .3) (t .pre .2 (l .k - 1) (omega arith)) (c .before .before .back-at .ensures) (sym (c .before .is-finite .ensures) ∙ c .if1 .taken) ∙ l .inv .4,
     )
 
@@ -73,7 +73,7 @@ returns c =
     let l = c .before .before .before .before .before .loop in
     let t = c .before .before .before .before .before .before .before .before .before .before .before in
     let a = t .args in (
-      sym (scratch-stop (a .n) (l .k) (l .k - 1) (now (a .upper)) (now (a .runs)) (now (a .starts)) (now (a .u)) (now (a .f)) (l .f) (c .before .before .back-at .result)
+      sym (scratch-stop (a .n) (l .k) (l .k - 1) (now (a .starts)) (now (a .runs)) (now (a .upper)) (now (a .u)) (now (a .f)) (l .f) (c .before .before .back-at .result)
           (omega arith) (omega arith) (l .inv .3) (t .pre .2 (l .k - 1) (omega arith)) (c .before .before .back-at .ensures) (sym (c .before .is-finite .ensures) ∙ c .if1 .left)) ∙ l .inv .4,
       l .inv .3,
     )

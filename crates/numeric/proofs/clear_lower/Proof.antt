@@ -10,7 +10,7 @@ use Rattle.numeric.proofs.clear_lower.Statement.{statement}
 use Rattle.numeric.proofs.clear_lower.Tie as tie
 use Rattle.numeric.proofs.clear_lower.Reads as reads
 use Rattle.numeric.proofs.clear_lower.Lts as lts
-use Rattle.numeric.proofs.wide32.Reads as wide32-reads
+use Rattle.base.proofs.slot.Reads as slot-reads
 
 abbrev Inv-loop : tie.InvT-loop
 Inv-loop w₀ places p₀ w p = (p ≤ length places) × (length w ≡ length w₀) × (zeroed (drop p places) w ≡ zeroed places w₀)
@@ -21,20 +21,20 @@ abbrev μ-loop : tie.MeasureT-loop
 loop-holds : tie.Need-loop-holds Inv-loop μ-loop
 loop-holds c = search needs
 
-mul-wide32 : tie.Need-mul-wide32 Inv-loop μ-loop
-mul-wide32 c = search needs
+mul-slot : tie.Need-mul-slot Inv-loop μ-loop
+mul-slot c = search needs
 
-shared-slice-read-wide32 : tie.Need-shared-slice-read-wide32 Inv-loop μ-loop
-shared-slice-read-wide32 c = search needs
+shared-slice-read-slot : tie.Need-shared-slice-read-slot Inv-loop μ-loop
+shared-slice-read-slot c = search needs
 
-wide32-requires : tie.Need-wide32-requires Inv-loop μ-loop
-wide32-requires c κs = search needs
+slot-requires : tie.Need-slot-requires Inv-loop μ-loop
+slot-requires c κs = search needs
 
 mul-w : tie.Need-mul-w Inv-loop μ-loop
-mul-w c = omega (arith, c .wide32 .ensures, c .before .before .before .before .before .before .pre (c .before .before .before .loop .p) (c .before .before .loop-test .taken), c .before .before .before .loop .inv .1)
+mul-w c = omega (arith, c .slot .ensures .0, c .before .before .before .before .before .before .pre (c .before .before .before .loop .p) (c .before .before .loop-test .taken), c .before .before .before .loop .inv .1)
 
 slice-write-w : tie.Need-slice-write-w Inv-loop μ-loop
-slice-write-w c = rw (c .wide32 .ensures, c .before .before .before .loop .inv .1) (c .before .before .before .before .before .before .pre (c .before .before .before .loop .p) (c .before .before .loop-test .taken))
+slice-write-w c = rw (c .slot .ensures .0, c .before .before .before .loop .inv .1) (c .before .before .before .before .before .before .pre (c .before .before .before .loop .p) (c .before .before .loop-test .taken))
 
 add-p : tie.Need-add-p Inv-loop μ-loop
 add-p c = search needs
@@ -46,7 +46,7 @@ loop-again : tie.Need-loop-again Inv-loop μ-loop
 unfolding lib.Ieee.ofBits
 loop-again c =
     let l = c .before .before .before .loop in
-    (omega arith, simp length-set (l .inv .1), zero-turn (now (c .before .before .before .before .before .before .args .places)) (l .w) (l .p) _ (c .wide32 .ensures) (c .before .before .loop-test .taken) ∙ l .inv .2)
+    (omega arith, simp length-set (l .inv .1), zero-turn (now (c .before .before .before .before .before .before .args .places)) (l .w) (l .p) _ (c .slot .ensures .0) (c .before .before .loop-test .taken) ∙ l .inv .2)
 
 same-length : tie.Need-same-length Inv-loop μ-loop
 same-length c = search needs
@@ -61,9 +61,9 @@ clear-lower-spec =
     Inv-loop
     μ-loop
     loop-holds
-    mul-wide32
-    shared-slice-read-wide32
-    wide32-requires
+    mul-slot
+    shared-slice-read-slot
+    slot-requires
     mul-w
     slice-write-w
     add-p

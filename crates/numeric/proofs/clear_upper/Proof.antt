@@ -10,7 +10,7 @@ use Rattle.numeric.proofs.clear_upper.Statement.{statement}
 use Rattle.numeric.proofs.clear_upper.Tie as tie
 use Rattle.numeric.proofs.clear_upper.Reads as reads
 use Rattle.numeric.proofs.clear_upper.Lts as lts
-use Rattle.numeric.proofs.wide16.Reads as wide16-reads
+use Rattle.base.proofs.wide.Reads as wide-reads
 
 abbrev Inv-loop : tie.InvT-loop
 Inv-loop w₀ places p₀ w p = (p ≤ length places) × (length w ≡ length w₀) × (zeroed (drop p places) w ≡ zeroed places w₀)
@@ -21,20 +21,20 @@ abbrev μ-loop : tie.MeasureT-loop
 loop-holds : tie.Need-loop-holds Inv-loop μ-loop
 loop-holds c = search needs
 
-mul-wide16 : tie.Need-mul-wide16 Inv-loop μ-loop
-mul-wide16 c = search needs
+mul-wide : tie.Need-mul-wide Inv-loop μ-loop
+mul-wide c = search needs
 
-shared-slice-read-wide16 : tie.Need-shared-slice-read-wide16 Inv-loop μ-loop
-shared-slice-read-wide16 c = search needs
+shared-slice-read-wide : tie.Need-shared-slice-read-wide Inv-loop μ-loop
+shared-slice-read-wide c = search needs
 
-wide16-requires : tie.Need-wide16-requires Inv-loop μ-loop
-wide16-requires c κs = search needs
+wide-requires : tie.Need-wide-requires Inv-loop μ-loop
+wide-requires c κs = search needs
 
 mul-w : tie.Need-mul-w Inv-loop μ-loop
-mul-w c = omega (arith, c .wide16 .ensures, c .before .before .before .before .before .before .pre (c .before .before .before .loop .p) (c .before .before .loop-test .taken), c .before .before .before .loop .inv .1)
+mul-w c = omega (arith, c .wide .ensures .0, c .before .before .before .before .before .before .pre (c .before .before .before .loop .p) (c .before .before .loop-test .taken), c .before .before .before .loop .inv .1)
 
 slice-write-w : tie.Need-slice-write-w Inv-loop μ-loop
-slice-write-w c = rw (c .wide16 .ensures, c .before .before .before .loop .inv .1) (c .before .before .before .before .before .before .pre (c .before .before .before .loop .p) (c .before .before .loop-test .taken))
+slice-write-w c = rw (c .wide .ensures .0, c .before .before .before .loop .inv .1) (c .before .before .before .before .before .before .pre (c .before .before .before .loop .p) (c .before .before .loop-test .taken))
 
 add-p : tie.Need-add-p Inv-loop μ-loop
 add-p c = search needs
@@ -46,7 +46,7 @@ loop-again : tie.Need-loop-again Inv-loop μ-loop
 unfolding lib.Ieee.ofBits
 loop-again c =
     let l = c .before .before .before .loop in
-    (omega arith, simp length-set (l .inv .1), zero-turn (now (c .before .before .before .before .before .before .args .places)) (l .w) (l .p) _ (c .wide16 .ensures) (c .before .before .loop-test .taken) ∙ l .inv .2)
+    (omega arith, simp length-set (l .inv .1), zero-turn (now (c .before .before .before .before .before .before .args .places)) (l .w) (l .p) _ (c .wide .ensures .0) (c .before .before .loop-test .taken) ∙ l .inv .2)
 
 same-length : tie.Need-same-length Inv-loop μ-loop
 same-length c = search needs
@@ -61,9 +61,9 @@ clear-upper-spec =
     Inv-loop
     μ-loop
     loop-holds
-    mul-wide16
-    shared-slice-read-wide16
-    wide16-requires
+    mul-wide
+    shared-slice-read-wide
+    wide-requires
     mul-w
     slice-write-w
     add-p

@@ -11,10 +11,10 @@ use Rattle.numeric.proofs.close_row.Reads as reads
 use Rattle.numeric.proofs.close_row.Lts as lts
 use Rattle.numeric.proofs.clear_lower.Reads as clear-lower-reads
 use Rattle.numeric.proofs.clear_upper.Reads as clear-upper-reads
-use Rattle.numeric.proofs.index_part.Reads as index-part-reads
+use Rattle.lent.proofs.list_at.Reads as list-at-reads
 
-index-part-requires : tie.Need-index-part-requires
-index-part-requires c κs = c .before .before .before .before .before .before .pre .list
+list-at-requires : tie.Need-list-at-requires
+list-at-requires c κs = c .before .before .before .before .before .before .pre .list
 
 mul-f : tie.Need-mul-f
 mul-f c = search needs
@@ -27,7 +27,7 @@ clear-lower-requires c κs = λ p q. simp length-set (omega (arith, c .before .b
 
 clear-upper-requires : tie.Need-clear-upper-requires
 clear-upper-requires c κs = λ p q.
-    omega (arith, below-is _ _ _ (c .before .before .before .before .before .index-part .ensures) (c .before .before .before .before .before .before .before .before .before .before .before .before .pre .above) p q, simp length-set at (c .before .before .before .clear-lower .kept .0), c .before .before .before .before .before .before .before .before .before .before .before .before .pre .scratch)
+    omega (arith, below-is _ _ _ (c .before .before .before .before .before .list-at .ensures) (c .before .before .before .before .before .before .before .before .before .before .before .before .pre .above) p q, simp length-set at (c .before .before .before .clear-lower .kept .0), c .before .before .before .before .before .before .before .before .before .before .before .before .pre .scratch)
 
 add-f : tie.Need-add-f
 add-f c = search needs
@@ -54,13 +54,13 @@ returns : tie.Need-returns
 unfolding lib.Ieee.ofBits
 returns c =
     let a = c .before .before .before .before .before .before .before .before .before .before .before .before .before .before .before .args in
-    shut (a .n) (a .k) (now (a .lower)) _ _ (now (a .f)) _ _ (now (a .d)) (a .row) (c .before .before .before .before .before .before .before .before .index-part .ensures) (c .before .before .before .before .before .before .clear-lower .ensures) (c .before .before .clear-upper .ensures)
+    shut (a .n) (a .k) (now (a .lower)) _ _ (now (a .f)) _ _ (now (a .d)) (a .row) (c .before .before .before .before .before .before .before .before .list-at .ensures) (c .before .before .before .before .before .before .clear-lower .ensures) (c .before .before .clear-upper .ensures)
 
 pub close-row-spec : {M : Type 1} → statement M
 close-row-spec =
     tie.close
     (tie.spec
-    index-part-requires
+    list-at-requires
     mul-f
     slice-write-f
     clear-lower-requires

@@ -11,31 +11,31 @@ use Rattle.numeric.proofs.eliminate.Statement.{statement}
 use Rattle.numeric.proofs.eliminate.Tie as tie
 use Rattle.numeric.proofs.eliminate.Reads as reads
 use Rattle.numeric.proofs.eliminate.Lts as lts
-use Rattle.numeric.proofs.step_at.Reads as step-at-reads
-use Rattle.numeric.proofs.wide32.Reads as wide32-reads
+use Rattle.numeric.proofs.subtract_row.Reads as subtract-row-reads
+use Rattle.base.proofs.slot.Reads as slot-reads
 
 abbrev Inv-loop : tie.InvT-loop
-Inv-loop f₀ n lower upper runs starts u s₀ p₀ f s p = Going n lower (storeGiven n f₀ upper runs starts u) f₀ s₀ f s p
+Inv-loop f₀ n lower starts runs upper u s₀ p₀ f s p = Going n lower (storeGiven n f₀ starts runs upper u) f₀ s₀ f s p
 
 abbrev μ-loop : tie.MeasureT-loop
-μ-loop f₀ n lower upper runs starts u s₀ p₀ f s p = length lower - p
+μ-loop f₀ n lower starts runs upper u s₀ p₀ f s p = length lower - p
 
 loop-holds : tie.Need-loop-holds Inv-loop μ-loop
 loop-holds c = record { l = []; upto = omega arith; same-f = refl; kept = refl; working = refl }
 
-mul-wide32 : tie.Need-mul-wide32 Inv-loop μ-loop
-mul-wide32 c = search needs
+mul-slot : tie.Need-mul-slot Inv-loop μ-loop
+mul-slot c = search needs
 
-shared-slice-read-wide32 : tie.Need-shared-slice-read-wide32 Inv-loop μ-loop
-shared-slice-read-wide32 c = search needs
+shared-slice-read-slot : tie.Need-shared-slice-read-slot Inv-loop μ-loop
+shared-slice-read-slot c = search needs
 
-wide32-requires : tie.Need-wide32-requires Inv-loop μ-loop
-wide32-requires c κs = search needs
+slot-requires : tie.Need-slot-requires Inv-loop μ-loop
+slot-requires c κs = search needs
 
-step-at-requires : tie.Need-step-at-requires Inv-loop μ-loop
-step-at-requires c κs =
+subtract-row-requires : tie.Need-subtract-row-requires Inv-loop μ-loop
+subtract-row-requires c κs =
     let t = c .before .before .before .before .before .before .before .before .before .before .before in
-    (rw (c .before .wide32 .ensures) (t .pre .2 (c .before .before .before .before .loop .p) (c .before .before .before .loop-test .taken)), omega (arith, t .pre .0, c .before .before .before .before .loop .inv .same-f), t .pre .1)
+    (rw (c .before .slot .ensures .0) (t .pre .2 (c .before .before .before .before .loop .p) (c .before .before .before .loop-test .taken)), omega (arith, t .pre .0, c .before .before .before .before .loop .inv .same-f), t .pre .1)
 
 add-p : tie.Need-add-p Inv-loop μ-loop
 add-p c = search needs
@@ -47,8 +47,8 @@ loop-again : tie.Need-loop-again Inv-loop μ-loop
 loop-again c =
     let a = c .before .before .before .before .before .before .before .before .before .before .before .before .before .before .args in
     let l = c .before .before .before .before .before .before .before .loop in
-    going-more (a .n) (now (a .lower)) (now (a .upper)) (now (a .runs)) (now (a .starts)) (now (a .u)) (now (a .f)) (l .f) (c .before .before .step-at .last .0) (a .row) (l .s) (c .before .before .step-at .result) (l .p)
-    (c .before .before .before .before .before .before .loop-test .taken) (c .before .before .before .before .before .before .before .before .before .before .before .before .before .before .pre .2) (c .before .before .step-at .kept .0) (l .inv) (rw (c .before .before .before .before .wide32 .ensures) at (c .before .before .step-at .ensures))
+    going-more (a .n) (now (a .lower)) (now (a .starts)) (now (a .runs)) (now (a .upper)) (now (a .u)) (now (a .f)) (l .f) (c .before .before .subtract-row .last .0) (a .row) (l .s) (c .before .before .subtract-row .result) (l .p)
+    (c .before .before .before .before .before .before .loop-test .taken) (c .before .before .before .before .before .before .before .before .before .before .before .before .before .before .pre .2) (c .before .before .subtract-row .kept .0) (l .inv) (rw (c .before .before .before .before .slot .ensures .0) at (c .before .before .subtract-row .ensures))
 
 same-length : tie.Need-same-length Inv-loop μ-loop
 same-length c = search needs
@@ -65,10 +65,10 @@ eliminate-spec =
     Inv-loop
     μ-loop
     loop-holds
-    mul-wide32
-    shared-slice-read-wide32
-    wide32-requires
-    step-at-requires
+    mul-slot
+    shared-slice-read-slot
+    slot-requires
+    subtract-row-requires
     add-p
     loop-less
     loop-again

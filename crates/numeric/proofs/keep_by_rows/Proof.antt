@@ -12,7 +12,7 @@ use Rattle.numeric.proofs.keep_by_rows.Statement.{statement}
 use Rattle.numeric.proofs.keep_by_rows.Tie as tie
 use Rattle.numeric.proofs.keep_by_rows.Reads as reads
 use Rattle.numeric.proofs.keep_by_rows.Lts as lts
-use Rattle.numeric.proofs.wide32.Reads as wide32-reads
+use Rattle.base.proofs.slot.Reads as slot-reads
 
 abbrev Inv-loop : tie.InvT-loop
 Inv-loop w lower l₀ from p₀ l p = (p ≤ length lower) × (length l ≡ length l₀) × (sets l (from + p) (gathered (drop p lower) w) ≡ sets l₀ from (gathered lower w))
@@ -23,20 +23,20 @@ abbrev μ-loop : tie.MeasureT-loop
 loop-holds : tie.Need-loop-holds Inv-loop μ-loop
 loop-holds c = (omega arith, refl, rw add-zero)
 
-mul-wide32 : tie.Need-mul-wide32 Inv-loop μ-loop
-mul-wide32 c = search needs
+mul-slot : tie.Need-mul-slot Inv-loop μ-loop
+mul-slot c = search needs
 
-shared-slice-read-wide32 : tie.Need-shared-slice-read-wide32 Inv-loop μ-loop
-shared-slice-read-wide32 c = search needs
+shared-slice-read-slot : tie.Need-shared-slice-read-slot Inv-loop μ-loop
+shared-slice-read-slot c = search needs
 
-wide32-requires : tie.Need-wide32-requires Inv-loop μ-loop
-wide32-requires c κs = search needs
+slot-requires : tie.Need-slot-requires Inv-loop μ-loop
+slot-requires c κs = search needs
 
 mul-l : tie.Need-mul-l Inv-loop μ-loop
-mul-l c = omega (arith, c .wide32 .ensures, c .before .before .before .before .before .before .before .pre .1 (c .before .before .before .loop .p) (c .before .before .loop-test .taken))
+mul-l c = omega (arith, c .slot .ensures .0, c .before .before .before .before .before .before .before .pre .1 (c .before .before .before .loop .p) (c .before .before .loop-test .taken))
 
 shared-slice-read-l : tie.Need-shared-slice-read-l Inv-loop μ-loop
-shared-slice-read-l c = rw (c .before .wide32 .ensures) (c .before .before .before .before .before .before .before .before .pre .1 (c .before .before .before .before .loop .p) (c .before .before .before .loop-test .taken))
+shared-slice-read-l c = rw (c .before .slot .ensures .0) (c .before .before .before .before .before .before .before .before .pre .1 (c .before .before .before .before .loop .p) (c .before .before .before .loop-test .taken))
 
 add-l : tie.Need-add-l Inv-loop μ-loop
 add-l c = search needs
@@ -57,7 +57,7 @@ loop-again : tie.Need-loop-again Inv-loop μ-loop
 loop-again c =
     let a = c .before .before .before .before .before .before .before .before .args in
     let l = c .before .before .before .before .loop in
-    (omega arith, simp length-set (l .inv .1), gather-turn (now (a .lower)) (now (a .w)) (l .l) (a .from) (l .p) _ (c .before .wide32 .ensures) (omega arith) ∙ l .inv .2)
+    (omega arith, simp length-set (l .inv .1), gather-turn (now (a .lower)) (now (a .w)) (l .l) (a .from) (l .p) _ (c .before .slot .ensures .0) (omega arith) ∙ l .inv .2)
 
 same-length : tie.Need-same-length Inv-loop μ-loop
 same-length c = search needs
@@ -75,9 +75,9 @@ keep-by-rows-spec =
     Inv-loop
     μ-loop
     loop-holds
-    mul-wide32
-    shared-slice-read-wide32
-    wide32-requires
+    mul-slot
+    shared-slice-read-slot
+    slot-requires
     mul-l
     shared-slice-read-l
     add-l

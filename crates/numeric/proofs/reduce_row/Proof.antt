@@ -1,7 +1,8 @@
 use Prim.Native.Nat.{_≤_}
 use Rattle.numeric.specs.PassLaws.{reduced}
 use Rattle.numeric.specs.StoreLaws.{list-length, below-is, list-room}
-use Rattle.numeric.specs.Stores.{placesOf, Loadable}
+use Rattle.numeric.specs.Stores.{placesOf}
+use Rattle.lent.specs.Reading.{orderOf}
 use lib.ListN.{length, take}
 use lib.Seq.{length-take-le, length-front}
 use denote.Ref.{now}
@@ -14,9 +15,9 @@ use Rattle.numeric.proofs.reduce_row.Reads as reads
 use Rattle.numeric.proofs.reduce_row.Lts as lts
 use Rattle.numeric.proofs.eliminate.Reads as eliminate-reads
 use Rattle.numeric.proofs.finish_row.Reads as finish-row-reads
-use Rattle.numeric.proofs.index_part.Reads as index-part-reads
+use Rattle.lent.proofs.list_at.Reads as list-at-reads
 use Rattle.numeric.proofs.load_row.Reads as load-row-reads
-use Rattle.numeric.proofs.wide32.Reads as wide32-reads
+use Rattle.base.proofs.slot.Reads as slot-reads
 
 -- the scratch is as long as it was
 long : (c : tie.After-eliminate) → length (c .eliminate .last .0) ≡ length (now (c .before .before .before .before .before .before .before .before .before .before .before .before .before .before .before .before .args .f))
@@ -29,22 +30,22 @@ slice-aggregate-load-row : tie.Need-slice-aggregate-load-row
 slice-aggregate-load-row c = sym (length-take-le (c .before .before .before .before .before .before .before .before .before .before .args .n) (now (c .before .before .before .before .before .before .before .before .before .before .args .f)) (omega (arith, c .before .before .before .before .before .before .before .before .before .before .pre .scratch)))
 
 load-row-requires : tie.Need-load-row-requires
-load-row-requires c κs = rw (length-take-le (c .before .before .before .before .before .before .before .before .before .before .args .n) (now (c .before .before .before .before .before .before .before .before .before .before .args .f)) (omega (arith, c .before .before .before .before .before .before .before .before .before .before .pre .scratch))) (c .before .before .before .before .before .before .before .before .before .before .pre .row)
+load-row-requires c κs = (length-take-le (c .before .before .before .before .before .before .before .before .before .before .args .n) (now (c .before .before .before .before .before .before .before .before .before .before .args .f)) (omega (arith, c .before .before .before .before .before .before .before .before .before .before .pre .scratch)), c .before .before .before .before .before .before .before .before .before .before .pre .row)
 
 eliminate-requires : tie.Need-eliminate-requires
 eliminate-requires c κs = (omega (arith, c .before .before .before .before .before .before .before .before .before .before .before .before .before .before .before .pre .scratch), c .before .before .before .before .before .before .before .before .before .before .before .before .before .before .before .pre .lists, c .before .before .before .before .before .before .before .before .before .before .before .before .before .before .before .pre .below)
 
-index-part-requires : tie.Need-index-part-requires
-index-part-requires c κs = c .before .before .before .before .before .before .before .before .before .before .before .before .before .before .before .before .before .before .pre .lists .list (c .before .before .before .before .before .before .before .before .before .before .before .before .before .before .before .before .before .before .args .k) (c .before .before .before .before .before .before .before .before .before .before .before .before .before .before .before .before .before .before .pre .place)
+list-at-requires : tie.Need-list-at-requires
+list-at-requires c κs = c .before .before .before .before .before .before .before .before .before .before .before .before .before .before .before .before .before .before .pre .lists .list (c .before .before .before .before .before .before .before .before .before .before .before .before .before .before .before .before .before .before .args .k) (c .before .before .before .before .before .before .before .before .before .before .before .before .before .before .before .before .before .before .pre .place)
 
-mul-wide32 : tie.Need-mul-wide32
-mul-wide32 c = omega (arith, c .before .before .before .before .before .before .before .before .before .before .before .before .before .before .before .before .before .before .before .pre .lists .values (c .before .before .before .before .before .before .before .before .before .before .before .before .before .before .before .before .before .before .before .args .k) (c .before .before .before .before .before .before .before .before .before .before .before .before .before .before .before .before .before .before .before .pre .place))
+mul-slot : tie.Need-mul-slot
+mul-slot c = omega (arith, c .before .before .before .before .before .before .before .before .before .before .before .before .before .before .before .before .before .before .before .pre .lists .values (c .before .before .before .before .before .before .before .before .before .before .before .before .before .before .before .before .before .before .before .args .k) (c .before .before .before .before .before .before .before .before .before .before .before .before .before .before .before .before .before .before .before .pre .place))
 
-shared-slice-read-wide32 : tie.Need-shared-slice-read-wide32
-shared-slice-read-wide32 c = omega (arith, c .before .before .before .before .before .before .before .before .before .before .before .before .before .before .before .before .before .before .before .before .pre .lists .values (c .before .before .before .before .before .before .before .before .before .before .before .before .before .before .before .before .before .before .before .before .args .k) (c .before .before .before .before .before .before .before .before .before .before .before .before .before .before .before .before .before .before .before .before .pre .place))
+shared-slice-read-slot : tie.Need-shared-slice-read-slot
+shared-slice-read-slot c = omega (arith, c .before .before .before .before .before .before .before .before .before .before .before .before .before .before .before .before .before .before .before .before .pre .lists .values (c .before .before .before .before .before .before .before .before .before .before .before .before .before .before .before .before .before .before .before .before .args .k) (c .before .before .before .before .before .before .before .before .before .before .before .before .before .before .before .before .before .before .before .before .pre .place))
 
-wide32-requires : tie.Need-wide32-requires
-wide32-requires c κs = search needs
+slot-requires : tie.Need-slot-requires
+slot-requires c κs = search needs
 
 slice-reshare-prefix-finish-row : tie.Need-slice-reshare-prefix-finish-row
 slice-reshare-prefix-finish-row c = omega (arith, c .before .before .before .before .before .before .before .before .before .before .before .before .before .before .before .before .before .before .before .before .before .pre .scratch, c .before .before .before .before .before .eliminate .kept .0)
@@ -60,8 +61,8 @@ finish-row-requires c κs =
     let a = t .args in
     let e = length-take-le (a .n) (c .before .before .before .before .before .before .before .eliminate .last .0) (omega (arith, long (c .before .before .before .before .before .before .before), t .pre .scratch)) in (
       rw e (t .pre .place),
-      rw e (below-is (a .n) _ _ (c .before .before .before .before .index-part .ensures) (t .pre .lists .below (a .k) (t .pre .place))),
-      list-room (length (now (a .u))) (a .k) _ (now (a .upper)) (now (a .runs)) (now (a .starts)) _ (c .before .before .wide32 .ensures) (c .before .before .before .before .index-part .ensures)
+      rw e (below-is (a .n) _ _ (c .before .before .before .before .list-at .ensures) (t .pre .lists .below (a .k) (t .pre .place))),
+      list-room (length (now (a .u))) (a .k) _ (now (a .starts)) (now (a .runs)) (now (a .upper)) _ (c .before .before .slot .ensures .0) (c .before .before .before .before .list-at .ensures)
           (t .pre .lists .list (a .k) (t .pre .place)) (t .pre .lists .values (a .k) (t .pre .place)),
     )
 
@@ -75,10 +76,10 @@ returns : tie.Need-returns
 returns c =
     let t = c .before .before .before .before .before .before .before .before .before .before .before .before .before .before .before .before .before .before .before .before .before .before .before .before .before .before in
     let a = t .args in
-    λ S rows H L C. reduced S rows (a .n) (a .k) (now (a .f)) (now (a .upper)) (now (a .runs)) (now (a .starts)) (now (a .u)) H (t .pre .place) (t .pre .scratch)
-    (now (a .lower)) (placesOf (now (a .ic)) (now (a .columns))) (now (a .values)) (a .b) L C (t .pre .lists)
+    λ S rows H L C. reduced S rows (a .n) (a .k) (now (a .f)) (now (a .starts)) (now (a .runs)) (now (a .upper)) (now (a .u)) H (t .pre .place) (t .pre .scratch)
+    (now (a .lower)) (placesOf (orderOf (a .n) (now (a .marks))) (now (a .columns))) (now (a .values)) (a .b) L C (t .pre .lists)
     (c .before .before .before .before .before .before .before .before .before .before .before .before .before .before .before .load-row .last .0) (c .before .before .before .before .before .before .before .before .before .before .eliminate .last .0) _ _ (c .before .before .before .before .before .before .before .before .before .before .eliminate .result) _ _ _ refl
-    (c .before .before .before .before .before .before .before .before .before .before .before .before .before .before .before .load-row .ensures) (c .before .before .before .before .before .before .before .before .before .before .before .before .before .before .before .load-row .kept .0) (c .before .before .before .before .before .before .before .before .before .before .eliminate .ensures) (c .before .before .before .before .before .before .before .index-part .ensures) (c .before .before .before .before .before .wide32 .ensures) (c .before .before .finish-row .ensures)
+    (c .before .before .before .before .before .before .before .before .before .before .before .before .before .before .before .load-row .ensures) (c .before .before .before .before .before .before .before .before .before .before .before .before .before .before .before .load-row .kept .0) (c .before .before .before .before .before .before .before .before .before .before .eliminate .ensures) (c .before .before .before .before .before .before .before .list-at .ensures) (c .before .before .before .before .before .slot .ensures .0) (c .before .before .finish-row .ensures)
 
 pub reduce-row-spec : {M : Type 1} → statement M
 reduce-row-spec =
@@ -88,10 +89,10 @@ reduce-row-spec =
     slice-aggregate-load-row
     load-row-requires
     eliminate-requires
-    index-part-requires
-    mul-wide32
-    shared-slice-read-wide32
-    wide32-requires
+    list-at-requires
+    mul-slot
+    shared-slice-read-slot
+    slot-requires
     slice-reshare-prefix-finish-row
     slice-aggregate-finish-row
     finish-row-requires

@@ -14,7 +14,7 @@ use Rattle.numeric.proofs.scale.Tie as tie
 use Rattle.numeric.proofs.scale.Reads as reads
 use Rattle.numeric.proofs.scale.Lts as lts
 use Rattle.base.proofs.is_finite.Reads as is-finite-reads
-use Rattle.numeric.proofs.wide16.Reads as wide16-reads
+use Rattle.base.proofs.wide.Reads as wide-reads
 
 abbrev Inv-loop : tie.InvT-loop
 Inv-loop w columns u₀ from d p₀ u p =
@@ -31,20 +31,20 @@ inside c = c .before .before .before .before .before .pre .1 (c .before .loop .p
 loop-holds : tie.Need-loop-holds Inv-loop μ-loop
 loop-holds c = (omega arith, refl, refl, rw add-zero)
 
-mul-wide16 : tie.Need-mul-wide16 Inv-loop μ-loop
-mul-wide16 c = search needs
+mul-wide : tie.Need-mul-wide Inv-loop μ-loop
+mul-wide c = search needs
 
-shared-slice-read-wide16 : tie.Need-shared-slice-read-wide16 Inv-loop μ-loop
-shared-slice-read-wide16 c = search needs
+shared-slice-read-wide : tie.Need-shared-slice-read-wide Inv-loop μ-loop
+shared-slice-read-wide c = search needs
 
-wide16-requires : tie.Need-wide16-requires Inv-loop μ-loop
-wide16-requires c κs = search needs
+wide-requires : tie.Need-wide-requires Inv-loop μ-loop
+wide-requires c κs = search needs
 
 mul-x : tie.Need-mul-x Inv-loop μ-loop
-mul-x c = omega (arith, inside (c .before .before), c .wide16 .ensures)
+mul-x c = omega (arith, inside (c .before .before), c .wide .ensures .0)
 
 shared-slice-read-x : tie.Need-shared-slice-read-x Inv-loop μ-loop
-shared-slice-read-x c = rw (c .before .wide16 .ensures) (inside (c .before .before .before))
+shared-slice-read-x c = rw (c .before .wide .ensures .0) (inside (c .before .before .before))
 
 is-finite-requires : tie.Need-is-finite-requires Inv-loop μ-loop
 is-finite-requires c κs = search needs
@@ -68,8 +68,8 @@ loop-again : tie.Need-loop-again Inv-loop μ-loop
 loop-again c =
     let a = c .before .before .before .before .before .before .before .before .before .before .args in
     let l = c .before .before .before .before .before .before .loop in
-    let r = scale-pass (a .d) (now (a .columns)) (now (a .w)) (l .u) (a .from) (l .p) (omega arith) (sym (rw (c .before .before .before .wide16 .ensures) at (c .before .is-finite .ensures)) ∙ c .if1 .taken) in
-    (omega arith, simp length-set (l .inv .1), r .0 ∙ l .inv .2, rw (c .before .before .before .wide16 .ensures) (r .1 ∙ l .inv .3))
+    let r = scale-pass (a .d) (now (a .columns)) (now (a .w)) (l .u) (a .from) (l .p) (omega arith) (sym (rw (c .before .before .before .wide .ensures .0) at (c .before .is-finite .ensures)) ∙ c .if1 .taken) in
+    (omega arith, simp length-set (l .inv .1), r .0 ∙ l .inv .2, rw (c .before .before .before .wide .ensures .0) (r .1 ∙ l .inv .3))
 
 same-length : tie.Need-same-length Inv-loop μ-loop
 same-length c = search needs
@@ -78,7 +78,7 @@ returns : tie.Need-returns Inv-loop μ-loop
 returns c =
     let a = c .before .before .before .before .before .before .before .before .before .before .args in
     let l = c .before .before .before .before .before .before .loop in (
-      sym (scale-fail (a .d) (now (a .columns)) (now (a .w)) (l .u) (a .from) (l .p) (omega arith) (sym (rw (c .before .before .before .wide16 .ensures) at (c .before .is-finite .ensures)) ∙ c .if1 .left)) ∙ l .inv .2,
+      sym (scale-fail (a .d) (now (a .columns)) (now (a .w)) (l .u) (a .from) (l .p) (omega arith) (sym (rw (c .before .before .before .wide .ensures .0) at (c .before .is-finite .ensures)) ∙ c .if1 .left)) ∙ l .inv .2,
       λ e. absurd (true≢false (sym e)),
     )
 
@@ -99,9 +99,9 @@ scale-spec =
     Inv-loop
     μ-loop
     loop-holds
-    mul-wide16
-    shared-slice-read-wide16
-    wide16-requires
+    mul-wide
+    shared-slice-read-wide
+    wide-requires
     mul-x
     shared-slice-read-x
     is-finite-requires

@@ -17,8 +17,8 @@ abbrev μ-loop : tie.MeasureT-loop
 loop-holds : tie.Need-loop-holds Inv-loop μ-loop
 loop-holds c = refl
 
-shared-slice-read-entry : tie.Need-shared-slice-read-entry Inv-loop μ-loop
-shared-slice-read-entry c = omega (arith, c .before .before .before .smaller .ensures)
+shared-slice-read-number : tie.Need-shared-slice-read-number Inv-loop μ-loop
+shared-slice-read-number c = omega (arith, c .before .before .before .smaller .ensures)
 
 shared-slice-read-if1 : tie.Need-shared-slice-read-if1 Inv-loop μ-loop
 shared-slice-read-if1 c = omega (arith, c .before .before .before .before .before .smaller .ensures)
@@ -27,13 +27,13 @@ returns : tie.Need-returns Inv-loop μ-loop
 returns c =
     let l = c .before .before .before .before .before in
     let a = l .before .before .before .before .args in
-    sym (l .loop .inv ∙ agree-miss (a .s .now) (a .t .now) (l .loop .j) (omega (arith, l .before .smaller .ensures)) (omega (arith, l .before .smaller .ensures)) (λ q. c .if1 .taken (c .before .before .entry .ensures .0 ∙ q)))
+    sym (l .loop .inv ∙ agree-miss (a .s .now) (a .t .now) (l .loop .j) (omega (arith, l .before .smaller .ensures)) (omega (arith, l .before .smaller .ensures)) (λ q. c .if1 .taken (c .before .before .number .ensures .0 ∙ q)))
 
 loop-again : tie.Need-loop-again Inv-loop μ-loop
 loop-again c =
     let l = c .before .before .before .before .before in
     let a = l .before .before .before .before .args in
-    l .loop .inv ∙ agree-hit (a .s .now) (a .t .now) (l .loop .j) (omega (arith, l .before .smaller .ensures)) (omega (arith, l .before .smaller .ensures)) (sym (c .before .before .entry .ensures .0) ∙ c .if1 .left)
+    l .loop .inv ∙ agree-hit (a .s .now) (a .t .now) (l .loop .j) (omega (arith, l .before .smaller .ensures)) (omega (arith, l .before .smaller .ensures)) (sym (c .before .before .number .ensures .0) ∙ c .if1 .left)
 
 returns-2 : tie.Need-returns-2 Inv-loop μ-loop
 returns-2 c =
@@ -44,5 +44,5 @@ returns-2 c =
 pub agrees-spec : {M : Type 1} → statement M
 agrees-spec =
     tie.close
-    (tie.spec Inv-loop μ-loop (λ c κs. search needs) loop-holds (λ c. search needs) shared-slice-read-entry (λ c κs. search needs) (λ c. search needs)
+    (tie.spec Inv-loop μ-loop (λ c κs. search needs) loop-holds (λ c. search needs) shared-slice-read-number (λ c κs. search needs) (λ c. search needs)
     shared-slice-read-if1 returns (λ c. search needs) (λ c. search needs) loop-again returns-2)

@@ -18,13 +18,13 @@ returns : tie.Need-returns Inv-loop μ-loop
 returns c =
     let b = c .before .before .before .before in
     let a = b .before .before .args in
-    omega (arith, first-hit (a .x) (a .s .now) (b .loop .j) (omega arith) (sym (c .before .entry .ensures .0) ∙ c .if1 .taken))
+    omega (arith, first-hit (a .x) (a .s .now) (b .loop .j) (omega arith) (sym (c .before .number .ensures .0) ∙ c .if1 .taken))
 
 loop-again : tie.Need-loop-again Inv-loop μ-loop
 loop-again c =
     let b = c .before .before .before .before in
     let a = b .before .before .args in
-    omega (arith, first-miss (a .x) (a .s .now) (b .loop .j) (omega arith) (λ q. c .if1 .left (c .before .entry .ensures .0 ∙ q)))
+    omega (arith, first-miss (a .x) (a .s .now) (b .loop .j) (omega arith) (λ q. c .if1 .left (c .before .number .ensures .0 ∙ q)))
 
 returns-2 : tie.Need-returns-2 Inv-loop μ-loop
 returns-2 c =

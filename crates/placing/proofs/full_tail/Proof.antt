@@ -12,13 +12,13 @@ use Rattle.placing.proofs.full_tail.Statement.{statement}
 use Rattle.placing.proofs.full_tail.Tie as tie
 
 abbrev Inv-loop : tie.InvT-loop
-Inv-loop slots runs starts row k count j₀ j = (j ≤ length row) × (first (fullAt slots runs starts (k .0) count row) j ≡ Nothing)
+Inv-loop starts runs slots row k count j₀ j = (j ≤ length row) × (first (fullAt starts runs slots (k .0) count row) j ≡ Nothing)
 
 abbrev μ-loop : tie.MeasureT-loop
-μ-loop slots runs starts row k count j₀ j = length row - j
+μ-loop starts runs slots row k count j₀ j = length row - j
 
 loop-holds : tie.Need-loop-holds Inv-loop μ-loop
-loop-holds c = let a = c .before .before .before .before .args in (omega arith, first-zero (fullAt (a .slots .now) (a .runs .now) (a .starts .now) (a .k .0) (a .count) (a .row .now)))
+loop-holds c = let a = c .before .before .before .before .args in (omega arith, first-zero (fullAt (a .starts .now) (a .runs .now) (a .slots .now) (a .k .0) (a .count) (a .row .now)))
 
 has-tail-requires : tie.Need-has-tail-requires Inv-loop μ-loop
 has-tail-requires c κs =
@@ -29,18 +29,18 @@ returns : tie.Need-returns Inv-loop μ-loop
 unfolding fullAt
 returns c =
     let a = c .before .before .before .before .before .before .before .before .before .args in
-    scan-hit (fullAt (a .slots .now) (a .runs .now) (a .starts .now) (a .k .0) (a .count) (a .row .now)) (c .before .has-tail .result) (c .before .before .before .before .loop .j) (length (a .row .now)) (omega arith) (c .before .before .before .before .loop .inv .1) (c .before .has-tail .ensures) (c .if1 .taken)
+    scan-hit (fullAt (a .starts .now) (a .runs .now) (a .slots .now) (a .k .0) (a .count) (a .row .now)) (c .before .has-tail .result) (c .before .before .before .before .loop .j) (length (a .row .now)) (omega arith) (c .before .before .before .before .loop .inv .1) (c .before .has-tail .ensures) (c .if1 .taken)
 
 loop-again : tie.Need-loop-again Inv-loop μ-loop
 unfolding fullAt
 loop-again c =
     let a = c .before .before .before .before .before .before .before .before .before .args in
-    (omega arith, scan-more (fullAt (a .slots .now) (a .runs .now) (a .starts .now) (a .k .0) (a .count) (a .row .now)) (c .before .has-tail .result) (c .before .before .before .before .loop .j) (c .before .before .before .before .loop .inv .1) (c .before .has-tail .ensures) (c .if1 .left))
+    (omega arith, scan-more (fullAt (a .starts .now) (a .runs .now) (a .slots .now) (a .k .0) (a .count) (a .row .now)) (c .before .has-tail .result) (c .before .before .before .before .loop .j) (c .before .before .before .before .loop .inv .1) (c .before .has-tail .ensures) (c .if1 .left))
 
 returns-2 : tie.Need-returns-2 Inv-loop μ-loop
 returns-2 c =
     let a = c .before .before .before .before .before .before .args in
-    first-end (fullAt (a .slots .now) (a .runs .now) (a .starts .now) (a .k .0) (a .count) (a .row .now)) (c .before .loop .j) (length (a .row .now)) (omega arith) (c .before .loop .inv .0) (c .before .loop .inv .1)
+    first-end (fullAt (a .starts .now) (a .runs .now) (a .slots .now) (a .k .0) (a .count) (a .row .now)) (c .before .loop .j) (length (a .row .now)) (omega arith) (c .before .loop .inv .0) (c .before .loop .inv .1)
 
 pub full-tail-spec : {M : Type 1} → statement M
 full-tail-spec =

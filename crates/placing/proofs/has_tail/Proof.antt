@@ -1,51 +1,32 @@
-use native.Mathlib.Omega.{arith}
 use borrow.Author.Needs.{needs}
-use Rattle.placing.specs.TailLaws.{tailed-at, tail-short, tail-told}
+use Rattle.placing.specs.TailLaws.{tail-short, tail-in, tail-slot, tail-told}
 use Rattle.placing.proofs.has_tail.Statement.{statement}
 use Rattle.placing.proofs.has_tail.Tie as tie
 
-sub-length : tie.Need-sub-length
-sub-length c =
-    let a = c .before .before .before .before .before .before .before .before .args in
-    let r = tailed-at (a .slots .now) (a .runs .now) (a .starts .now) (a .k .0) (a .count) (c .before .before .before .before .wide .result) (a .i .0) (c .before .before .before .before .wide .ensures .0) (c .before .before .before .before .before .before .before .before .pre .0) .readable in
-    search needs
+list-length-requires : tie.Need-list-length-requires
+list-length-requires c κs = let r = c .before .before .before .pre .0 .readable in (r .start-in, r .rises)
 
 returns : tie.Need-returns
 returns c =
-    let a = c .before .before .before .before .before .before .before .before .before .args in
-    tail-short (a .slots .now) (a .runs .now) (a .starts .now) (a .k .0) (a .count) (a .i .0) (c .before .before .before .before .before .wide .result) (c .before .before .before .wide2 .result) (c .before .wide3 .result) (c .before .before .before .before .before .before .before .before .before .pre .0) (c .before .before .before .before .before .wide .ensures .0) (c .before .before .before .wide2 .ensures .0) (c .before .wide3 .ensures .0) (c .if1 .taken)
+    let s = c .before .before .before .before .before in
+    tail-short (s .args .starts .now) (s .args .runs .now) (s .args .slots .now) (s .args .k .0) (s .args .count) (s .args .i .0) _ (s .pre .0) (c .before .list-length .ensures .0) (c .if1 .taken)
 
-shared-slice-read-entry : tie.Need-shared-slice-read-entry
-shared-slice-read-entry c =
-    let a = c .before .before .before .before .before .before .before .before .before .before .before .before .args in
-    let r = tailed-at (a .slots .now) (a .runs .now) (a .starts .now) (a .k .0) (a .count) (c .before .before .before .before .before .before .before .before .wide .result) (a .i .0) (c .before .before .before .before .before .before .before .before .wide .ensures .0) (c .before .before .before .before .before .before .before .before .before .before .before .before .pre .0) .readable in
-    search needs
+tail-start-requires : tie.Need-tail-start-requires
+tail-start-requires c κs =
+    let s = c .before .before .before .before .before in
+    tail-in (s .args .starts .now) (s .args .runs .now) (s .args .slots .now) (s .args .k .0) (s .args .count) (s .args .i .0) _ (s .pre .0) (c .before .list-length .ensures .0) (c .if1 .left)
+
+shared-slice-read-number : tie.Need-shared-slice-read-number
+shared-slice-read-number c =
+    let s = c .before .before .before .before .before .before .before in
+    tail-slot (s .args .starts .now) (s .args .runs .now) (s .args .slots .now) (s .args .k .0) (s .args .count) (s .args .i .0) _ (s .pre .0) (c .before .before .before .list-length .ensures .0) _ (c .before .tail-start .ensures) (s .pre .1) (c .before .before .if1 .left)
 
 returns-2 : tie.Need-returns-2
 returns-2 c =
-    let a = c .before .before .before .before .before .before .before .before .before .before .before .before .before .before .args in
-    tail-told (a .slots .now) (a .runs .now) (a .starts .now) (a .k .0) (a .count) (a .i .0) (c .before .before .before .before .before .before .before .before .before .before .wide .result) (c .before .before .before .before .before .before .before .before .wide2 .result) (c .before .before .before .before .before .before .wide3 .result) (c .before .before .before .before .before .before .before .before .before .before .before .before .before .before .pre .0) (c .before .before .before .before .before .before .before .before .before .before .wide .ensures .0) (c .before .before .before .before .before .before .before .before .wide2 .ensures .0) (c .before .before .before .before .before .before .wide3 .ensures .0)
-    (c .before .before .before .wide4 .result) (c .before .entry .result) (c .before .before .before .wide4 .ensures .0) (c .before .entry .ensures .0) (c .before .before .before .before .before .before .before .before .before .before .before .before .before .before .pre .1) (omega arith)
+    let s = c .before .before .before .before .before .before .before .before .before in
+    tail-told (s .args .starts .now) (s .args .runs .now) (s .args .slots .now) (s .args .k .0) (s .args .count) (s .args .i .0) _ (s .pre .0) (c .before .before .before .before .before .list-length .ensures .0) _ (c .before .before .before .tail-start .ensures) (s .pre .1) (c .before .before .before .before .if1 .left) _ (c .before .number .ensures .0)
 
 pub has-tail-spec : {M : Type 1} → statement M
 has-tail-spec =
     tie.close
-    (tie.spec
-    (λ c κs. search needs)
-    (λ c. search needs)
-    (λ c. search needs)
-    (λ c. search needs)
-    (λ c κs. search needs)
-    (λ c. search needs)
-    (λ c. search needs)
-    (λ c κs. search needs)
-    sub-length
-    returns
-    (λ c. search needs)
-    (λ c. search needs)
-    (λ c κs. search needs)
-    (λ c. search needs)
-    (λ c. search needs)
-    shared-slice-read-entry
-    (λ c κs. search needs)
-    returns-2)
+    (tie.spec list-length-requires returns tail-start-requires (λ c. search needs) shared-slice-read-number (λ c κs. search needs) returns-2)

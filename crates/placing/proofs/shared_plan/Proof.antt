@@ -9,7 +9,7 @@ use Rattle.placing.proofs.shared_plan.Tie as tie
 returns : tie.Need-returns
 returns c =
     let a = c .before .before .before .before .before .before .args in
-    plan-empty (a .slots .now) (a .runs .now) (a .starts .now) (a .last) (a .k .0) (a .row .now) (a .list .now) (omega arith)
+    plan-empty (a .starts .now) (a .runs .now) (a .slots .now) (a .last) (a .k .0) (a .row .now) (a .list .now) (omega arith)
 
 full-tail-requires : tie.Need-full-tail-requires
 full-tail-requires c κs = (c .before .before .before .before .before .before .pre .readable, omega (arith, c .if1 .left))
@@ -17,28 +17,28 @@ full-tail-requires c κs = (c .before .before .before .before .before .before .p
 mul-t15 : tie.Need-mul-t15
 mul-t15 c =
     let a = c .before .before .before .before .before .before .before .before .before .before .args in
-    let h = tail-found (a .slots .now) (a .runs .now) (a .starts .now) (a .last) (a .k .0) (a .row .now) (a .list .now) (c .before .before .before .before .if1 .left) (c .before .before .before .before .before .before .before .before .before .before .pre .readable) (c .before .found .given .0 .0) (sym (c .before .before .before .full-tail .ensures) ∙ c .before .found .given .1) .0 in
+    let h = tail-found (a .starts .now) (a .runs .now) (a .slots .now) (a .last) (a .k .0) (a .row .now) (a .list .now) (c .before .before .before .before .if1 .left) (c .before .before .before .before .before .before .before .before .before .before .pre .readable) (c .before .found .given .0 .0) (sym (c .before .before .before .full-tail .ensures) ∙ c .before .found .given .1) .0 in
     search needs
 
 shared-slice-read-t17 : tie.Need-shared-slice-read-t17
 shared-slice-read-t17 c =
     let a = c .before .before .before .before .before .before .before .before .before .before .before .args in
-    tail-found (a .slots .now) (a .runs .now) (a .starts .now) (a .last) (a .k .0) (a .row .now) (a .list .now) (c .before .before .before .before .before .if1 .left) (c .before .before .before .before .before .before .before .before .before .before .before .pre .readable) (c .before .before .found .given .0 .0) (sym (c .before .before .before .before .full-tail .ensures) ∙ c .before .before .found .given .1) .0
+    tail-found (a .starts .now) (a .runs .now) (a .slots .now) (a .last) (a .k .0) (a .row .now) (a .list .now) (c .before .before .before .before .before .if1 .left) (c .before .before .before .before .before .before .before .before .before .before .before .pre .readable) (c .before .before .found .given .0 .0) (sym (c .before .before .before .before .full-tail .ensures) ∙ c .before .before .found .given .1) .0
 
 tail-start-requires : tie.Need-tail-start-requires
 tail-start-requires c κs =
     let a = c .before .before .before .before .before .before .before .before .before .before .before .args in
-    tail-found (a .slots .now) (a .runs .now) (a .starts .now) (a .last) (a .k .0) (a .row .now) (a .list .now) (c .before .before .before .before .before .if1 .left) (c .before .before .before .before .before .before .before .before .before .before .before .pre .readable) (c .before .before .found .given .0 .0) (sym (c .before .before .before .before .full-tail .ensures) ∙ c .before .before .found .given .1) .1
+    tail-found (a .starts .now) (a .runs .now) (a .slots .now) (a .last) (a .k .0) (a .row .now) (a .list .now) (c .before .before .before .before .before .if1 .left) (c .before .before .before .before .before .before .before .before .before .before .before .pre .readable) (c .before .before .found .given .0 .0) (sym (c .before .before .before .before .full-tail .ensures) ∙ c .before .before .found .given .1) .1
 
 returns-2 : tie.Need-returns-2
 returns-2 c =
     let a = c .before .before .before .before .before .before .before .before .before .before .before .before .args in
-    plan-found (a .slots .now) (a .runs .now) (a .starts .now) (a .last) (a .k .0) (a .row .now) (a .list .now) (c .before .before .before .before .before .before .if1 .left) (c .before .before .before .before .before .before .before .before .before .before .before .before .pre .readable) (c .before .before .before .found .given .0 .0) (sym (c .before .before .before .before .before .full-tail .ensures) ∙ c .before .before .before .found .given .1) (c .tail-start .result) (c .tail-start .ensures)
+    plan-found (a .starts .now) (a .runs .now) (a .slots .now) (a .last) (a .k .0) (a .row .now) (a .list .now) (c .before .before .before .before .before .before .if1 .left) (c .before .before .before .before .before .before .before .before .before .before .before .before .pre .readable) (c .before .before .before .found .given .0 .0) (sym (c .before .before .before .before .before .full-tail .ensures) ∙ c .before .before .before .found .given .1) (c .tail-start .result) (c .tail-start .ensures)
 
 returns-3 : tie.Need-returns-3
 returns-3 c =
     let a = c .before .before .before .before .before .before .before .before .before .before .args in
-    c .overlap-plan .ensures ∙ ap asPlan (sym (plan-none (a .slots .now) (a .runs .now) (a .starts .now) (a .last) (a .k .0) (a .row .now) (a .list .now) (c .before .before .before .before .if1 .left) (c .before .before .before .before .before .before .before .before .before .before .pre .readable) (sym (c .before .before .before .full-tail .ensures) ∙ c .before .enum-told .given .1)))
+    c .overlap-plan .ensures ∙ ap asPlan (sym (plan-none (a .starts .now) (a .runs .now) (a .slots .now) (a .last) (a .k .0) (a .row .now) (a .list .now) (c .before .before .before .before .if1 .left) (c .before .before .before .before .before .before .before .before .before .before .pre .readable) (sym (c .before .before .before .full-tail .ensures) ∙ c .before .enum-told .given .1)))
 
 pub shared-plan-spec : {M : Type 1} → statement M
 shared-plan-spec =

@@ -1,39 +1,24 @@
+use native.Mathlib.Omega.{arith}
 use borrow.Author.Needs.{needs}
-use Rattle.placing.specs.PlanLaws.{tail-in-at, tail-start-is}
+use Rattle.placing.specs.PlanLaws.{tail-start-is}
 use Rattle.placing.proofs.tail_start.Statement.{statement}
 use Rattle.placing.proofs.tail_start.Tie as tie
 
-sub-length : tie.Need-sub-length
-sub-length c =
-    let s = c .before .before .before .before .before .before .before in
-    let r = tail-in-at (s .args .runs .now) (s .args .starts .now) (c .before .before .before .before .wide .result) (s .args .i .0) (s .args .most) (c .before .before .before .before .wide .ensures .0) (s .pre) in
-    search needs
+list-length-requires : tie.Need-list-length-requires
+list-length-requires c κs = let t = c .before .before .before .before .before .pre in (t .start-in, omega (arith, t .fits))
 
 sub-result : tie.Need-sub-result
-sub-result c =
-    let s = c .before .before .before .before .before .before .before .before .before in
-    let r = tail-in-at (s .args .runs .now) (s .args .starts .now) (c .before .before .before .before .before .before .wide .result) (s .args .i .0) (s .args .most) (c .before .before .before .before .before .before .wide .ensures .0) (s .pre) in
-    search needs
+sub-result c = omega (arith, c .list-length .ensures .0, c .before .before .before .before .before .before .pre .fits)
+
+add-result : tie.Need-add-result
+add-result c = omega (arith, c .before .slot2 .ensures .1, c .list-length .ensures .1)
 
 returns : tie.Need-returns
-returns c = tail-start-is (c .before .before .before .before .before .before .before .before .before .args .runs .now) (c .before .before .before .before .before .before .before .before .before .args .starts .now) _ _ _ _ _ _ (c .before .before .before .before .before .before .wide .ensures .0) (c .before .before .before .before .wide2 .ensures .0) (c .before .before .wide3 .ensures .0) (c .wide4 .ensures .0)
+returns c =
+    let s = c .before .before .before .before .before .before in
+    tail-start-is (s .args .starts .now) (s .args .runs .now) (s .args .i .0) (c .before .before .before .slot .result) (s .args .most) _ _ (c .before .before .before .slot .ensures .0) (c .list-length .ensures .0) (c .before .slot2 .ensures .0)
 
 pub tail-start-spec : {M : Type 1} → statement M
 tail-start-spec =
     tie.close
-    (tie.spec
-    (λ c κs. search needs)
-    (λ c. search needs)
-    (λ c. search needs)
-    (λ c. search needs)
-    (λ c κs. search needs)
-    (λ c. search needs)
-    (λ c. search needs)
-    (λ c κs. search needs)
-    sub-length
-    (λ c. search needs)
-    (λ c. search needs)
-    (λ c κs. search needs)
-    sub-result
-    (λ c. search needs)
-    returns)
+    (tie.spec (λ c κs. search needs) (λ c. search needs) (λ c. search needs) (λ c κs. search needs) list-length-requires sub-result add-result returns)

@@ -25,7 +25,7 @@ returns c =
     let a = c .before .before .before .before .before .before .before .before .before .before .before .args in
     record {
       index-is = c .before .before .before .before .before .append .ensures ∙ paste-rest (a .index .now) (a .s .used) (a .have) (a .list .now);
-      starts-are = set-same (a .starts .now) (c .before .before .wide .result + 1) (a .k .0 + 1) (c .narrow .result) (a .s .entries + length (a .list .now)) (ap (λ x. x + 1) (c .before .before .wide .ensures .0)) (c .narrow .ensures);
+      starts-are = set-same (a .starts .now) (c .before .before .slot .result + 1) (a .k .0 + 1) (c .number32 .result) (a .s .entries + length (a .list .now)) (ap (λ x. x + 1) (c .before .before .slot .ensures .0)) (c .number32 .ensures);
     }
 
 pub write-list-spec : {M : Type 1} → statement M

@@ -11,4 +11,4 @@ returns-2 : tie.Need-returns-2
 returns-2 c = place-beyond _ (c .if1 .left)
 
 pub place-of-spec : {M : Type 1} → statement M
-place-of-spec = tie.close (tie.spec (λ c. search needs) returns returns-2)
+place-of-spec = tie.close (tie.spec (λ c. search needs) returns (λ c. search needs) returns-2)

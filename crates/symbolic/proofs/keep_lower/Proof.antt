@@ -10,21 +10,21 @@ use Rattle.symbolic.proofs.keep_lower.Tie as tie
 add-mid : tie.Need-add-mid
 add-mid c = let h = c .before .before .before .pre .keep in omega (arith, lower-fits h, h .few)
 
-part-place-plain-end : tie.Need-part-place-plain-end
-part-place-plain-end c = let h = c .before .before .before .before .before .pre .keep in omega (arith, lower-fits h, h .space .long)
+part-append-list-end : tie.Need-part-append-list-end
+part-append-list-end c = let h = c .before .before .before .before .before .pre .keep in omega (arith, lower-fits h, h .space .long)
 
-place-plain-requires : tie.Need-place-plain-requires
-place-plain-requires c κs = lower-ready (c .before .before .before .before .before .before .pre .keep) _ refl
+append-list-requires : tie.Need-append-list-requires
+append-list-requires c κs = lower-ready (c .before .before .before .before .before .before .pre .keep) _ refl
 
 returns : tie.Need-returns
 returns c =
     let p = c .before .before .before .before in
     let s = p .before .before .before .before .before .before .before in
-    λ P store h. lower-stepped P (s .args .values) (s .args .k .0) store (p .place-plain .last .0) (p .place-plain .last .1 .0) (p .place-plain .result)
-    (p .place-plain .ensures .steps (lowerRow P) (lowerRow (flip P)) (s .args .n) (blank 0 store) (lower-turn h _ refl))
+    λ P store h. lower-stepped P (s .args .values) (s .args .k .0) store (p .append-list .last .1 .0) (p .append-list .last .0) (p .append-list .result)
+    (p .append-list .ensures .steps (lowerRow P) (lowerRow (flip P)) (s .args .n) (blank 0 store) (lower-turn h _ refl))
 
 pub keep-lower-spec : {M : Type 1} → statement M
 keep-lower-spec =
     tie.close
-    (tie.spec (λ c. search needs) add-mid (λ c. search needs) (λ c. search needs) (λ c. search needs) part-place-plain-end place-plain-requires
+    (tie.spec (λ c. search needs) add-mid (λ c. search needs) (λ c. search needs) (λ c. search needs) part-append-list-end append-list-requires
     (λ c. search needs) (λ c. search needs) returns)

@@ -12,7 +12,7 @@ use Rattle.symbolic.proofs.keep_plain.Statement.{statement}
 use Rattle.symbolic.proofs.keep_plain.Tie as tie
 use Rattle.base.specs.Scratch.{upperCuts}
 
-abbrev Begin : tie.After-place-plain → tie.Start
+abbrev Begin : tie.After-append-list → tie.Start
 Begin p = p .before .before .before .before .before .before .before .before .before .before
 
 -- what the caller holds, for a pattern and a store
@@ -26,21 +26,21 @@ add-mid c = let h = c .before .before .before .before .pre .keep in omega (arith
 add-end : tie.Need-add-end
 add-end c = let h = c .before .before .before .before .before .pre .keep in omega (arith, keep-fits h, h .few)
 
-mul-place-plain : tie.Need-mul-place-plain
-mul-place-plain c = let h = c .before .before .before .before .before .before .before .pre .keep in omega (arith, keep-fits h, h .few)
+mul-append-list : tie.Need-mul-append-list
+mul-append-list c = let h = c .before .before .before .before .before .before .before .pre .keep in omega (arith, keep-fits h, h .few)
 
-part-place-plain-end : tie.Need-part-place-plain-end
-part-place-plain-end c = let h = c .before .before .before .before .before .before .before .before .pre .keep in omega (arith, keep-fits h, h .space .long)
+part-append-list-end : tie.Need-part-append-list-end
+part-append-list-end c = let h = c .before .before .before .before .before .before .before .before .pre .keep in omega (arith, keep-fits h, h .space .long)
 
-place-plain-requires : tie.Need-place-plain-requires
-place-plain-requires c κs =
+append-list-requires : tie.Need-append-list-requires
+append-list-requires c κs =
     let h = c .before .before .before .before .before .before .before .before .before .pre .keep in
     keep-ready h _ _ tt (keep-list h)
 
 -- what placing tells
-step : (p : tie.After-place-plain) (P : Pattern) (store : List ℕ) → Held (Begin p) P store
-    → Stepped OneAfterAnother (upperRow P (Begin p .args .n)) (lowerRow P) (Begin p .args .values) (Begin p .args .k .0) (blank 0 store) (p .place-plain .last .0) (p .place-plain .last .1 .0) (p .place-plain .last .1 .0) (p .place-plain .result)
-step p P store h = p .place-plain .ensures .steps (upperRow P (Begin p .args .n)) (lowerRow P) (Begin p .args .n) (blank 0 store) (keep-turn h _ _ tt (keep-list h))
+step : (p : tie.After-append-list) (P : Pattern) (store : List ℕ) → Held (Begin p) P store
+    → Stepped OneAfterAnother (upperRow P (Begin p .args .n)) (lowerRow P) (Begin p .args .values) (Begin p .args .k .0) (blank 0 store) (p .append-list .last .0) (p .append-list .last .0) (p .append-list .last .1 .0) (p .append-list .result)
+step p P store h = p .append-list .ensures .steps (upperRow P (Begin p .args .n)) (lowerRow P) (Begin p .args .n) (blank 0 store) (keep-turn h _ _ tt (keep-list h))
 
 renew-cuts-requires : tie.Need-renew-cuts-requires
 renew-cuts-requires c κs =
@@ -57,7 +57,7 @@ returns c =
     let p = a .before .before .before .before .before .before in
     λ P store h.
     let d = stepped-done _ _ _ _ _ _ _ _ _ _ _ (a .put .given .1) (step p P store h) in
-    kept-next h _ _ _ _ (d .1) (d .0) (p .place-plain .kept .1 .0) (p .place-plain .kept .1 .0) _ (c .before .before .renew-cuts .ensures)
+    kept-next h _ _ _ _ (d .1) (d .0) (p .append-list .kept .0) (p .append-list .kept .0) _ (c .before .before .renew-cuts .ensures)
 
 returns-2 : tie.Need-returns-2
 returns-2 c =
@@ -67,6 +67,6 @@ returns-2 c =
 pub keep-plain-spec : {M : Type 1} → statement M
 keep-plain-spec =
     tie.close
-    (tie.spec (λ c. search needs) add-mid add-end mul-place-plain (λ c. search needs) (λ c. search needs) part-place-plain-end place-plain-requires
+    (tie.spec (λ c. search needs) add-mid add-end mul-append-list (λ c. search needs) (λ c. search needs) part-append-list-end append-list-requires
     (λ c. search needs) (λ c. search needs) renew-cuts-requires (λ c. search needs) (λ c. search needs) (λ c. search needs) (λ c. search needs)
     returns (λ c. search needs) (λ c. search needs) (λ c. search needs) returns-2)

@@ -61,7 +61,7 @@ returns c =
     let p = a .before .before .before .before .before .before .before .before in
     λ P store h.
     let d = stepped-done _ _ _ _ _ _ _ _ _ _ _ (a .put .given .1) (step p P store h) in
-    kept-next h _ _ _ _ (d .1) (d .0) (p .place-list .kept .1 .1 .1 .0) (p .place-list .kept .1 .1 .0) _ (c .before .before .renew-cuts .ensures)
+    kept-next h _ _ _ _ (d .1) (d .0) (p .place-list .kept .1 .0) (p .place-list .kept .1 .1 .0) _ (c .before .before .renew-cuts .ensures)
 
 returns-2 : tie.Need-returns-2
 returns-2 c =

@@ -2,7 +2,7 @@ use Rattle.symbolic.proofs.Opening.{open-given, loaded-room, loaded-mar
 use Rattle.symbolic.specs.Places.{patternOf, cutsOf, Open}
 use Rattle.fill.specs.Fill.{filled}
 use Rattle.matrix.specs.Input.{Input, inputOf}
-use Rattle.rows.specs.Rows.{Closing}
+use Rattle.marks.specs.Rows.{Closing}
 use Rattle.marks.specs.Marks.{Room, Holds}
 use Rattle.marks.specs.MarkLaws.{room-kept}
 use mathlib.Core.Path.{sym, _∙_}

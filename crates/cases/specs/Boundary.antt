@@ -1,0 +1,73 @@
+-- The graphs marked P, as one property. Definitions only.
+use mathlib.Core.Path.{_≡_}
+use mathlib.Core.Bool.{true}
+use mathlib.Core.List.{List, [], map}
+use Prim.Native.Nat.{ℕ, suc, _+_, _-_, _≤_, _<_}
+use lib.ListN.{length, getD}
+use Rattle.base.specs.Lists.{listAt}
+use Rattle.base.specs.Limits.{maxRows, maxEntries}
+use Rattle.base.specs.Answers.{numberOfAnswer, numberOfEnd}
+use Rattle.matrix.specs.Input.{Input}
+use Rattle.matrix.specs.Shape.{shapeOf}
+use Rattle.blocks.specs.Blocks.{askBlocks}
+use Rattle.matrix_file.specs.MatrixFile.{nOf, opened, left, Lists, readOutcome, writeOutcome, matrixAt, written}
+use Rattle.matrix_file.specs.Example.{exampleFile}
+use Rattle.lookup.specs.Lookup as lookup
+use Rattle.outcome.specs.Buffers.{Buffers, ended}
+use Rattle.outcome.specs.Structure.{structure}
+use Rattle.outcome.specs.Solve.{solve}
+use Rattle.outcome.specs.Refactor.{refactor}
+use Rattle.outcome.specs.Resolve.{resolve}
+use Rattle.cases.specs.Table.{Case, outcomeOf, two, boundary}
+use Rattle.matrix.specs.declared.Shaped.the-variants.{Shape, Unshaped}
+use Rattle.base.specs.declared.Form.{Form}
+use Rattle.base.specs.declared.Side.{Side}
+use Rattle.base.specs.declared.Place.{Place}
+use Rattle.base.specs.declared.Refusal.the-variants.{Rows}
+use Rattle.base.specs.declared.Asked.the-variants.{Pass}
+use Rattle.base.specs.declared.Answer.the-variants.{Refused}
+use Rattle.base.specs.declared.Ended.the-variants.{Declined}
+
+-- every call refuses this n with 1 and writes nothing, whatever else it is lent
+pub record Refuses (n : ℕ) : Type 0 where
+  pub structures : (f : Form) (i : Input) (s : Buffers) → i .n ≡ n → structure f i s ≡ ended (Refused Rows) s
+  pub solves : (f : Form) (i : Input) (s : Buffers) → i .n ≡ n → solve f i s ≡ ended (Refused Rows) s
+  pub refactors : (f : Form) (i : Input) (s : Buffers) → i .n ≡ n → refactor f i s ≡ ended (Declined Rows) s
+  pub resolves : (f : Form) (i : Input) (s : Buffers) → i .n ≡ n → resolve f i s ≡ ended (Declined Rows) s
+  pub makes : (e : ℕ) → shapeOf n e ≡ Unshaped Rows
+  -- of a file, once 16 and 17 are passed
+  pub opens : (file : List ℕ) → askBlocks file ≡ Pass → nOf file ≡ n → opened file ≡ Unshaped Rows
+  pub reads : (file : List ℕ) (l : Lists) → askBlocks file ≡ Pass → nOf file ≡ n → readOutcome file l ≡ left (Declined Rows) l
+  pub writes : (i : Input) (file : List ℕ) → i .n ≡ n → writeOutcome i file ≡ left (Declined Rows) file
+  -- "the empty part at that store's start"
+  pub looks : (side : Side) (k : Place) (extra : ℕ) (l u : lookup.Lists) → (lookup.spanIn side k n extra l u ≡ lookup.spanFrom 0 0) × (lookup.lookup side k n extra l u ≡ [])
+
+-- no call refuses this n with 1
+pub record Passes (n : ℕ) : Type 0 where
+  pub structures : (f : Form) (i : Input) (s : Buffers) → i .n ≡ n → numberOfAnswer (structure f i s .answer) ≡ 1 → ⊥
+  pub solves : (f : Form) (i : Input) (s : Buffers) → i .n ≡ n → numberOfAnswer (solve f i s .answer) ≡ 1 → ⊥
+  pub refactors : (f : Form) (i : Input) (s : Buffers) → i .n ≡ n → numberOfEnd (refactor f i s .answer) ≡ 1 → ⊥
+  pub resolves : (f : Form) (i : Input) (s : Buffers) → i .n ≡ n → numberOfEnd (resolve f i s .answer) ≡ 1 → ⊥
+  pub makes : (e : ℕ) → e ≤ maxEntries → shapeOf n e ≡ Shape (record { rows = n; entries = e })
+  pub opens : (file : List ℕ) → nOf file ≡ n → opened file ≡ Unshaped Rows → ⊥
+  pub reads : (file : List ℕ) (l : Lists) → nOf file ≡ n → numberOfEnd (readOutcome file l .answer) ≡ 1 → ⊥
+  pub writes : (i : Input) (file : List ℕ) → i .n ≡ n → numberOfEnd (writeOutcome i file .answer) ≡ 1 → ⊥
+  -- with fitting lengths, a list within its store is handed back
+  pub looks : (side : Side) (k : Place) (extra : ℕ) (l u : lookup.Lists)
+      → lookup.sized n extra (length (l .starts)) (length (l .runs)) (length (l .index)) ≡ true
+      → lookup.sized n extra (length (u .starts)) (length (u .runs)) (length (u .index)) ≡ true
+      → k .0 < n → (o : lookup.Lists) → o ≡ lookup.ofSide side l u → getD (o .starts) (k .0) 0 ≤ getD (o .starts) (k .0 + 1) 0
+      → getD (o .runs) (k .0) 0 + (getD (o .starts) (k .0 + 1) 0 - getD (o .starts) (k .0) 0) ≤ length (o .index)
+      → lookup.lookup side k n extra l u ≡ listAt (o .index) (o .runs) (o .starts) (k .0)
+
+pub record Boundary : Type 0 where
+  -- every entry of the table comes out as expected, over buffers that held anything
+  pub graphs : map outcomeOf boundary ≡ map (λ (c : Case). c .expected) boundary
+  -- "P the file above": its 512 bytes open, hold the table's first matrix, and are what that is written as. What the program prints for them: program/proofs/Example
+  pub opens : opened exampleFile ≡ Shape (record { rows = 2; entries = 4 })
+  pub holds : matrixAt exampleFile ≡ two
+  pub writes : written two ≡ exampleFile
+  -- "P n = 0 and 4,097: 1; 4,096 passes."
+  pub none : Refuses 0
+  pub over : Refuses (suc maxRows)
+  pub most : Passes maxRows

@@ -1,0 +1,83 @@
+// What is lent and only read. Lists are read by their starts and runs; own numbers and places are turned into each other by the orders.
+ghost use mathlib.Core.Path.{_≡_};
+ghost use Prim.Native.Nat.{_<_, _≤_};
+ghost use lib.ListN.{length, getD};
+ghost use lib.Ieee.{nan};
+ghost use Rattle.base.specs.Lists.{listAt, rowOf};
+ghost use Rattle.base.specs.Limits.{maxRows};
+ghost use Rattle.base.specs.Scratch.{blocksFrom};
+ghost use Rattle.lent.specs.Reading.{ListIn, ownAt, placeAt, orderOf};
+use base::Index;
+use base::OwnNumber;
+use base::Place;
+use base::scratch;
+
+// ---- lists
+
+// List i of an index store.
+pub fn list_at<'a>(starts: &[u32], runs: &[u32], index: &'a [Index], i: usize) -> &'a [Index]
+    requires { ⌜ ListIn (now starts) (now runs) (length (now index)) i ⌝ }
+    ensures { λ list. ⌜ now list ≡ listAt (now (starts .entry)) (now (runs .entry)) (now (index .entry)) i ⌝ }
+{
+    let a = base::slot(runs[i]);
+    let lo = base::slot(starts[i]);
+    let hi = base::slot(starts[i + 1]);
+    let e = a + (hi - lo);
+    &index[a..e]
+}
+
+// The values along list i, which stand one list after another.
+pub fn values_at<'a>(starts: &[u32], values: &'a [f64], i: usize) -> &'a [f64]
+    requires { ⌜ ListIn (now starts) (now starts) (length (now values)) i ⌝ }
+    ensures { λ list. ⌜ now list ≡ rowOf (now (starts .entry)) (now (values .entry)) i ⌝ }
+{
+    let lo = base::slot(starts[i]);
+    let hi = base::slot(starts[i + 1]);
+    &values[lo..hi]
+}
+
+// ---- orders
+
+// The own row at a place, by the row order.
+pub fn own_row(r: &[Index], k: Place) -> OwnNumber
+    requires { ⌜ k .0 < length (now r) ⌝ }
+    ensures { λ i. ⌜ i ≡ ownAt (now (r .entry)) k ⌝ }
+{
+    let at = k.0 as usize;
+    OwnNumber(base::number(r[at]))
+}
+
+// The place of an own column, by the inverse column order in scratch.
+pub fn place_of(n: usize, marks: &[u32], j: OwnNumber) -> Place
+    requires { ⌜ (j .0 < n) × (n ≤ maxRows) × (blocksFrom n ≤ length (now marks)) ⌝ }
+    ensures { λ k. ⌜ k ≡ placeAt (orderOf n (now (marks .entry))) j ⌝ }
+{
+    let at = j.0 as usize;
+    Place(marks[scratch::INVERSE * n + at])
+}
+
+// ---- own rows
+
+// The own columns of an own row, as stored.
+pub fn row_columns<'a>(starts: &[u32], columns: &'a [Index], i: OwnNumber) -> &'a [Index]
+    requires { ⌜ ListIn (now starts) (now starts) (length (now columns)) (i .0) ⌝ }
+    ensures { λ row. ⌜ now row ≡ rowOf (now (starts .entry)) (now (columns .entry)) (i .0) ⌝ }
+{
+    list_at(starts, starts, columns, i.0 as usize)
+}
+
+// Their values.
+pub fn row_values<'a>(starts: &[u32], values: &'a [f64], i: OwnNumber) -> &'a [f64]
+    requires { ⌜ ListIn (now starts) (now starts) (length (now values)) (i .0) ⌝ }
+    ensures { λ row. ⌜ now row ≡ rowOf (now (starts .entry)) (now (values .entry)) (i .0) ⌝ }
+{
+    values_at(starts, values, i.0 as usize)
+}
+
+// The right side's value in an own row.
+pub fn row_right(b: &[f64], i: OwnNumber) -> f64
+    requires { ⌜ i .0 < length (now b) ⌝ }
+    ensures { λ v. ⌜ v ≡ getD (now (b .entry)) (i .0) nan ⌝ }
+{
+    b[i.0 as usize]
+}

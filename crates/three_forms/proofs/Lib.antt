@@ -1,2 +1,0 @@
-pub mod FormsAgree
-pub mod Witness

@@ -1,0 +1,163 @@
+//! A buffer of length 0 may be NULL: each lent buffer in turn, and all at once, against the reference.
+use super::cases::compare_case;
+use super::files::{compare_file, compare_written};
+use super::{known, Solver, Tally};
+use crate::compare::{self, Compared};
+use crate::generate::{self, Case};
+use crate::load;
+use crate::model::*;
+use crate::reference::{self, matrix_file, Lists};
+
+/// Takes a buffer's slots away; false where the call is not lent it.
+type Taking = (&'static str, fn(&mut Case) -> bool);
+
+fn take<T>(list: &mut Vec<T>) -> bool {
+    let lent = !list.is_empty();
+    list.clear();
+    lent
+}
+
+const TAKINGS: [Taking; 18] = [
+    ("starts", |case| take(&mut case.input.starts)),
+    ("columns", |case| take(&mut case.input.columns)),
+    ("values", |case| take(&mut case.input.values)),
+    ("r", |case| take(&mut case.input.r)),
+    ("c", |case| take(&mut case.input.c)),
+    ("b", |case| take(&mut case.input.b)),
+    ("lower list starts", |case| take(&mut case.buffers.lower.starts)),
+    ("lower run starts", |case| take(&mut case.buffers.lower.runs)),
+    ("lower index store", |case| take(&mut case.buffers.lower.index)),
+    ("lower value store", |case| take(&mut case.buffers.lower.values)),
+    ("upper list starts", |case| take(&mut case.buffers.upper.starts)),
+    ("upper run starts", |case| take(&mut case.buffers.upper.runs)),
+    ("upper index store", |case| take(&mut case.buffers.upper.index)),
+    ("upper value store", |case| take(&mut case.buffers.upper.values)),
+    ("d", |case| take(&mut case.buffers.d)),
+    ("x", |case| take(&mut case.buffers.x)),
+    ("scratch f64", |case| take(&mut case.buffers.scratch_f64)),
+    ("scratch u32", |case| take(&mut case.buffers.scratch_u32)),
+];
+
+/// How many buffers besides the report the header has for each call.
+fn lent_buffers(call: Call) -> usize {
+    match call {
+        Call::Structure(Form::Plain) => 12,
+        Call::Structure(_) | Call::Solve(Form::Row) => 14,
+        Call::Solve(Form::Plain) => 16,
+        _ => 18,
+    }
+}
+
+fn case_of(call: Call, input: Input, slots: usize, report: usize) -> Case {
+    let buffers = Buffers::for_call(call, input.n, Slots::all(slots));
+    let mut case = Case { call, input, buffers, report };
+    generate::only_lent(&mut case);
+    case
+}
+
+/// The call answers with one of the numbers, and all is as the reference leaves it.
+fn answers(solver: &dyn Solver, case: &Case, numbers: &[u32]) -> Compared {
+    let (answer, result) = compare_case(solver, case);
+    result?;
+    if numbers.contains(&answer.number) {
+        return Ok(());
+    }
+    compare::differ("number", answer.number, numbers)
+}
+
+/// A missing store is 10 or 11, and no columns at all are 3 for the structure calls; every other buffer is 2.
+fn refusals(call: Call, name: &str) -> &'static [u32] {
+    match name {
+        "columns" if matches!(call, Call::Structure(_)) => &[3],
+        "lower index store" | "lower value store" => &[10],
+        "upper index store" | "upper value store" => &[11],
+        _ => &[2],
+    }
+}
+
+fn calls(solver: &dyn Solver, call: Call, tally: &mut Tally) {
+    let mut tried = 0;
+    for (name, taking) in TAKINGS {
+        let mut case = case_of(call, known::paper_matrix(), 1, 4);
+        if taking(&mut case) {
+            tried += 1;
+            tally.add(|| format!("{call:?} with NULL for {name}"), answers(solver, &case, refusals(call, name)));
+        }
+    }
+    let all = compare::same("buffers", &tried, &lent_buffers(call));
+    tally.add(|| format!("{call:?} with NULL for each buffer"), all);
+    let one = load::from_rows(&[vec![(0, 2.0)]], &[8.0]);
+    tally.add(
+        || format!("{call:?} with NULL stores and report, n = 1"),
+        answers(solver, &case_of(call, one, 0, 0), &[0]),
+    );
+    for (n, number) in [(0, 1), (1, 2)] {
+        let case = Case { call, input: Input { n, ..Input::default() }, buffers: Buffers::default(), report: 0 };
+        tally.add(|| format!("{call:?} with NULL for all, n = {n}"), answers(solver, &case, &[number]));
+    }
+}
+
+fn lookup(solver: &dyn Solver, lists: &Lists) -> Compared {
+    for side in [Side::Lower, Side::Upper] {
+        let found = solver.lookup(lists, side, 0)?;
+        compare::same("part", &found, &reference::lookup(lists, side, 0))?;
+        compare::same("empty part", &found, &(0, 0))?;
+    }
+    Ok(())
+}
+
+fn lookups(solver: &dyn Solver, form: Form, tally: &mut Tally) {
+    let whole = Buffers::for_call(Call::Structure(form), 1, Slots::all(0)).upper;
+    let short = [whole.clone(), Store { starts: vec![], ..whole.clone() }, Store { runs: vec![], ..whole.clone() }];
+    for (number, store) in short.into_iter().enumerate() {
+        for (lower, upper) in [(whole.clone(), store.clone()), (store, whole.clone())] {
+            let lists = Lists { form, n: 1, lower, upper };
+            tally.add(|| format!("lookup {form:?} with NULL, lists {number}"), lookup(solver, &lists));
+        }
+    }
+}
+
+const MATRIX_TAKINGS: [fn(&mut Input) -> bool; 6] = [
+    |matrix| take(&mut matrix.starts),
+    |matrix| take(&mut matrix.columns),
+    |matrix| take(&mut matrix.values),
+    |matrix| take(&mut matrix.r),
+    |matrix| take(&mut matrix.c),
+    |matrix| take(&mut matrix.b),
+];
+
+/// Writes the matrix, then reads the file of the whole matrix into its buffers.
+fn write_and_read(solver: &dyn Solver, matrix: &Input, file: &[u8], number: u32) -> Compared {
+    let (answer, _) = compare_written(solver, matrix, &vec![7; file.len()])?;
+    compare::same("number of write", &answer.number, &number)?;
+    compare_file(solver, file, matrix)
+}
+
+fn files(solver: &dyn Solver, tally: &mut Tally) {
+    let empty = matrix_file::blank(1, 0);
+    let file = matrix_file::file_of(&empty);
+    tally.add(|| "file with NULL columns and values".to_string(), write_and_read(solver, &empty, &file, 0));
+    let whole = known::paper_matrix();
+    let file = matrix_file::file_of(&whole);
+    for (number, taking) in MATRIX_TAKINGS.iter().enumerate() {
+        let mut matrix = whole.clone();
+        taking(&mut matrix);
+        tally.add(
+            || format!("file with NULL for part {number} of its matrix"),
+            write_and_read(solver, &matrix, &file, 2),
+        );
+    }
+    tally.add(|| "NULL file written".to_string(), compare_written(solver, &whole, &[]).map(|_| ()));
+    tally.add(|| "NULL file read".to_string(), compare_file(solver, &[], &whole));
+}
+
+/// The solver must lend buffers of length 0 as NULL.
+pub fn run(solver: &dyn Solver, tally: &mut Tally) {
+    for &call in solver.calls() {
+        calls(solver, call, tally);
+    }
+    for form in [Form::Plain, Form::Shared] {
+        lookups(solver, form, tally);
+    }
+    files(solver, tally);
+}
