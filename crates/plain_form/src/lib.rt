@@ -1,69 +1,16 @@
 // The calls of the plain form. Their stages are in stages/specs: Asking for questions 1 to 8, Stages and Ends for what is left of a call after them.
-ghost use mathlib.Core.Path.{_≡_};
 ghost use mathlib.Core.List.{[]};
-ghost use lib.ListN.{length};
 ghost use Rattle.base.specs.declared.Form.the-variants.{Plain};
 ghost use Rattle.matrix.specs.Input.{inputOf};
-ghost use Rattle.outcome.specs.Buffers.{plainBuffers, ended};
+ghost use Rattle.outcome.specs.Buffers.{plainBuffers, sizes};
 ghost use Rattle.outcome.specs.Calls.{StructuresPlain, SolvesPlain};
-ghost use Rattle.symbolic.specs.Pass.{slotsOf, PlainLent, FoundBoth};
-ghost use Rattle.factor.specs.Factoring.{lists, written};
-ghost use Rattle.stages.specs.Stages.{solveFactored};
-ghost use Rattle.stages.specs.Shaped.{FactorDue};
-ghost use Rattle.stages.specs.Ends.{sideLists, Unplaced};
+ghost use Rattle.stages.specs.Stages.{Leaves};
+ghost use Rattle.stages.specs.Shaped.{SolveDue};
 use base::Answer;
-use base::Counts;
 use base::Form;
 use base::Index;
 use base::SideSizes;
 use base::Sizes;
-
-// ---- questions 9 to 11
-
-// Finds the structure, or clears the lists where these questions stop the call.
-fn analyze_or_clear(
-    n: usize,
-    starts: &[u32],
-    columns: &[Index],
-    r: &[Index],
-    c: &[Index],
-    lower_starts: &mut [u32],
-    lower_index: &mut [Index],
-    lower_values: usize,
-    upper_starts: &mut [u32],
-    upper_index: &mut [Index],
-    upper_values: usize,
-    marks: &mut [u32],
-) -> Answer
-    requires { ⌜ PlainLent (inputOf n (now starts) (now columns) [] (now r) (now c) []) (now «lower_starts») (now «lower_index») «lower_values» (now «upper_starts») (now «upper_index») «upper_values» (length (now marks)) ⌝ }
-    ensures { λ a. ⌜ FoundBoth Plain (inputOf n (now (starts .entry)) (now (columns .entry)) [] (now (r .entry)) (now (c .entry)) []) (slotsOf (length (now («lower_index» .entry))) «lower_values» (length (now («upper_index» .entry))) «upper_values») (now («lower_starts» .exit)) (now («lower_starts» .exit)) (now («lower_index» .exit)) «lower_values» (now («upper_starts» .exit)) (now («upper_starts» .exit)) (now («upper_index» .exit)) «upper_values» a
-        × Unplaced (sideLists (now («lower_starts» .entry)) [] (now («lower_index» .entry))) (sideLists (now («upper_starts» .entry)) [] (now («upper_index» .entry))) (sideLists (now («lower_starts» .exit)) [] (now («lower_index» .exit))) (sideLists (now («upper_starts» .exit)) [] (now («upper_index» .exit))) a ⌝ }
-{
-    let a = symbolic::find_plain(
-        n,
-        starts,
-        columns,
-        r,
-        c,
-        lower_starts,
-        lower_index,
-        lower_values,
-        upper_starts,
-        upper_index,
-        upper_values,
-        marks,
-    );
-    if stages::refuses(a) {
-        base::clear_u32(lower_starts);
-        base::clear_index(lower_index);
-        base::clear_u32(upper_starts);
-        base::clear_index(upper_index);
-        return a;
-    }
-    a
-}
-
-// ---- the structure in the plain form
 
 // Finds the fill of M' and places it in the plain form: lower rows and T(k) one after another.
 pub fn structure_plain(
@@ -109,7 +56,7 @@ pub fn structure_plain(
     if stages::stops(asked) {
         return stages::refusal(asked);
     }
-    let a = analyze_or_clear(
+    let a = symbolic::find_plain(
         n,
         starts,
         columns,
@@ -123,16 +70,17 @@ pub fn structure_plain(
         upper_values.len(),
         marks,
     );
+    let refused = stages::refuses(a);
+    stages::clear_lists_if(refused, lower_starts, lower_index);
+    stages::clear_lists_if(refused, upper_starts, upper_index);
     base::clear_f64(lower_values);
     base::clear_f64(upper_values);
     stages::clear_scratch(work, marks);
     a
 }
 
-// ---- the solve in the plain form
-
-// Factors the matrix whose lists stand in their stores, and writes x: what is left of a solve after 1 to 11.
-fn factor_and_solve(
+// Finds the structure, factors, and writes x: what is left of the solve after 1 to 8, but for clearing.
+fn analyze_and_solve(
     n: usize,
     starts: &[u32],
     columns: &[Index],
@@ -150,13 +98,32 @@ fn factor_and_solve(
     x: &mut [f64],
     work: &mut [f64],
     marks: &mut [u32],
-    counts: Counts,
 ) -> Answer
-    requires { ⌜ FactorDue Plain (inputOf n (now starts) (now columns) (now values) (now r) (now c) (now b)) (lists (now «lower_starts») (now «lower_index») (now «upper_starts») (now «upper_starts») (now «upper_index»)) (written (now «lower_values») (now «upper_values») (now d) (now work) (now marks)) (length (now x)) counts ⌝ }
-    ensures { λ a. ⌜ ended a (plainBuffers (now («lower_starts» .exit)) (now («lower_index» .exit)) (now («lower_values» .exit)) (now («upper_starts» .exit)) (now («upper_index» .exit)) (now («upper_values» .exit)) (now (d .exit)) (now (x .exit)) (now (work .exit)) (now (marks .exit)))
-        ≡ solveFactored Plain (inputOf n (now (starts .entry)) (now (columns .entry)) (now (values .entry)) (now (r .entry)) (now (c .entry)) (now (b .entry))) (plainBuffers (now («lower_starts» .entry)) (now («lower_index» .entry)) (now («lower_values» .entry)) (now («upper_starts» .entry)) (now («upper_index» .entry)) (now («upper_values» .entry)) (now (d .entry)) (now (x .entry)) (now (work .entry)) (now (marks .entry))) ⌝ }
+    requires { ⌜ SolveDue Plain (inputOf n (now starts) (now columns) (now values) (now r) (now c) (now b)) (sizes (plainBuffers (now «lower_starts») (now «lower_index») (now «lower_values») (now «upper_starts») (now «upper_index») (now «upper_values») (now d) (now x) (now work) (now marks))) ⌝ }
+    ensures { λ a. ⌜ Leaves Plain (inputOf n (now (starts .entry)) (now (columns .entry)) (now (values .entry)) (now (r .entry)) (now (c .entry)) (now (b .entry)))
+        (plainBuffers (now («lower_starts» .entry)) (now («lower_index» .entry)) (now («lower_values» .entry)) (now («upper_starts» .entry)) (now («upper_index» .entry)) (now («upper_values» .entry)) (now (d .entry)) (now (x .entry)) (now (work .entry)) (now (marks .entry))) a
+        (plainBuffers (now («lower_starts» .exit)) (now («lower_index» .exit)) (now («lower_values» .exit)) (now («upper_starts» .exit)) (now («upper_index» .exit)) (now («upper_values» .exit)) (now (d .exit)) (now (x .exit)) (now (work .exit)) (now (marks .exit))) ⌝ }
 {
-    let a = factor::factor_plain(
+    let a = symbolic::find_plain(
+        n,
+        starts,
+        columns,
+        r,
+        c,
+        lower_starts,
+        lower_index,
+        lower_values.len(),
+        upper_starts,
+        upper_index,
+        upper_values.len(),
+        marks,
+    );
+    if stages::refuses(a) {
+        return a;
+    }
+    let counts = a.counts();
+    stages::factor_and_solve(
+        Form::Plain,
         n,
         starts,
         columns,
@@ -168,23 +135,15 @@ fn factor_and_solve(
         lower_index,
         lower_values,
         upper_starts,
+        upper_starts,
         upper_index,
         upper_values,
         d,
+        x,
         work,
         marks,
-    );
-    let fault = stages::fault_of(a);
-    if stages::stops(fault) {
-        stages::clear_side(lower_starts, lower_index, lower_values);
-        stages::clear_side(upper_starts, upper_index, upper_values);
-        base::clear_f64(d);
-        stages::clear_scratch(work, marks);
-        return stages::ended_by(fault, counts);
-    }
-    stages::write_x(n, c, work, x);
-    stages::clear_scratch(work, marks);
-    stages::ended_by(fault, counts)
+        counts,
+    )
 }
 
 // Solves M·x = b in the plain form: structure, factors and x.
@@ -247,26 +206,7 @@ pub fn solve_plain(
     if stages::stops(asked) {
         return stages::refusal(asked);
     }
-    let a = analyze_or_clear(
-        n,
-        starts,
-        columns,
-        r,
-        c,
-        lower_starts,
-        lower_index,
-        lower_values.len(),
-        upper_starts,
-        upper_index,
-        upper_values.len(),
-        marks,
-    );
-    if stages::refuses(a) {
-        stages::clear_numbers(lower_values, upper_values, d, work, marks);
-        return a;
-    }
-    let counts = a.counts();
-    factor_and_solve(
+    let a = analyze_and_solve(
         n,
         starts,
         columns,
@@ -284,6 +224,11 @@ pub fn solve_plain(
         x,
         work,
         marks,
-        counts,
-    )
+    );
+    let refused = stages::refuses(a);
+    stages::clear_lists_if(refused, lower_starts, lower_index);
+    stages::clear_lists_if(refused, upper_starts, upper_index);
+    stages::clear_numbers_if(refused, lower_values, upper_values, d);
+    stages::clear_scratch(work, marks);
+    a
 }

@@ -1,11 +1,9 @@
 // The solve in the row form. Its stages are in stages/specs: Asking for questions 1 to 8, Stages and Ends for what is left of a call after them.
-ghost use mathlib.Core.Path.{_≡_};
-ghost use lib.ListN.{length};
 ghost use Rattle.base.specs.declared.Form.the-variants.{ByRow};
 ghost use Rattle.matrix.specs.Input.{inputOf};
-ghost use Rattle.outcome.specs.Buffers.{rowBuffers, sizes, cleared, ended};
+ghost use Rattle.outcome.specs.Buffers.{rowBuffers, sizes};
 ghost use Rattle.outcome.specs.Calls.{SolvesByRow};
-ghost use Rattle.stages.specs.Stages.{solvePlaced};
+ghost use Rattle.stages.specs.Stages.{Leaves};
 ghost use Rattle.stages.specs.Shaped.{SolveDue};
 use base::Answer;
 use base::Form;
@@ -13,7 +11,7 @@ use base::Index;
 use base::SideSizes;
 use base::Sizes;
 
-// Finds the structure, factors, and writes x: what is left of the solve after 1 to 8. Structure and factors are left behind.
+// Finds the structure, factors, and writes x: what is left of the solve after 1 to 8, but for clearing.
 fn analyze_and_solve(
     n: usize,
     starts: &[u32],
@@ -32,8 +30,9 @@ fn analyze_and_solve(
     marks: &mut [u32],
 ) -> Answer
     requires { ⌜ SolveDue ByRow (inputOf n (now starts) (now columns) (now values) (now r) (now c) (now b)) (sizes (rowBuffers (now «upper_starts») (now «upper_runs») (now «upper_index») (now «upper_values») (now d) (now x) (now work) (now marks))) ⌝ }
-    ensures { λ a. ⌜ ended a (cleared (sizes (rowBuffers (now («upper_starts» .entry)) (now («upper_runs» .entry)) (now («upper_index» .entry)) (now («upper_values» .entry)) (now (d .entry)) (now (x .entry)) (now (work .entry)) (now (marks .entry)))) (now (x .exit)))
-        ≡ solvePlaced ByRow (inputOf n (now (starts .entry)) (now (columns .entry)) (now (values .entry)) (now (r .entry)) (now (c .entry)) (now (b .entry))) (rowBuffers (now («upper_starts» .entry)) (now («upper_runs» .entry)) (now («upper_index» .entry)) (now («upper_values» .entry)) (now (d .entry)) (now (x .entry)) (now (work .entry)) (now (marks .entry))) ⌝ }
+    ensures { λ a. ⌜ Leaves ByRow (inputOf n (now (starts .entry)) (now (columns .entry)) (now (values .entry)) (now (r .entry)) (now (c .entry)) (now (b .entry)))
+        (rowBuffers (now («upper_starts» .entry)) (now («upper_runs» .entry)) (now («upper_index» .entry)) (now («upper_values» .entry)) (now (d .entry)) (now (x .entry)) (now (work .entry)) (now (marks .entry))) a
+        (rowBuffers (now («upper_starts» .exit)) (now («upper_runs» .exit)) (now («upper_index» .exit)) (now («upper_values» .exit)) (now (d .exit)) (now (x .exit)) (now (work .exit)) (now (marks .exit))) ⌝ }
 {
     let a = symbolic::find_row(
         n,
@@ -50,7 +49,11 @@ fn analyze_and_solve(
     if stages::refuses(a) {
         return a;
     }
-    let factored = factor::factor_row(
+    let counts = a.counts();
+    // The row form keeps no L.
+    let mut none = [0.0; 1];
+    stages::factor_and_solve(
+        Form::ByRow,
         n,
         starts,
         columns,
@@ -58,20 +61,19 @@ fn analyze_and_solve(
         r,
         c,
         b,
+        &starts[..0],
+        &columns[..0],
+        &mut none[..0],
         upper_starts,
         upper_runs,
         upper_index,
         upper_values,
         d,
+        x,
         work,
         marks,
-    );
-    let fault = stages::fault_of(factored);
-    if stages::stops(fault) {
-        return stages::refusal(fault);
-    }
-    stages::write_x(n, c, work, x);
-    a
+        counts,
+    )
 }
 
 // Solves M·x = b in the row form: only the upper side is kept, and zeroed at the end.
@@ -149,8 +151,10 @@ pub fn solve_row(
         work,
         marks,
     );
-    stages::clear_side(upper_starts, upper_index, upper_values);
+    base::clear_u32(upper_starts);
     base::clear_u32(upper_runs);
+    base::clear_index(upper_index);
+    base::clear_f64(upper_values);
     base::clear_f64(d);
     stages::clear_scratch(work, marks);
     a

@@ -1,83 +1,16 @@
 // The calls of the shared form. Their stages are in stages/specs: Asking for questions 1 to 8, Stages and Ends for what is left of a call after them.
-ghost use mathlib.Core.Path.{_≡_};
 ghost use mathlib.Core.List.{[]};
-ghost use lib.ListN.{length};
-ghost use Rattle.base.specs.Lists.{blank};
 ghost use Rattle.base.specs.declared.Form.the-variants.{Shared};
 ghost use Rattle.matrix.specs.Input.{inputOf};
-ghost use Rattle.outcome.specs.Buffers.{sharedBuffers, ended};
+ghost use Rattle.outcome.specs.Buffers.{sharedBuffers, sizes};
 ghost use Rattle.outcome.specs.Calls.{StructuresShared, SolvesShared};
-ghost use Rattle.symbolic.specs.Pass.{slotsOf, SharedLent, FoundBoth};
-ghost use Rattle.factor.specs.Factoring.{written};
-ghost use Rattle.stages.specs.Stages.{solveFactored};
-ghost use Rattle.stages.specs.Sharing.{SharedDue};
-ghost use Rattle.stages.specs.Ends.{sideLists, Unplaced};
+ghost use Rattle.stages.specs.Stages.{Leaves};
+ghost use Rattle.stages.specs.Shaped.{SolveDue};
 use base::Answer;
-use base::Counts;
 use base::Form;
 use base::Index;
 use base::SideSizes;
 use base::Sizes;
-
-// ---- a refusal's zeros
-
-// The lists of a side.
-fn clear_lists(starts: &mut [u32], runs: &mut [u32], index: &mut [Index])
-    ensures { λ _. ⌜ (now (starts .exit) ≡ blank 0 (now (starts .entry))) × (now (runs .exit) ≡ blank 0 (now (runs .entry))) × (now (index .exit) ≡ blank 0 (now (index .entry))) ⌝ }
-{
-    base::clear_u32(starts);
-    base::clear_u32(runs);
-    base::clear_index(index);
-}
-
-// ---- questions 9 to 11
-
-// Finds the structure, or clears the lists where these questions stop the call.
-fn analyze_or_clear(
-    n: usize,
-    starts: &[u32],
-    columns: &[Index],
-    r: &[Index],
-    c: &[Index],
-    lower_starts: &mut [u32],
-    lower_runs: &mut [u32],
-    lower_index: &mut [Index],
-    lower_values: usize,
-    upper_starts: &mut [u32],
-    upper_runs: &mut [u32],
-    upper_index: &mut [Index],
-    upper_values: usize,
-    marks: &mut [u32],
-) -> Answer
-    requires { ⌜ SharedLent (inputOf n (now starts) (now columns) [] (now r) (now c) []) (now «lower_starts») (now «lower_runs») (now «lower_index») «lower_values» (now «upper_starts») (now «upper_runs») (now «upper_index») «upper_values» (length (now marks)) ⌝ }
-    ensures { λ a. ⌜ FoundBoth Shared (inputOf n (now (starts .entry)) (now (columns .entry)) [] (now (r .entry)) (now (c .entry)) []) (slotsOf (length (now («lower_index» .entry))) «lower_values» (length (now («upper_index» .entry))) «upper_values») (now («lower_starts» .exit)) (now («lower_runs» .exit)) (now («lower_index» .exit)) «lower_values» (now («upper_starts» .exit)) (now («upper_runs» .exit)) (now («upper_index» .exit)) «upper_values» a
-        × Unplaced (sideLists (now («lower_starts» .entry)) (now («lower_runs» .entry)) (now («lower_index» .entry))) (sideLists (now («upper_starts» .entry)) (now («upper_runs» .entry)) (now («upper_index» .entry))) (sideLists (now («lower_starts» .exit)) (now («lower_runs» .exit)) (now («lower_index» .exit))) (sideLists (now («upper_starts» .exit)) (now («upper_runs» .exit)) (now («upper_index» .exit))) a ⌝ }
-{
-    let a = symbolic::find_shared(
-        n,
-        starts,
-        columns,
-        r,
-        c,
-        lower_starts,
-        lower_runs,
-        lower_index,
-        lower_values,
-        upper_starts,
-        upper_runs,
-        upper_index,
-        upper_values,
-        marks,
-    );
-    if stages::refuses(a) {
-        clear_lists(lower_starts, lower_runs, lower_index);
-        clear_lists(upper_starts, upper_runs, upper_index);
-        return a;
-    }
-    a
-}
-
-// ---- the structure in the shared form
 
 // Finds the fill of M' and places it in the shared form: lower columns and T(k), each as a part of another where it can be.
 pub fn structure_shared(
@@ -125,7 +58,7 @@ pub fn structure_shared(
     if stages::stops(asked) {
         return stages::refusal(asked);
     }
-    let a = analyze_or_clear(
+    let a = symbolic::find_shared(
         n,
         starts,
         columns,
@@ -141,16 +74,18 @@ pub fn structure_shared(
         upper_values.len(),
         marks,
     );
+    let refused = stages::refuses(a);
+    stages::clear_lists_if(refused, lower_starts, lower_index);
+    stages::clear_lists_if(refused, upper_starts, upper_index);
+    stages::clear_runs_if(refused, lower_runs, upper_runs);
     base::clear_f64(lower_values);
     base::clear_f64(upper_values);
     stages::clear_scratch(work, marks);
     a
 }
 
-// ---- the solve in the shared form
-
-// Factors the matrix whose lists stand in their stores, and writes x: what is left of a solve after 1 to 11.
-fn factor_and_solve(
+// Finds the structure, factors, and writes x: what is left of the solve after 1 to 8, but for clearing.
+fn analyze_and_solve(
     n: usize,
     starts: &[u32],
     columns: &[Index],
@@ -170,13 +105,34 @@ fn factor_and_solve(
     x: &mut [f64],
     work: &mut [f64],
     marks: &mut [u32],
-    counts: Counts,
 ) -> Answer
-    requires { ⌜ SharedDue (inputOf n (now starts) (now columns) (now values) (now r) (now c) (now b)) (now «lower_starts») (now «lower_runs») (now «lower_index») (now «upper_starts») (now «upper_runs») (now «upper_index») (written (now «lower_values») (now «upper_values») (now d) (now work) (now marks)) (length (now x)) counts ⌝ }
-    ensures { λ a. ⌜ ended a (sharedBuffers (now («lower_starts» .exit)) (now («lower_runs» .exit)) (now («lower_index» .exit)) (now («lower_values» .exit)) (now («upper_starts» .exit)) (now («upper_runs» .exit)) (now («upper_index» .exit)) (now («upper_values» .exit)) (now (d .exit)) (now (x .exit)) (now (work .exit)) (now (marks .exit)))
-        ≡ solveFactored Shared (inputOf n (now (starts .entry)) (now (columns .entry)) (now (values .entry)) (now (r .entry)) (now (c .entry)) (now (b .entry))) (sharedBuffers (now («lower_starts» .entry)) (now («lower_runs» .entry)) (now («lower_index» .entry)) (now («lower_values» .entry)) (now («upper_starts» .entry)) (now («upper_runs» .entry)) (now («upper_index» .entry)) (now («upper_values» .entry)) (now (d .entry)) (now (x .entry)) (now (work .entry)) (now (marks .entry))) ⌝ }
+    requires { ⌜ SolveDue Shared (inputOf n (now starts) (now columns) (now values) (now r) (now c) (now b)) (sizes (sharedBuffers (now «lower_starts») (now «lower_runs») (now «lower_index») (now «lower_values») (now «upper_starts») (now «upper_runs») (now «upper_index») (now «upper_values») (now d) (now x) (now work) (now marks))) ⌝ }
+    ensures { λ a. ⌜ Leaves Shared (inputOf n (now (starts .entry)) (now (columns .entry)) (now (values .entry)) (now (r .entry)) (now (c .entry)) (now (b .entry)))
+        (sharedBuffers (now («lower_starts» .entry)) (now («lower_runs» .entry)) (now («lower_index» .entry)) (now («lower_values» .entry)) (now («upper_starts» .entry)) (now («upper_runs» .entry)) (now («upper_index» .entry)) (now («upper_values» .entry)) (now (d .entry)) (now (x .entry)) (now (work .entry)) (now (marks .entry))) a
+        (sharedBuffers (now («lower_starts» .exit)) (now («lower_runs» .exit)) (now («lower_index» .exit)) (now («lower_values» .exit)) (now («upper_starts» .exit)) (now («upper_runs» .exit)) (now («upper_index» .exit)) (now («upper_values» .exit)) (now (d .exit)) (now (x .exit)) (now (work .exit)) (now (marks .exit))) ⌝ }
 {
-    let a = factor::factor_shared(
+    let a = symbolic::find_shared(
+        n,
+        starts,
+        columns,
+        r,
+        c,
+        lower_starts,
+        lower_runs,
+        lower_index,
+        lower_values.len(),
+        upper_starts,
+        upper_runs,
+        upper_index,
+        upper_values.len(),
+        marks,
+    );
+    if stages::refuses(a) {
+        return a;
+    }
+    let counts = a.counts();
+    stages::factor_and_solve(
+        Form::Shared,
         n,
         starts,
         columns,
@@ -185,25 +141,18 @@ fn factor_and_solve(
         c,
         b,
         lower_starts,
+        lower_index,
         lower_values,
         upper_starts,
         upper_runs,
         upper_index,
         upper_values,
         d,
+        x,
         work,
         marks,
-    );
-    let fault = stages::fault_of(a);
-    if stages::stops(fault) {
-        clear_lists(lower_starts, lower_runs, lower_index);
-        clear_lists(upper_starts, upper_runs, upper_index);
-        stages::clear_numbers(lower_values, upper_values, d, work, marks);
-        return stages::ended_by(fault, counts);
-    }
-    stages::write_x(n, c, work, x);
-    stages::clear_scratch(work, marks);
-    stages::ended_by(fault, counts)
+        counts,
+    )
 }
 
 // Solves M·x = b in the shared form: structure, factors and x.
@@ -268,28 +217,7 @@ pub fn solve_shared(
     if stages::stops(asked) {
         return stages::refusal(asked);
     }
-    let a = analyze_or_clear(
-        n,
-        starts,
-        columns,
-        r,
-        c,
-        lower_starts,
-        lower_runs,
-        lower_index,
-        lower_values.len(),
-        upper_starts,
-        upper_runs,
-        upper_index,
-        upper_values.len(),
-        marks,
-    );
-    if stages::refuses(a) {
-        stages::clear_numbers(lower_values, upper_values, d, work, marks);
-        return a;
-    }
-    let counts = a.counts();
-    factor_and_solve(
+    let a = analyze_and_solve(
         n,
         starts,
         columns,
@@ -309,6 +237,12 @@ pub fn solve_shared(
         x,
         work,
         marks,
-        counts,
-    )
+    );
+    let refused = stages::refuses(a);
+    stages::clear_lists_if(refused, lower_starts, lower_index);
+    stages::clear_lists_if(refused, upper_starts, upper_index);
+    stages::clear_runs_if(refused, lower_runs, upper_runs);
+    stages::clear_numbers_if(refused, lower_values, upper_values, d);
+    stages::clear_scratch(work, marks);
+    a
 }

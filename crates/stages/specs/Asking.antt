@@ -20,10 +20,10 @@ use Rattle.base.specs.declared.Asked.{Asked}
 use Rattle.base.specs.declared.Asked.the-variants.{Pass, Stop}
 use Rattle.base.specs.declared.Answer.{Answer}
 use Rattle.base.specs.declared.Answer.the-variants.{Refused}
-use Rattle.stages.specs.Stages.{structurePlaced, solvePlaced, solveFactored}
+use Rattle.stages.specs.Stages.{isStop, noCounts, structurePlaced, solvePlaced}
 use Rattle.stages.specs.Shaped.{structureShape, StructureDue, SolveDue}
 use Rattle.stages.specs.ShapedLaws.{structure-shaped, solve-shaped}
-use Rattle.stages.specs.Branches.{isStop, noCounts, never, pass-of}
+use Rattle.stages.specs.Branches.{never, pass-of}
 
 -- scratch is w and m, and then v and t
 abbrev pub Untouched : List Float → List ℕ → List Float → List ℕ → Type 0
@@ -111,5 +111,5 @@ module _ (f : Form) (i : Input) (s : Buffers) (w v : List Float) (m t : List ℕ
   structure-goes g h e = goes-on (structureShape f i (sizes s)) (askStructure i) a s (scratchCleared s) (structurePlaced f i s) r (g .answer) h e
 
   pub solve-goes : SolveAsking f i (sizes s) w m v t a → a ≡ Pass → r ≡ solvePlaced f i s → r ≡ solve f i s
-  unfolding solve solvePlaced solveFactored
+  unfolding solve solvePlaced
   solve-goes g h e = goes-on (shape f i (sizes s)) (askSolve i) a s (scratchCleared s) (solvePlaced f i s) r (g .answer) h e

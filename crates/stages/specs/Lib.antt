@@ -2,8 +2,6 @@ pub mod Stages
 pub mod Shaped
 pub mod LengthLaws
 pub mod ShapedLaws
-pub mod StageLaws
-pub mod Sharing
 pub mod Branches
 pub mod Asking
 pub mod Ends

@@ -24,12 +24,12 @@ use Rattle.outcome.specs.Placed.{PlacedSide}
 use Rattle.questions.specs.Lent.{Lent}
 use Rattle.questions.specs.Settled.{Structured}
 use Rattle.questions.specs.SettledLaws.{settled}
-use Rattle.symbolic.specs.Pass.{slotsOf, MatrixLent, PlainLent}
-use Rattle.factor.specs.Factoring.{Lists, Written, LowerPlaced}
+use Rattle.symbolic.specs.Pass.{slotsOf, MatrixLent, PlainLent, SharedLent}
+use Rattle.factor.specs.Factoring.{Lists, Written, Starts, LowerPlaced}
 use Rattle.base.specs.declared.Counts.{Counts}
 use Rattle.base.specs.declared.Refusal.the-variants.{Rows, Lengths}
 use Rattle.base.specs.declared.Asked.the-variants.{Pass}
-use Rattle.base.specs.declared.Side.the-variants.{Upper}
+use Rattle.base.specs.declared.Side.the-variants.{Lower, Upper}
 use Rattle.base.specs.declared.Form.{Form}
 use Rattle.base.specs.declared.Form.the-variants.{Plain, Shared, ByRow}
 use Rattle.stages.specs.LengthLaws.{all-join}
@@ -144,6 +144,14 @@ plain-lent i ls li us ui lr lv ur uv d x w m h g = record {
   upper = record { starts-size = h .upper .starts; runs-size = h .upper .starts; slots-fit = h .upper .index; values-fit = h .upper .values };
 }
 
+pub shared-lent : (i : Input) (ls lr li us ur ui : List ℕ) (lv uv d x w m : ℕ)
+    → StructureShaped Shared i (sizesOf (sideOf (length ls) (length lr) (length li) lv) (sideOf (length us) (length ur) (length ui) uv) d x w m) → Structured i → SharedLent i ls lr li lv us ur ui uv m
+shared-lent i ls lr li us ur ui lv uv d x w m h g = record {
+  matrix = matrix-lent Shared i _ h g;
+  lower = record { starts-size = h .lower .starts; runs-size = h .lower .runs; slots-fit = h .lower .index; values-fit = h .lower .values };
+  upper = record { starts-size = h .upper .starts; runs-size = h .upper .runs; slots-fit = h .upper .index; values-fit = h .upper .values };
+}
+
 -- a solve's matrix, for the structure pass
 pub pattern-structured : (i : Input) → Structured i → Structured (pattern i)
 pattern-structured i g = record {
@@ -153,6 +161,10 @@ pattern-structured i g = record {
 }
 
 -- ---- what the arithmetic asks for
+
+-- of the shared form's lower side, the list starts
+pub starts-of : (i : Input) (ls lr li : List ℕ) (values : ℕ) → PlacedSide Shared Lower (stored i) (i .n) ls lr li values → Starts Shared (stored i) (i .n) ls values
+starts-of i ls lr li values h = record { starts-are = h .starts-are; values-in = h .values-in }
 
 pub factor-due : (f : Form) (i : Input) (z : Sizes) (l : Lists) (w : Written) (x : ℕ) (k : Counts) → SolveDue f i z → length (w .marks) ≡ z .marks → length (w .d) ≡ z .d → length (w .work) ≡ z .work
     → x ≡ z .x → LowerPlaced f (stored i) (i .n) l (w .lower) → PlacedSide f Upper (stored i) (i .n) (l .upper-starts) (l .upper-runs) (l .upper-index) (length (w .upper)) → k ≡ counts i

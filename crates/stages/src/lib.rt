@@ -11,8 +11,9 @@ ghost use Rattle.matrix.specs.Input.{inputOf, ownOrder};
 ghost use Rattle.outcome.specs.Buffers.{sideTests, lowerTests, listTests, vectorTests, scratchTests};
 ghost use Rattle.outcome.specs.Solve.{shape};
 ghost use Rattle.symbolic.specs.Pass.{foundAnswer};
-ghost use Rattle.stages.specs.Shaped.{structureShape, SolutionDue, faultAsked};
-ghost use Rattle.stages.specs.Branches.{isStop, isRefused, noCounts};
+ghost use Rattle.factor.specs.Factoring.{lists, written};
+ghost use Rattle.stages.specs.Shaped.{structureShape, FactorDue, SolutionDue, faultAsked};
+ghost use Rattle.stages.specs.Stages.{isStop, isRefused, noCounts, blankIf, Concluded};
 ghost use Rattle.stages.specs.Asking.{StructureAsking, SolveAsking};
 ghost use Rattle.base.specs.Scratch.{zFrom};
 use base::Answer;
@@ -213,15 +214,6 @@ pub fn ask_solve(
 
 // ---- zeros
 
-// Clears the lists and the values of a side without run starts.
-pub fn clear_side(starts: &mut [u32], index: &mut [Index], values: &mut [f64])
-    ensures { λ _. ⌜ (now (starts .exit) ≡ blank 0 (now (starts .entry))) × (now (index .exit) ≡ blank 0 (now (index .entry))) × (now (values .exit) ≡ blank nought (now (values .entry))) ⌝ }
-{
-    base::clear_u32(starts);
-    base::clear_index(index);
-    base::clear_f64(values);
-}
-
 // Clears scratch.
 pub fn clear_scratch(work: &mut [f64], marks: &mut [u32])
     ensures { λ _. ⌜ (now (work .exit) ≡ blank nought (now (work .entry))) × (now (marks .exit) ≡ blank 0 (now (marks .entry))) ⌝ }
@@ -230,20 +222,35 @@ pub fn clear_scratch(work: &mut [f64], marks: &mut [u32])
     base::clear_u32(marks);
 }
 
-// Clears the numbers of both sides, and scratch.
-pub fn clear_numbers(
-    lower_values: &mut [f64],
-    upper_values: &mut [f64],
-    d: &mut [f64],
-    work: &mut [f64],
-    marks: &mut [u32],
-)
-    ensures { λ _. ⌜ (now («lower_values» .exit) ≡ blank nought (now («lower_values» .entry))) × (now («upper_values» .exit) ≡ blank nought (now («upper_values» .entry))) × (now (d .exit) ≡ blank nought (now (d .entry))) × (now (work .exit) ≡ blank nought (now (work .entry))) × (now (marks .exit) ≡ blank 0 (now (marks .entry))) ⌝ }
+// Clears the list starts and the index store of a side where a call is refused.
+pub fn clear_lists_if(refused: bool, starts: &mut [u32], index: &mut [Index])
+    ensures { λ _. ⌜ (now (starts .exit) ≡ blankIf refused 0 (now (starts .entry))) × (now (index .exit) ≡ blankIf refused 0 (now (index .entry))) ⌝ }
 {
-    base::clear_f64(lower_values);
-    base::clear_f64(upper_values);
-    base::clear_f64(d);
-    clear_scratch(work, marks);
+    if refused {
+        base::clear_u32(starts);
+        base::clear_index(index);
+    }
+}
+
+// Clears the run starts of both sides where a call is refused.
+pub fn clear_runs_if(refused: bool, lower: &mut [u32], upper: &mut [u32])
+    ensures { λ _. ⌜ (now (lower .exit) ≡ blankIf refused 0 (now (lower .entry))) × (now (upper .exit) ≡ blankIf refused 0 (now (upper .entry))) ⌝ }
+{
+    if refused {
+        base::clear_u32(lower);
+        base::clear_u32(upper);
+    }
+}
+
+// Clears the values of both sides and d where a call is refused.
+pub fn clear_numbers_if(refused: bool, lower: &mut [f64], upper: &mut [f64], d: &mut [f64])
+    ensures { λ _. ⌜ (now (lower .exit) ≡ blankIf refused nought (now (lower .entry))) × (now (upper .exit) ≡ blankIf refused nought (now (upper .entry))) × (now (d .exit) ≡ blankIf refused nought (now (d .entry))) ⌝ }
+{
+    if refused {
+        base::clear_f64(lower);
+        base::clear_f64(upper);
+        base::clear_f64(d);
+    }
 }
 
 // ---- 12 and 13, and the solution
@@ -268,6 +275,61 @@ pub fn write_x(n: usize, c: &[Index], work: &[f64], x: &mut [f64])
     questions::write_solution(n, c, &work[from..], x);
 }
 
+// Factors the matrix whose lists stand in their stores, and writes x: 12 and 13. The form passes [] for what it lacks, and its list starts as
+// run starts where it has none. Another call clears.
+pub fn factor_and_solve(
+    form: Form,
+    n: usize,
+    starts: &[u32],
+    columns: &[Index],
+    values: &[f64],
+    r: &[Index],
+    c: &[Index],
+    b: &[f64],
+    lower_starts: &[u32],
+    lower_index: &[Index],
+    lower_values: &mut [f64],
+    upper_starts: &[u32],
+    upper_runs: &[u32],
+    upper_index: &[Index],
+    upper_values: &mut [f64],
+    d: &mut [f64],
+    x: &mut [f64],
+    work: &mut [f64],
+    marks: &mut [u32],
+    counts: Counts,
+) -> Answer
+    requires { ⌜ FactorDue form (inputOf n (now starts) (now columns) (now values) (now r) (now c) (now b)) (lists (now «lower_starts») (now «lower_index») (now «upper_starts») (now «upper_runs») (now «upper_index»)) (written (now «lower_values») (now «upper_values») (now d) (now work) (now marks)) (length (now x)) counts ⌝ }
+    ensures { λ a. ⌜ Concluded form (inputOf n (now (starts .entry)) (now (columns .entry)) (now (values .entry)) (now (r .entry)) (now (c .entry)) (now (b .entry))) counts a (now («lower_values» .exit)) (now («upper_values» .exit)) (now (d .exit)) (now (x .entry)) (now (x .exit)) ⌝ }
+{
+    let factored = factor::factor(
+        form,
+        n,
+        starts,
+        columns,
+        values,
+        r,
+        c,
+        b,
+        lower_starts,
+        lower_index,
+        lower_values,
+        upper_starts,
+        upper_runs,
+        upper_index,
+        upper_values,
+        d,
+        work,
+        marks,
+    );
+    let fault = fault_of(factored);
+    if stops(fault) {
+        return refusal(fault);
+    }
+    write_x(n, c, work, x);
+    Answer::Done(counts)
+}
+
 // ---- answers by a test. The calls branch on these: a match on an answer beside all buffers is dear to prove.
 
 // Tells whether questions stop the call.
@@ -290,24 +352,16 @@ pub fn refuses(a: Answer) -> bool
     }
 }
 
-// Gives the counts, or the refusal where questions stop the call.
-pub fn ended_by(a: Asked, counts: Counts) -> Answer
-    ensures { λ r. ⌜ r ≡ foundAnswer a counts ⌝ }
-{
-    match a {
-        Asked::Pass => Answer::Done(counts),
-        Asked::Stop(q) => Answer::Refused(q),
-    }
-}
-
 // Gives the refusal of questions that stop the call.
 pub fn refusal(a: Asked) -> Answer
     ensures { λ r. ⌜ r ≡ foundAnswer a noCounts ⌝ }
 {
-    let none = Counts {
-        lower: 0,
-        upper: 0,
-        products: 0,
-    };
-    ended_by(a, none)
+    match a {
+        Asked::Pass => Answer::Done(Counts {
+            lower: 0,
+            upper: 0,
+            products: 0,
+        }),
+        Asked::Stop(q) => Answer::Refused(q),
+    }
 }

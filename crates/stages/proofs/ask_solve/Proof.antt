@@ -3,7 +3,7 @@ use Rattle.matrix.specs.Input.{Input, inputOf}
 use Rattle.stages.specs.Branches.{never, pass-of}
 use Rattle.stages.specs.Shaped.{pattern}
 use Rattle.stages.specs.ShapedLaws.{solve-shaped, lent-of}
-use Rattle.stages.specs.StageLaws.{blank-of}
+use Rattle.stages.specs.Ends.{blank-of}
 use Rattle.stages.specs.Asking.{asking-stop, asking-on, solve-due}
 use borrow.Author.Needs.{needs}
 use Rattle.stages.proofs.ask_solve.Statement.{statement}

@@ -3,7 +3,7 @@ use mathlib.Core.List.{[]}
 use Rattle.matrix.specs.Input.{Input, inputOf}
 use Rattle.stages.specs.Branches.{never, pass-of}
 use Rattle.stages.specs.ShapedLaws.{structure-shaped, lent-of}
-use Rattle.stages.specs.StageLaws.{blank-of}
+use Rattle.stages.specs.Ends.{blank-of}
 use Rattle.stages.specs.Asking.{asking-stop, asking-on, structure-due}
 use borrow.Author.Needs.{needs}
 use Rattle.stages.proofs.ask_structure.Statement.{statement}
