@@ -106,13 +106,12 @@ module _ (f : Form) (i : Input) (z : Sizes) where
         solution = eqb-true _ _ (q 1);
       }
 
--- the marks were written to
-module _ (f : Form) (i : Input) (l u : SideSizes) (d x w m m₁ : ℕ) (e : m₁ ≡ m) where
-  pub shaped-again : StructureShaped f i (sizesOf l u d x w m) → StructureShaped f i (sizesOf l u d x w m₁)
-  shaped-again h = rw e h
+-- scratch was written to
+pub shaped-again : (f : Form) (i : Input) (l u : SideSizes) (d x w m m₁ : ℕ) → m₁ ≡ m → StructureShaped f i (sizesOf l u d x w m) → StructureShaped f i (sizesOf l u d x w m₁)
+shaped-again f i l u d x w m m₁ e h = rw e h
 
-  pub solve-again : SolveShaped f i (sizesOf l u d x w m) → SolveShaped f i (sizesOf l u d x w m₁)
-  solve-again h = rw e h
+pub due-again : (f : Form) (i : Input) (l u : SideSizes) (d x w m w₁ m₁ : ℕ) → w₁ ≡ w → m₁ ≡ m → SolveDue f i (sizesOf l u d x w m) → SolveDue f i (sizesOf l u d x w₁ m₁)
+due-again f i l u d x w m w₁ m₁ a b h = rw (a, b) h
 
 -- ---- what the questions and the structure pass ask for
 
