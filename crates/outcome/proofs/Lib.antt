@@ -5,4 +5,3 @@ pub mod Ends
 pub mod Stages
 pub mod Lengths
 pub mod Meaning
-pub mod Finish

@@ -1,16 +1,17 @@
 -- The ends of a call, over the form: what the passes leave, what is then cleared, and the outcome that this comes to.
 use mathlib.Core.Path.{_≡_, refl, sym, ap, _∙_}
 use mathlib.Core.Bool.{Bool, true, false, cond}
-use mathlib.Core.List.{List, []}
+use mathlib.Core.List.{List, [], _∷_}
 use Prim.Native.Nat.{ℕ}
 use native.Mathlib.Omega.{arith}
+use native.Mathlib.Nat.{sub-zero}
 use lib.ListN.{length, replicate}
 use lib.Ieee.{Float}
 use Rattle.base.specs.Lists.{blank, padded, nought}
 use Rattle.base.specs.ZerosLaws.{blank-same}
 use Rattle.fill.specs.Fill.{Pattern}
 use Rattle.matrix.specs.Input.{Input, stored, ownOrder}
-use Rattle.outcome.specs.Buffers.{SideBuffers, Buffers, allBuffers, sideBuffers, sideSizes, sizes, sideCleared, cleared, scratchCleared, Outcome, ended, stop}
+use Rattle.outcome.specs.Buffers.{SideBuffers, Buffers, allBuffers, sideBuffers, noSide, sideSizes, sizes, sideCleared, cleared, scratchCleared, Outcome, ended, stop}
 use Rattle.outcome.specs.Forms.{placedTo, valueNeed}
 use Rattle.outcome.specs.Placed.{RunsAre, PlacedSide}
 use Rattle.outcome.specs.Structure.{askPlaces, counts, runsKept, sidePlaced, structured, structure}
@@ -19,8 +20,7 @@ use Rattle.arithmetic.specs.Arith.{Out, ok, met, Result}
 use Rattle.factor.specs.Factoring.{lists, written, LowerPlaced, Factors, FactoredAs}
 use Rattle.factor.specs.declared.Factored.{Factored}
 use Rattle.factor.specs.declared.Factored.the-variants.{Solved, Zero, Overflow}
-use Rattle.outcome.proofs.Finish.{nothing-stored}
-use Rattle.symbolic.specs.Pass.{foundAnswer, Found, FoundBoth}
+use Rattle.symbolic.specs.Pass.{slotsOf, foundAnswer, Found, FoundBoth}
 use Rattle.base.specs.declared.Form.{Form}
 use Rattle.base.specs.declared.Form.the-variants.{Plain, Shared, ByRow}
 use Rattle.base.specs.declared.Side.{Side}
@@ -168,7 +168,7 @@ module _ (f : Form) (i : Input) (s t : Buffers) (us ur ui : List ℕ) (uv : ℕ)
   leaves-refused = leaves-by f i s t a (found-pattern f i _ us ur ui uv a found .answer)
 
   -- or the arithmetic came to its end
-  pub leaves-came : (k : Counts) (r : Answer) → a ≡ Done k → Concluded f i k r (t .lower .values) (t .upper .values) (t .d) (s .x) (t .x) → KeptBy f i s t → Leaves f i s r t
+  leaves-came : (k : Counts) (r : Answer) → a ≡ Done k → Concluded f i k r (t .lower .values) (t .upper .values) (t .d) (s .x) (t .x) → KeptBy f i s t → Leaves f i s r t
   unfolding solvePlaced
   leaves-came k r e g h =
       let p = found-done _ (counts i) k a (found-pattern f i _ us ur ui uv a found .answer) e in
@@ -190,7 +190,7 @@ both-due f i z y ls lr li us ur ui m lv uv d w x a k found done h em ed ew ex g 
     let p = both-placed f i z ls lr li us ur ui (length lv) (length uv) a k found done in
     factor-due f i y (lists ls li us ur ui) (written lv uv d w m) x k h em ed ew ex (g (p .1)) (p .2) (p .0)
 
-pub both-kept : (f : Form) (i : Input) (z : Sizes) (s t : Buffers) (lr ur : List ℕ) (lv uv : ℕ) (a : Answer) (k : Counts)
+both-kept : (f : Form) (i : Input) (z : Sizes) (s t : Buffers) (lr ur : List ℕ) (lv uv : ℕ) (a : Answer) (k : Counts)
     → FoundBoth f (pattern i) z (t .lower .starts) lr (t .lower .index) lv (t .upper .starts) ur (t .upper .index) uv a → a ≡ Done k
     → Long (s .lower) (t .lower) → Long (s .upper) (t .upper) → length (t .work) ≡ length (s .work) → length (t .marks) ≡ length (s .marks)
     → (RunsAre f Lower (stored i) (i .n) (t .lower .starts) lr → t .lower .runs ≡ runsKept f (length (s .lower .runs)) (placedTo f Lower (stored i) (i .n) (i .n)))
@@ -205,6 +205,40 @@ both-kept f i z s t lr ur lv uv a k found done kl ku kw km rl ru =
       work = kw;
       marks = km;
     }
+
+kept-by : (f : Form) (i : Input) (s t : Buffers) → Kept f i s t → KeptBy f i s t
+kept-by Plain i s t h = h
+kept-by Shared i s t h = h
+kept-by ByRow i s t h = tt
+
+-- all of it, over plain lists
+pub both-leaves : (f : Form) (i : Input) (ls₀ lr₀ li₀ us₀ ur₀ ui₀ m₀ ls lr li us ur ui m rl ru : List ℕ) (lv₀ uv₀ d₀ x₀ w₀ lv uv d x w : List Float) (a r : Answer) (k : Counts)
+    → FoundBoth f (pattern i) (slotsOf (length li₀) (length lv₀) (length ui₀) (length uv₀)) ls rl li (length lv₀) us ru ui (length uv₀) a → a ≡ Done k → Concluded f i k r lv uv d x₀ x
+    → length ls ≡ length ls₀ → length lr ≡ length lr₀ → length li ≡ length li₀ → length lv ≡ length lv₀ → length us ≡ length us₀ → length ur ≡ length ur₀ → length ui ≡ length ui₀ → length uv ≡ length uv₀
+    → length w ≡ length w₀ → length m ≡ length m₀
+    → (RunsAre f Lower (stored i) (i .n) ls rl → lr ≡ runsKept f (length lr₀) (placedTo f Lower (stored i) (i .n) (i .n)))
+    → (RunsAre f Upper (stored i) (i .n) us ru → ur ≡ runsKept f (length ur₀) (placedTo f Upper (stored i) (i .n) (i .n)))
+    → Leaves f i (allBuffers (sideBuffers ls₀ lr₀ li₀ lv₀) (sideBuffers us₀ ur₀ ui₀ uv₀) d₀ x₀ w₀ m₀) r (allBuffers (sideBuffers ls lr li lv) (sideBuffers us ur ui uv) d x w m)
+both-leaves f i ls₀ lr₀ li₀ us₀ ur₀ ui₀ m₀ ls lr li us ur ui m rl ru lv₀ uv₀ d₀ x₀ w₀ lv uv d x w a r k found done g a₁ a₂ a₃ a₄ b₁ b₂ b₃ b₄ kw km hl hu =
+    let s = allBuffers (sideBuffers ls₀ lr₀ li₀ lv₀) (sideBuffers us₀ ur₀ ui₀ uv₀) d₀ x₀ w₀ m₀ in
+    let t = allBuffers (sideBuffers ls lr li lv) (sideBuffers us ur ui uv) d x w m in
+    leaves-came f i s t us ru ui (length uv₀) a (found .found) k r done g
+    (kept-by f i s t
+    (both-kept f i _ s t rl ru (length lv₀) (length uv₀) a k found done (record { starts = a₁; runs = a₂; index = a₃; values = a₄ }) (record { starts = b₁; runs = b₂; index = b₃; values = b₄ }) kw km hl hu))
+
+-- the row form, which lends an empty store for L
+pub row-due : (i : Input) (z y : Sizes) (ls li us ur ui m : List ℕ) (lv uv d w : List Float) (x : ℕ) (a : Answer) (k : Counts) → Found ByRow (pattern i) z us ur ui (length uv) a → a ≡ Done k
+    → SolveDue ByRow i y → length m ≡ y .marks → length d ≡ y .d → length w ≡ y .work → x ≡ y .x → lv ≡ [] → FactorDue ByRow i (lists ls li us ur ui) (written lv uv d w m) x k
+row-due i z y ls li us ur ui m lv uv d w x a k found done h em ed ew ex el =
+    let g = found-pattern ByRow i z us ur ui (length uv) a found in
+    let p = found-done _ (counts i) k a (g .answer) done in
+    factor-due ByRow i y (lists ls li us ur ui) (written lv uv d w m) x k h em ed ew ex el (g .upper (p .0)) (p .1)
+
+pub row-leaves : (i : Input) (us₀ ur₀ ui₀ m₀ us ur ui m : List ℕ) (uv₀ d₀ x₀ w₀ lv uv d x w : List Float) (a r : Answer) (k : Counts) → Found ByRow (pattern i) (slotsOf 0 0 (length ui₀) (length uv₀)) us ur ui (length uv₀) a → a ≡ Done k
+    → Concluded ByRow i k r lv uv d x₀ x → length lv ≡ 0 → Leaves ByRow i (allBuffers noSide (sideBuffers us₀ ur₀ ui₀ uv₀) d₀ x₀ w₀ m₀) r (allBuffers noSide (sideBuffers us ur ui uv) d x w m)
+row-leaves i us₀ ur₀ ui₀ m₀ us ur ui m uv₀ d₀ x₀ w₀ [] uv d x w a r k found done g e =
+    leaves-came ByRow i (allBuffers noSide (sideBuffers us₀ ur₀ ui₀ uv₀) d₀ x₀ w₀ m₀) (allBuffers noSide (sideBuffers us ur ui uv) d x w m) us ur ui (length uv₀) a found k r done g tt
+row-leaves i us₀ ur₀ ui₀ m₀ us ur ui m uv₀ d₀ x₀ w₀ (y ∷ lv) uv d x w a r k found done g e = absurd (omega arith)
 
 -- ---- the solve
 
@@ -239,6 +273,11 @@ pub record ListsIf (b : Bool) (s t : SideBuffers) : Type 0 where
   pub runs : t .runs ≡ blankIf b 0 (s .runs)
   pub index : t .index ≡ blankIf b 0 (s .index)
   pub values : t .values ≡ blank nought (s .values)
+
+-- a value store without values is zero
+nothing-stored : (v : List Float) → blank nought v ≡ padded nought (length v) []
+unfolding blank padded
+nothing-stored v = rw sub-zero
 
 lists-zero : (s t u : SideBuffers) → Long s t → ListsIf true t u → u ≡ sideCleared (sideSizes s)
 lists-zero s t u l h = side-zero s t u l (record { starts = h .starts; runs = h .runs; index = h .index; values = h .values })

@@ -24,7 +24,7 @@ use Rattle.outcome.specs.Placed.{PlacedSide}
 use Rattle.questions.specs.Lent.{Lent}
 use Rattle.questions.specs.Settled.{Structured}
 use Rattle.questions.specs.SettledLaws.{settled}
-use Rattle.symbolic.specs.Pass.{slotsOf, MatrixLent, PlainLent, SharedLent}
+use Rattle.symbolic.specs.Pass.{slotsOf, MatrixLent, PlainLent, SharedLent, RowLent}
 use Rattle.factor.specs.Factoring.{Lists, Written, Starts, LowerPlaced}
 use Rattle.base.specs.declared.Counts.{Counts}
 use Rattle.base.specs.declared.Refusal.the-variants.{Rows, Lengths}
@@ -148,6 +148,12 @@ pub shared-lent : (i : Input) (ls lr li us ur ui : List ℕ) (lv uv d x w m : �
 shared-lent i ls lr li us ur ui lv uv d x w m h g = record {
   matrix = matrix-lent Shared i _ h g;
   lower = record { starts-size = h .lower .starts; runs-size = h .lower .runs; slots-fit = h .lower .index; values-fit = h .lower .values };
+  upper = record { starts-size = h .upper .starts; runs-size = h .upper .runs; slots-fit = h .upper .index; values-fit = h .upper .values };
+}
+
+pub row-lent : (i : Input) (us ur ui : List ℕ) (l : SideSizes) (uv d x w m : ℕ) → StructureShaped ByRow i (sizesOf l (sideOf (length us) (length ur) (length ui) uv) d x w m) → Structured i → RowLent i us ur ui uv m
+row-lent i us ur ui l uv d x w m h g = record {
+  matrix = matrix-lent ByRow i _ h g;
   upper = record { starts-size = h .upper .starts; runs-size = h .upper .runs; slots-fit = h .upper .index; values-fit = h .upper .values };
 }
 

@@ -3,7 +3,7 @@ use Rattle.base.specs.declared.Form.the-variants.{Plain}
 use Rattle.questions.specs.SettledLaws.{settled}
 use Rattle.stages.specs.ShapedLaws.{plain-lent, pattern-structured}
 use Rattle.stages.specs.Branches.{done-with}
-use Rattle.stages.specs.Ends.{leaves-refused, leaves-came, both-due, both-kept}
+use Rattle.stages.specs.Ends.{leaves-refused, both-due, both-leaves}
 use borrow.Author.Needs.{needs}
 use Rattle.plain_form.proofs.analyze_and_solve.Statement.{statement}
 use Rattle.plain_form.proofs.analyze_and_solve.Tie as tie
@@ -44,11 +44,10 @@ returns-2 c =
     let p = Earlier k .find-plain in
     let q = Solved c .factor-and-solve in
     let e = done-with _ _ _ (b .before .refuses .ensures) (b .if1 .left) (k .counts .ensures) in
-    leaves-came Plain _ _ _ _ _ _ _ _ (p .ensures .found) _ _ e (q .ensures)
-    (both-kept Plain _ _ _ _ _ _ _ _ _ _ (p .ensures) e
-    (record { starts = p .kept .1 .1 .1 .1 .1 .0; runs = refl; index = p .kept .1 .1 .1 .1 .1 .1 .0; values = q .kept .1 .1 .1 .1 .1 .1 .1 .1 .1 .1 .0 })
-    (record { starts = p .kept .1 .1 .1 .1 .1 .1 .1 .1 .0; runs = refl; index = p .kept .1 .1 .1 .1 .1 .1 .1 .1 .1 .0; values = q .kept .1 .1 .1 .1 .1 .1 .1 .1 .1 .1 .1 .1 .1 .1 .0 })
-    (q .kept .1 .1 .1 .1 .1 .1 .1 .1 .1 .1 .1 .1 .1 .1 .1 .1 .1 .0) (q .kept .1 .1 .1 .1 .1 .1 .1 .1 .1 .1 .1 .1 .1 .1 .1 .1 .1 .1 .0 ∙ p .kept .1 .1 .1 .1 .1 .1 .1 .1 .1 .1 .1 .0) (λ h. refl) (λ h. refl))
+    both-leaves Plain _ _ _ _ _ _ _ _ _ _ _ _ _ _ _ _ _ _ _ _ _ _ _ _ _ _ _ _ _ _ (p .ensures) e (q .ensures)
+    (p .kept .1 .1 .1 .1 .1 .0) refl (p .kept .1 .1 .1 .1 .1 .1 .0) (q .kept .1 .1 .1 .1 .1 .1 .1 .1 .1 .1 .0)
+    (p .kept .1 .1 .1 .1 .1 .1 .1 .1 .0) refl (p .kept .1 .1 .1 .1 .1 .1 .1 .1 .1 .0) (q .kept .1 .1 .1 .1 .1 .1 .1 .1 .1 .1 .1 .1 .1 .1 .0)
+    (q .kept .1 .1 .1 .1 .1 .1 .1 .1 .1 .1 .1 .1 .1 .1 .1 .1 .1 .0) (q .kept .1 .1 .1 .1 .1 .1 .1 .1 .1 .1 .1 .1 .1 .1 .1 .1 .1 .1 .0 ∙ p .kept .1 .1 .1 .1 .1 .1 .1 .1 .1 .1 .1 .0) (λ h. refl) (λ h. refl)
 
 pub analyze-and-solve-spec : {M : Type 1} → statement M
 analyze-and-solve-spec =
