@@ -1,7 +1,7 @@
 -- The lists are those of M': a row of places is a row of `stored`, a column of rows is one of its columns.
 use mathlib.Core.Path.{_≡_, refl, sym, ap, ap₂, _∙_}
 use mathlib.Core.Bool.{Bool, true, false, _&&_, _||_, or-false}
-use mathlib.Core.List.{List, [], _∷_}
+use mathlib.Core.List.{List, [], _∷_, map}
 use Prim.Native.Nat.{ℕ, zero, suc, _+_, _-_, _*_, _<_, _≤_, _/_}
 use native.Mathlib.Omega.{arith}
 use native.Mathlib.Decide.{ℕ-discrete, decLt}
@@ -13,7 +13,7 @@ use Rattle.base.specs.Lists.{has, rowOf, listAt, bit}
 use Rattle.base.specs.declared.Side.{Side}
 use Rattle.base.specs.declared.Side.the-variants.{Lower, Upper}
 use Rattle.matrix.specs.Input.{Input, ic, stored}
-use Rattle.matrix.specs.OrderLaws.{order-below, place-of, place-hits}
+use Rattle.matrix.specs.OrderLaws.{order-below, place-hits}
 use Rattle.marks.specs.Marks.{Room, Below, markAt, stamped, Blocks, Fresh}
 use Rattle.columns.specs.Columns.{orderOf, Given, placed, rowsOf, consIf, hits, bare, column}
 use Rattle.columns.specs.Sides.{sidePattern, sideRow, SideLoaded, Distinct, Inverse, Sound, rowsIn}
@@ -94,15 +94,10 @@ part-below n a s j h t l =
     let c = rw (length-take, length-drop) at b in
     rw (getD-take (getD s (a + 1) 0 - getD s a 0) (drop (getD s a 0) j) t 0 (omega arith), getD-drop) (h (getD s a 0 + t) (omega arith))
 
-has-placed : (order xs : List ℕ) (c p : ℕ) → getD order c 0 ≡ p → ((t : ℕ) → t < length xs → getD order (getD xs t 0) 0 ≡ p → getD xs t 0 ≡ c)
-    → has (placed order xs) p ≡ has xs c
-unfolding has placed
-has-placed order [] c p e h = refl
-has-placed order (x ∷ xs) c p e h = ap₂ (λ a b. a || b) (at (ℕ-discrete x c)) (has-placed order xs c p e (λ t k. h (suc t) (omega arith)))
-  where
-    at : Dec (x ≡ c) → eqb (getD order x 0) p ≡ eqb x c
-    at (yes u) = eq-eqb (getD order x 0) p (ap (λ v. getD order v 0) u ∙ e) ∙ sym (eq-eqb x c u)
-    at (no u) = ne-eqb (getD order x 0) p (λ v. u (h zero (omega arith) v)) ∙ sym (ne-eqb x c u)
+placed-is : (order xs : List ℕ) (n : ℕ) (f : ℕ → ℕ) → ((j : ℕ) → j < n → getD order j 0 ≡ f j) → Below n xs → placed order xs ≡ map f xs
+unfolding placed
+placed-is order [] n f e b = refl
+placed-is order (x ∷ xs) n f e b = rw (e x (b 0 (omega arith)), placed-is order xs n f e (λ p h. b (suc p) (omega arith)))
 
 module _ (i : Input) (s : List ℕ) (sound : Sound i) (inverse : Inverse i s) where
   back : (c p : ℕ) → c < i .n → getD (orderOf (i .n) s) c 0 ≡ p → c ≡ getD (i .c) p 0
@@ -112,13 +107,9 @@ module _ (i : Input) (s : List ℕ) (sound : Sound i) (inverse : Inverse i s) wh
   row-under k = part-below (i .n) (getD (i .r) k 0) (i .starts) (i .columns) (sound .columns-below)
 
   -- row k of M'
-  pub row-stored : (k p : ℕ) → p < i .n → has (rowsIn i s k) p ≡ stored i k p
+  row-stored : (k p : ℕ) → has (rowsIn i s k) p ≡ stored i k p
   unfolding stored rowsOf
-  row-stored k p h =
-      let c = getD (i .c) p 0 in
-      has-placed (orderOf (i .n) s) (rowOf (i .starts) (i .columns) (getD (i .r) k 0)) c p
-      (inverse .place c (order-below (i .c) (i .n) (sound .column-order) p h) ∙ place-of (i .c) (i .n) (sound .column-order) p h)
-      (λ t b e. back (getD (rowOf (i .starts) (i .columns) (getD (i .r) k 0)) t 0) p (row-under k t b) e)
+  row-stored k p = ap (λ l. has l p) (placed-is (orderOf (i .n) s) (rowOf (i .starts) (i .columns) (getD (i .r) k 0)) (i .n) (ic (i .c) (i .n)) (inverse .place) (row-under k))
 
   row-distinct : (k : ℕ) → k < i .n → Distinct (rowsIn i s k)
   unfolding rowsOf
@@ -150,8 +141,8 @@ module _ (i : Input) (s : List ℕ) (sound : Sound i) (inverse : Inverse i s) wh
   -- what a side loads is row k of the side's pattern
   pub side-stored : (side : Side) (k j : ℕ) → k < i .n → j < i .n
       → has (sideRow side (rowsIn i s) (i .n) k) j ≡ sidePattern side (stored i) k j
-  side-stored Upper k j h g = row-stored k j g
-  side-stored Lower k j h g = has-column (rowsIn i s) (i .n) k j ∙ rw (lt-ltb j (i .n) g) (row-stored j k h)
+  side-stored Upper k j h g = row-stored k j
+  side-stored Lower k j h g = has-column (rowsIn i s) (i .n) k j ∙ rw (lt-ltb j (i .n) g) (row-stored j k)
 
 -- ---- the marks as a set
 

@@ -12,7 +12,7 @@ use Rattle.fill.specs.Fill.{Pattern, filled}
 use Rattle.matrix.specs.Input.{Input, ic, stored}
 use Rattle.matrix.specs.OrderLaws.{order-below, place-hits}
 use Rattle.questions.specs.Settled.{Under, columnsAt}
-use Rattle.questions.specs.SettledLaws.{row-under, stored-is}
+use Rattle.questions.specs.SettledLaws.{row-under}
 use Rattle.outcome.specs.Placed.{PlacedSide, starts-long, size-at, run-at, run-inside, list-at}
 use Rattle.marks.specs.Marks.{Below, Holds, Base, Parts, Blocks, members, through}
 use Rattle.marks.specs.MarkLaws.{holds-same}
@@ -138,7 +138,7 @@ module _ {f : Form} {i : Input} {L : Lists} {k : ℕ} {w : Written} (G : Going f
         };
         columns-below = columns-in;
         inverse = λ j l. rw (G .inverse j l) (place-hits (i .c) (i .n) (g .column-order) j l .0);
-        entries = λ j l. ap (λ (x : List ℕ). has x j) (through-is (ic (i .c) (i .n)) (i .n) (w .marks) (columnsAt i k) (G .inverse) columns-in) ∙ sym (stored-is i g k j l);
+        entries = λ j l. ap (λ (x : List ℕ). has x j) (through-is (ic (i .c) (i .n)) (i .n) (w .marks) (columnsAt i k) (G .inverse) columns-in);
         held = H;
         store = placed-stored f (stored i) (i .n) k (L .upper-starts) (L .upper-runs) (L .upper-index) (length (w .upper)) h (G .given .upper-side);
       }

@@ -48,14 +48,17 @@ indexOf Nothing = 0
 unfoldable pub ic : List ℕ → ℕ → ℕ → ℕ
 ic o n j = indexOf (first (isOf o j) n)
 
--- "M' is M with entry (k, ic(j)) where M has (r(k), j)": M' has (k, p) where M has (r(k), c(p))
+-- "M' is M with entry (k, ic(j)) where M has (r(k), j)": the places of row k's entries, in stored order
+abbrev pub places : Input → ℕ → List ℕ
+places i k = map (ic (i .c) (i .n)) (rowOf (i .starts) (i .columns) (getD (i .r) k 0))
+
+-- M' has (k, p)
 unfoldable pub stored : Input → Pattern
-stored i k p = has (rowOf (i .starts) (i .columns) (getD (i .r) k 0)) (getD (i .c) p 0)
+stored i k p = has (places i k) p
 
 -- row k of M' in stored order: place and value of each entry
 unfoldable pub entries : Input → ℕ → List (ℕ × Float)
-entries i k =
-    pairs (map (ic (i .c) (i .n)) (rowOf (i .starts) (i .columns) (getD (i .r) k 0))) (rowOf (i .starts) (i .values) (getD (i .r) k 0))
+entries i k = pairs (places i k) (rowOf (i .starts) (i .values) (getD (i .r) k 0))
 
 -- b(r(k))
 unfoldable pub rightAt : Input → ℕ → Float
