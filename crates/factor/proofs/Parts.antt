@@ -8,8 +8,7 @@ use native.Mathlib.Omega.{arith}
 use lib.ListN.{length, getD, take, drop, set, drop-of-length-le, length-drop}
 use lib.Seq.{sets, drop-cons, length-take-le}
 use lib.Ieee.{Float}
-use Rattle.base.specs.Lists.{listAt, rowOf}
-use Rattle.marks.specs.Marks.{ListIn}
+use Rattle.lent.specs.Reading.{ListIn}
 use Rattle.numeric.specs.Stores.{Below}
 use Rattle.factor.specs.Factoring.{OwnRow, lowerIn, LowerAt, Keepable}
 use Rattle.base.specs.Scratch.{listFrom}
@@ -26,17 +25,8 @@ module _ (l s : List ℕ) (at p : ℕ) where
 
 -- ---- own row r(k)
 
-module _ (starts r : List ℕ) (k i : ℕ) (e : i ≡ getD r k 0) where
-  pub own-list : (columns : List ℕ) → OwnRow starts r (length columns) k → ListIn columns starts starts i
-  own-list columns h = rw e (record { has-run = omega (arith, h .starts-at); has-start = h .starts-at; rise = h .row .up; inside = omega (arith, h .row .up, h .row .within) })
-
-  pub own-bounds : (entries from to : ℕ) → from ≡ getD starts i 0 → to ≡ getD starts (i + 1) 0 → OwnRow starts r entries k → (from ≤ to) × (to ≤ entries)
-  own-bounds entries from to ef et h = rw (ef, et, e) (h .row .up, h .row .within)
-
-  pub own-part : {A : Type 0} (store : List A) (from to : ℕ) → from ≡ getD starts i 0 → to ≡ getD starts (i + 1) 0
-      → take (to - from) (drop from store) ≡ rowOf starts store (getD r k 0)
-  unfolding listAt
-  own-part store from to ef et = rw (ef, et, e)
+pub own-list : {starts r : List ℕ} {entries k : ℕ} → OwnRow starts r entries k → ListIn starts starts entries (getD r k 0)
+own-list h = record { has-run = omega (arith, h .starts-at); has-start = h .starts-at; rise = h .row .up; inside = omega (arith, h .row .up, h .row .within) }
 
 -- ---- a part by its length
 

@@ -19,6 +19,7 @@ use Rattle.outcome.specs.Placed.{PlacedSide}
 use Rattle.outcome.specs.Solve.{system, listed, valuesKept, pivotsKept}
 use Rattle.questions.specs.Lent.{SolveLent}
 use Rattle.questions.specs.Settled.{RowIn, Settled}
+use Rattle.lent.specs.Reading as reading
 use Rattle.marks.specs.Marks as marking
 use Rattle.marks.specs.Rows as found
 use Rattle.numeric.specs.Stores.{Below, Ascending, Shape, gathered, columns, keepColumns}
@@ -151,10 +152,10 @@ pub record Findable (P : Pattern) (n k : ℕ) (starts columns r index runs ustar
   pub place : k < n
   pub room : marking.Room n s
   pub own-place : k < length r
-  pub row : marking.ListIn columns starts starts (getD r k 0)
+  pub row : reading.ListIn starts starts (length columns) (getD r k 0)
   pub columns-below : Below n (rowOf starts columns (getD r k 0))
-  pub inverse : (j : ℕ) → j < n → getD s (n + j) 0 < n
-  pub entries : (j : ℕ) → j < n → has (marking.through s n (rowOf starts columns (getD r k 0))) j ≡ P k j
+  pub inverse : marking.Order n s
+  pub entries : (j : ℕ) → j < n → has (reading.placed (reading.orderOf n s) (rowOf starts columns (getD r k 0))) j ≡ P k j
   pub held : found.Held P n k (k + 1) (3 * n) s index runs ustarts
   pub store : found.Stored P n (k + 1) index runs ustarts
 
@@ -174,7 +175,7 @@ readsLower ByRow = false
 
 unfoldable pub LowerAsked : Bool → ℕ → ℕ → List ℕ → List ℕ → List ℕ → List ℕ → Lists → List ℕ → Type 0
 LowerAsked true n k starts columns r c L s =
-    marking.ListIn (L .lower-index) (L .lower-starts) (L .lower-starts) k × LowerAt n (length (rowOf (L .lower-starts) (L .lower-index) k)) (length s)
+    reading.ListIn (L .lower-starts) (L .lower-starts) (length (L .lower-index)) k × LowerAt n (length (rowOf (L .lower-starts) (L .lower-index) k)) (length s)
 LowerAsked false n k starts columns r c L s = Findable (patternOf n starts columns r c) n k starts columns r (L .upper-index) (L .upper-runs) (L .upper-starts) s
 
 unfoldable pub LowerGiven : Bool → ℕ → ℕ → ℕ → List ℕ → List ℕ → List ℕ → List ℕ → Lists → List ℕ → List ℕ → Type 0
@@ -232,7 +233,7 @@ LowerKept ByRow n k below starts w l₀ l s₀ s = l ≡ l₀
 
 pub record KeepGiven (f : Form) (n k below : ℕ) (starts : List ℕ) (w l₀ l : List Float) (s₀ s : List ℕ) : Type 0 where
   pub values : LowerKept f n k below starts w l₀ l s₀ s
-  pub same : found.But (cursorsFrom n) (listFrom n) s₀ s
+  pub same : reading.But (cursorsFrom n) (listFrom n) s₀ s
 
 -- ---- the back steps
 

@@ -17,7 +17,7 @@ ghost use lib.Seq.{sets};
 ghost use lib.Ieee.{nan};
 ghost use Rattle.base.specs.Lists.{nought, blank, listAt, rowOf};
 ghost use Rattle.questions.specs.Lent.{InverseLent, invertedAt};
-ghost use Rattle.marks.specs.Marks.{ListIn};
+ghost use Rattle.lent.specs.Reading.{ListIn};
 ghost use Rattle.base.specs.declared.Form.the-variants.{Plain, Shared, ByRow};
 ghost use Rattle.matrix.specs.Input.{inputOf};
 ghost use Rattle.arithmetic.specs.Arith.{Row, back};
@@ -68,29 +68,24 @@ fn own_columns<'a>(columns: &'a [Index], starts: &[u32], r: &[Index], k: Place) 
     requires { ⌜ OwnRow (now starts) (now r) (length (now columns)) (k .0) ⌝ }
     ensures { λ p. ⌜ now p ≡ rowOf (now (starts .entry)) (now (columns .entry)) (getD (now (r .entry)) (k .0) 0) ⌝ }
 {
-    let row = marks::own_row(r, k);
-    let i = row.0 as usize;
-    marks::list_part(columns, starts, starts, i)
+    let i = lent::own_row(r, k);
+    lent::row_columns(starts, columns, i)
 }
 
 fn own_values<'a>(values: &'a [f64], starts: &[u32], r: &[Index], k: Place) -> &'a [f64]
     requires { ⌜ OwnRow (now starts) (now r) (length (now values)) (k .0) ⌝ }
     ensures { λ p. ⌜ now p ≡ rowOf (now (starts .entry)) (now (values .entry)) (getD (now (r .entry)) (k .0) 0) ⌝ }
 {
-    let row = marks::own_row(r, k);
-    let i = row.0 as usize;
-    let from = marks::wide32(starts[i]);
-    let to = marks::wide32(starts[i + 1]);
-    &values[from..to]
+    let i = lent::own_row(r, k);
+    lent::row_values(starts, values, i)
 }
 
 fn own_right(b: &[f64], r: &[Index], k: Place) -> f64
     requires { ⌜ (k .0 < length (now r)) × (getD (now r) (k .0) 0 < length (now b)) ⌝ }
     ensures { λ s. ⌜ s ≡ getD (now (b .entry)) (getD (now (r .entry)) (k .0) 0) nan ⌝ }
 {
-    let row = marks::own_row(r, k);
-    let i = row.0 as usize;
-    b[i]
+    let i = lent::own_row(r, k);
+    lent::row_right(b, i)
 }
 
 fn inverse_part(marks: &[u32], n: usize) -> &[u32]
@@ -204,12 +199,12 @@ fn solve_back(
 
 // Lower row k from its store into the marks, and its length.
 fn lower_plain(n: usize, k: Place, lstarts: &[u32], lindex: &[Index], marks: &mut [u32]) -> usize
-    requires { ⌜ ListIn (now lindex) (now lstarts) (now lstarts) (k .0) × LowerAt n (length (rowOf (now lstarts) (now lindex) (k .0))) (length (now marks)) ⌝ }
+    requires { ⌜ ListIn (now lstarts) (now lstarts) (length (now lindex)) (k .0) × LowerAt n (length (rowOf (now lstarts) (now lindex) (k .0))) (length (now marks)) ⌝ }
     ensures { λ below. ⌜ (below ≡ length (rowOf (now (lstarts .entry)) (now (lindex .entry)) (k .0)))
         × (now (marks .exit) ≡ sets (now (marks .entry)) (listFrom n) (rowOf (now (lstarts .entry)) (now (lindex .entry)) (k .0))) ⌝ }
 {
     let place = k.0 as usize;
-    let list = marks::list_part(lindex, lstarts, lstarts, place);
+    let list = lent::list_at(lstarts, lstarts, lindex, place);
     copy_list(list, marks, scratch::LIST * n);
     list.len()
 }
@@ -233,9 +228,9 @@ fn find_lower(
 {
     let stamp = k.0 + 1;
     let cuts = scratch::UPPER_CUTS * n;
-    marks::load_row_place(marks, n, stamp, k, columns, starts, r);
-    let below = marks::close_place(marks, n, stamp, k, cuts, uindex, uruns);
-    marks::renew_cuts(marks, n, stamp, k, below, cuts, uindex, uruns, ustarts);
+    marks::load_row_place(marks, n, stamp, k, starts, columns, r);
+    let below = marks::close_place(marks, n, stamp, k, cuts, uruns, uindex);
+    marks::renew_cuts(marks, n, k, below, cuts, ustarts, uruns, uindex);
     below
 }
 
@@ -293,7 +288,7 @@ fn keep_plain(
 {
     let place = k.0 as usize;
     let lower = lower_part(marks, n, below);
-    let from = marks::wide32(lstarts[place]);
+    let from = base::slot(lstarts[place]);
     numeric::keep_by_rows(&work[..n], lower, lvalues, from);
 }
 
@@ -313,10 +308,10 @@ fn keep_shared(
     let lower = scratch::LIST * n;
     let mut p = 0;
     while p < below {
-        let i = marks::wide32(marks[lower + p]);
+        let i = base::slot(marks[lower + p]);
         let used = marks[cursors + i];
-        let start = marks::wide32(lstarts[i]);
-        lvalues[start + marks::wide32(used)] = w[i];
+        let start = base::slot(lstarts[i]);
+        lvalues[start + base::slot(used)] = w[i];
         marks[cursors + i] = used + 1;
         p += 1;
     }

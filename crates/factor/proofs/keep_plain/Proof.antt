@@ -14,7 +14,7 @@ use Rattle.factor.proofs.keep_plain.Tie as tie
 use Rattle.factor.proofs.keep_plain.Reads as reads
 use Rattle.factor.proofs.keep_plain.Lts as lts
 use Rattle.factor.proofs.lower_part.Reads as lower-part-reads
-use Rattle.marks.proofs.wide32.Reads as wide32-reads
+use Rattle.base.proofs.slot.Reads as slot-reads
 use Rattle.numeric.proofs.keep_by_rows.Reads as keep-by-rows-reads
 
 cast-place : tie.Need-cast-place
@@ -23,14 +23,14 @@ cast-place c = search needs
 lower-part-requires : tie.Need-lower-part-requires
 lower-part-requires c κs = search needs
 
-mul-wide32 : tie.Need-mul-wide32
-mul-wide32 c = search needs
+mul-slot : tie.Need-mul-slot
+mul-slot c = search needs
 
-shared-slice-read-wide32 : tie.Need-shared-slice-read-wide32
-shared-slice-read-wide32 c = search needs
+shared-slice-read-slot : tie.Need-shared-slice-read-slot
+shared-slice-read-slot c = search needs
 
-wide32-requires : tie.Need-wide32-requires
-wide32-requires c κs = search needs
+slot-requires : tie.Need-slot-requires
+slot-requires c κs = search needs
 
 slice-aggregate-keep-by-rows : tie.Need-slice-aggregate-keep-by-rows
 slice-aggregate-keep-by-rows c =
@@ -41,8 +41,8 @@ keep-by-rows-requires : tie.Need-keep-by-rows-requires
 keep-by-rows-requires c κs =
     let s = c .before .before .before .before .before .before .before .before .before .before in
     let a = s .args in
-    keep-ready (a .n) (a .k .0) (a .below) (now (a .lstarts)) (length (now (a .lvalues))) (now (a .work)) (now (a .marks)) (c .before .before .wide32 .result) (now (c .before .before .before .before .lower-part .result))
-    (c .before .before .wide32 .ensures .0) (c .before .before .before .before .lower-part .ensures) (s .pre .0) (s .pre .1)
+    keep-ready (a .n) (a .k .0) (a .below) (now (a .lstarts)) (length (now (a .lvalues))) (now (a .work)) (now (a .marks)) (c .before .before .slot .result) (now (c .before .before .before .before .lower-part .result))
+    (c .before .before .slot .ensures .0) (c .before .before .before .before .lower-part .ensures) (s .pre .0) (s .pre .1)
 
 same-length : tie.Need-same-length
 same-length c = search needs
@@ -52,7 +52,7 @@ returns c =
     let s = c .before .before .before .before .before .before .before .before .before .before .before .before .before in
     let a = s .args in
     c .before .before .keep-by-rows .ensures
-    ∙ ap₂ (λ (m : ℕ) (l : List ℕ). sets (now (a .lvalues)) m (gathered l (take (a .n) (now (a .work))))) (c .before .before .before .before .before .wide32 .ensures .0) (c .before .before .before .before .before .before .before .lower-part .ensures)
+    ∙ ap₂ (λ (m : ℕ) (l : List ℕ). sets (now (a .lvalues)) m (gathered l (take (a .n) (now (a .work))))) (c .before .before .before .before .before .slot .ensures .0) (c .before .before .before .before .before .before .before .lower-part .ensures)
 
 pub keep-plain-spec : {M : Type 1} → statement M
 keep-plain-spec =
@@ -60,9 +60,9 @@ keep-plain-spec =
     (tie.spec
     cast-place
     lower-part-requires
-    mul-wide32
-    shared-slice-read-wide32
-    wide32-requires
+    mul-slot
+    shared-slice-read-slot
+    slot-requires
     slice-aggregate-keep-by-rows
     keep-by-rows-requires
     same-length

@@ -1,32 +1,18 @@
 use lib.Ieee.{nan}
 use lib.ListN.{getD}
-use Prim.Native.Nat.{ℕ}
-use mathlib.Core.Path.{ap}
-use denote.Ref.{now}
+use mathlib.Core.Path.{_∙_, ap}
+use native.Mathlib.Omega.{arith}
 use borrow.Author.Needs.{needs}
 use Rattle.factor.proofs.own_right.Statement.{statement}
 use Rattle.factor.proofs.own_right.Tie as tie
-use Rattle.factor.proofs.own_right.Reads as reads
-use Rattle.factor.proofs.own_right.Lts as lts
-use Rattle.marks.proofs.own_row.Reads as own-row-reads
 
-own-row-requires : tie.Need-own-row-requires
-own-row-requires c κs = search needs
-
-cast-i : tie.Need-cast-i
-cast-i c = search needs
-
-mul-result : tie.Need-mul-result
-mul-result c = search needs
-
-shared-slice-read-result : tie.Need-shared-slice-read-result
-shared-slice-read-result c = search needs
+row-right-requires : tie.Need-row-right-requires
+row-right-requires c κs = omega (arith, ap (λ i. i .0) (c .own-row .ensures), c .before .before .before .pre .1)
 
 returns : tie.Need-returns
 returns c =
-    let s = c .before .before .before .before .before in
-    ap (λ (i : ℕ). getD (now (s .args .b)) i nan) (c .before .before .own-row .ensures)
+    let s = c .before .before .before .before in
+    c .row-right .ensures ∙ ap (λ i. getD (s .args .b .now) (i .0) nan) (c .before .own-row .ensures)
 
 pub own-right-spec : {M : Type 1} → statement M
-own-right-spec =
-    tie.close (tie.spec own-row-requires cast-i mul-result shared-slice-read-result returns)
+own-right-spec = tie.close (tie.spec (λ c κs. search needs) row-right-requires returns)
