@@ -1,7 +1,7 @@
 -- Laws of the linked lists: frames, the pushing of a node, the stamping of a list.
 use mathlib.Core.Path.{_≡_, refl, sym, ap, _∙_}
 use mathlib.Core.List.{List, [], _∷_}
-use Prim.Native.Nat.{ℕ, suc, _+_, _-_, _*_, _<_, _≤_}
+use Prim.Native.Nat.{ℕ, suc, _+_, _-_, _<_, _≤_}
 use native.Mathlib.Omega.{arith}
 use native.Mathlib.Numerals.{add-one}
 use native.Mathlib.Decide.{ℕ-discrete}
@@ -10,7 +10,8 @@ use lib.Seq.{getD-set-other, getD-set-same}
 use borrow.Author.Tests.{eq-eqb, ne-eqb}
 use Rattle.marks.specs.Marks.{Room, markAt, stamped}
 use Rattle.columns.specs.Columns.{Kept, Steady, hits, Chain, none, node, HasChain, Lists, Listed, Roomy, pushAt, Offered}
-use Rattle.columns.proofs.Keeps.{same, then, stored, unmarked-mark, stamped-cons, stamped-none}
+use Rattle.marks.specs.MarkLaws.{unmarked-mark}
+use Rattle.lent.specs.ReadingLaws.{same, then, stored}
 use Rattle.columns.proofs.ColumnLaws.{hits-there, hits-more, hits-part, grown-start, grown-more, grown-end, held-one, held-ext, held-at-most}
 use Rattle.base.specs.Scratch.{headsFrom, nodesFrom}
 
@@ -169,6 +170,14 @@ pub record Left (n t h : ℕ) (s e : List ℕ) : Type 0 where
   pub rest : List ℕ
   pub chain : Chain n s h rest
   pub same : stamped n t s rest ≡ e
+
+stamped-cons : (n t j : ℕ) (s l : List ℕ) → stamped n t s (j ∷ l) ≡ stamped n t (markAt n t s j) l
+unfolding stamped
+stamped-cons n t j s l = refl
+
+stamped-none : (n t : ℕ) (s : List ℕ) → stamped n t s [] ≡ s
+unfolding stamped
+stamped-none n t s = refl
 
 left-more : (n t h i g : ℕ) (s u e : List ℕ) → 0 < h → h ≤ n → i ≡ getD s (nodesFrom n + (h - 1 + (h - 1))) 0
     → g ≡ getD s (nodesFrom n + (h - 1 + (h - 1)) + 1) 0 → u ≡ markAt n t s i → Left n t h s e → Left n t g u e

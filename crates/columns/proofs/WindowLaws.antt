@@ -1,16 +1,19 @@
 -- Laws of the counts, of opening and filling a window, and of handing out a column.
 use mathlib.Core.Path.{_≡_, refl, sym, ap, _∙_}
 use mathlib.Core.List.{List, [], _∷_}
-use Prim.Native.Nat.{ℕ, zero, suc, _+_, _-_, _*_, _<_, _≤_}
+use Prim.Native.Nat.{ℕ, zero, suc, _+_, _-_, _<_, _≤_}
 use native.Mathlib.Omega.{arith}
 use native.Mathlib.Decide.{ℕ-discrete}
 use lib.ListN.{length, getD, take, set}
 use lib.Seq.{getD-set-other, getD-set-same}
 use Rattle.base.specs.Lists.{sum}
 use Rattle.base.specs.AscLaws.{sum-ext}
-use Rattle.marks.specs.Marks.{Room, Below, stamped}
-use Rattle.columns.specs.Columns.{orderOf, Kept, Steady, rowsOf, hits, bare, column, Counts, Countable, Counted, Tally, Started, Chain, none, HasChain, lengthAt, held, Listed, Roomy, Offered, headAt, Emptied, Filled, Ready, Windowed, Loaded}
-use Rattle.columns.proofs.Keeps.{same, then, stored, order-kept, kept-wider, steady-unmarked, unmarked-stamped, both-stamped}
+use Rattle.marks.specs.MarkLaws.{unmarked-stamped, both-stamped}
+use Rattle.lent.specs.ReadingLaws.{same, then, stored}
+use Rattle.lent.specs.Reading.{Below, orderOf}
+use Rattle.marks.specs.Marks.{Room, stamped}
+use Rattle.columns.specs.Columns.{Kept, Steady, rowsOf, hits, bare, column, Counts, Countable, Counted, Tally, Started, Chain, none, HasChain, lengthAt, held, Listed, Roomy, Offered, headAt, Emptied, Filled, Ready, Windowed, Loaded}
+use Rattle.columns.proofs.Keeps.{order-kept, kept-wider, steady-unmarked}
 use Rattle.columns.proofs.ColumnLaws.{hits-here, hits-there, hits-more, hits-part, grown-start, grown-more, grown-end, column-zero, column-more, column-part, bare-length, below-column, held-at-most}
 use Rattle.columns.proofs.ListLaws.{lists-frame}
 use Rattle.base.specs.Scratch.{headsFrom}
@@ -92,9 +95,9 @@ tally-more n k R e t c = record {
 pub tally-end : (n k : ℕ) (R : ℕ → List ℕ) {s₀ s : List ℕ} → k ≡ n → Tally n (column R k) s₀ s → Tally n (column R n) s₀ s
 tally-end n k R e t = rw e at t
 
-pub started : (n : ℕ) (columns starts r : List ℕ) {s₀ s u : List ℕ} → Tally n bare s₀ s → Tally n (column (rowsOf (orderOf n s) columns starts r) n) s u
-    → Started n (rowsOf (orderOf n s₀) columns starts r) s₀ u
-started n columns starts r a b = rw (← order-kept n 0 n (a .kept)) (record {
+pub started : (n : ℕ) (starts columns r : List ℕ) {s₀ s u : List ℕ} → Tally n bare s₀ s → Tally n (column (rowsOf (orderOf n s) starts columns r) n) s u
+    → Started n (rowsOf (orderOf n s₀) starts columns r) s₀ u
+started n starts columns r a b = rw (← order-kept n 0 n (a .kept)) (record {
   kept = then (a .kept) (b .kept);
   ready = record {
     least = omega arith;

@@ -142,10 +142,10 @@ pub record Findable (P : Pattern) (n k : ℕ) (starts columns r ustarts runs ind
   pub place : k < n
   pub room : marking.Room n s
   pub own-place : k < length r
-  pub row : marking.ListIn columns starts starts (getD r k 0)
+  pub row : reading.ListIn starts starts (length columns) (getD r k 0)
   pub columns-below : Below n (rowOf starts columns (getD r k 0))
-  pub inverse : (j : ℕ) → j < n → getD s (n + j) 0 < n
-  pub entries : (j : ℕ) → j < n → has (marking.through s n (rowOf starts columns (getD r k 0))) j ≡ P k j
+  pub inverse : marking.Order n s
+  pub entries : (j : ℕ) → j < n → has (reading.placed (reading.orderOf n s) (rowOf starts columns (getD r k 0))) j ≡ P k j
   pub held : found.Held P n k (k + 1) (3 * n) s index runs ustarts
   pub store : found.Stored P n (k + 1) index runs ustarts
 
@@ -225,7 +225,7 @@ LowerKept ByRow n k below starts w l₀ l s₀ s = l ≡ l₀
 
 pub record KeepGiven (f : Form) (n k below : ℕ) (starts : List ℕ) (w l₀ l : List Float) (s₀ s : List ℕ) : Type 0 where
   pub values : LowerKept f n k below starts w l₀ l s₀ s
-  pub same : found.But (cursorsFrom n) (listFrom n) s₀ s
+  pub same : reading.But (cursorsFrom n) (listFrom n) s₀ s
 
 -- ---- the back steps
 

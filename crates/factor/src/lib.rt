@@ -158,19 +158,9 @@ fn find_lower(
 {
     let stamp = k.0 + 1;
     let cuts = scratch::UPPER_CUTS * n;
-    marks::load_row_place(marks, n, stamp, k, columns, starts, r);
-    let below = marks::close_place(marks, n, stamp, k, cuts, upper_index, upper_runs);
-    marks::renew_cuts(
-        marks,
-        n,
-        stamp,
-        k,
-        below,
-        cuts,
-        upper_index,
-        upper_runs,
-        upper_starts,
-    );
+    marks::load_row_place(marks, n, stamp, k, starts, columns, r);
+    let below = marks::close_place(marks, n, stamp, k, cuts, upper_runs, upper_index);
+    marks::renew_cuts(marks, n, k, below, cuts, upper_starts, upper_runs, upper_index);
     below
 }
 

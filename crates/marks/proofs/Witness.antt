@@ -2,12 +2,13 @@
 use mathlib.Core.Path.{_≡_, refl}
 use mathlib.Core.List.{List, [], _∷_}
 use mathlib.Core.Bool.{true}
-use Prim.Native.Nat.{ℕ, zero, suc, _*_}
+use Prim.Native.Nat.{ℕ, zero, suc}
 use native.Mathlib.Omega.{arith}
-use lib.ListN.{getD, take, drop}
+use lib.ListN.{getD}
 use Rattle.base.specs.Lists.{listAt, asc}
 use Rattle.fill.specs.Fill.{Pattern, reach, filled, upper, upperRow, lowerRow}
-use Rattle.marks.specs.Marks.{Room, Base, Fresh, chosen, members, ListIn, Parts}
+use Rattle.lent.specs.Reading.{ListIn}
+use Rattle.marks.specs.Marks.{Room, Base, Fresh, chosen, members, Parts, Walk}
 use Rattle.marks.specs.Rows.{CutAt, uncut, Held, Countable}
 use Rattle.marks.specs.FillLaws.{held-parts}
 use Rattle.marks.specs.ListLaws.{held-countable}
@@ -43,7 +44,7 @@ first-list : listAt starts runs index 0 ≡ upperRow full 2 0
 unfolding listAt upperRow asc upper filled reach
 first-list = refl
 
-first-read : ListIn index runs starts 0
+first-read : ListIn starts runs 1 0
 first-read = record { has-run = omega arith; has-start = omega arith; rise = omega arith; inside = omega arith }
 
 first-cut : CutAt full 2 1 0 (getD scratch 6 0)
@@ -70,6 +71,6 @@ countable = held-countable full 2 1 index runs starts (held .store) (omega arith
 abbrev listed : List ℕ
 listed = 3 ∷ 0 ∷ 0 ∷ 1 ∷ 3 ∷ 0 ∷ 1 ∷ 0 ∷ 0 ∷ 0 ∷ 0 ∷ 0 ∷ 0 ∷ 0 ∷ 0 ∷ 0 ∷ []
 
-walked : take 1 (drop (5 * 2) listed) ≡ members 3 listed 0 1
+walked : Walk 2 1 1 listed
 unfolding members chosen asc
-walked = refl
+walked = record { stamp = 3; list = refl }

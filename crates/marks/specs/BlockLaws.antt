@@ -71,7 +71,7 @@ filled-start t s from at had = record {
   written = rw (members-none t s from);
 }
 
-sets-append : (s : List ℕ) (at : ℕ) (l m : List ℕ) → sets s at (l ++ m) ≡ sets (sets s at l) (at + length l) m
+pub sets-append : (s : List ℕ) (at : ℕ) (l m : List ℕ) → sets s at (l ++ m) ≡ sets (sets s at l) (at + length l) m
 sets-append s at [] m = rw add-zero
 sets-append s at (y ∷ l) m =
     let e : at + suc (length l) ≡ suc at + length l = omega arith in

@@ -4,7 +4,7 @@ use mathlib.Core.List.{List}
 use mathlib.Core.Bool.{Bool, true, false, _&&_, _||_, or-false, and-false, or-true}
 use Prim.Native.Nat.{ℕ, suc, _+_, _-_, _<_, _≤_}
 use native.Mathlib.Omega.{arith}
-use lib.ListN.{length, getD, take, drop, length-drop}
+use lib.ListN.{length, getD, take, drop}
 use lib.Seq.{take-all, take-take, length-take-le, getD-take}
 use lib.Dec.{leb, ltb}
 use borrow.Author.Tests.{lt-ltb, ltb-true, lt-leb, leb-false}
@@ -13,8 +13,10 @@ use Rattle.base.specs.Tests.{by-test, and-cases}
 use Rattle.base.specs.AscLaws.{has-asc, asc-at, length-asc}
 use Rattle.fill.specs.Fill.{Pattern, filled, upper, upperRow}
 use Rattle.fill.specs.Prune.{Pair, Cut, entire, short, pruned, pruned-filled}
-use Rattle.marks.specs.Marks.{Below, Above, Room, stamped, marked, Holds, Same, ListIn, partAt, Parts, through, upto, visited, unite}
-use Rattle.marks.specs.MarkLaws.{room-kept, stamped-length, holds-same, holds-stamped, holds-list, same-after, through-below}
+use Rattle.lent.specs.Reading.{Below, orderOf, placed}
+use Rattle.lent.specs.ReadingLaws.{list-length, same}
+use Rattle.marks.specs.Marks.{Above, Room, stamped, marked, Holds, Unmarked, Order, partAt, Parts, upto, visited, unite}
+use Rattle.marks.specs.MarkLaws.{room-kept, stamped-length, holds-same, holds-stamped, holds-list, unmarked-stamped, unmarked-after, below-placed}
 use Rattle.marks.specs.VisitLaws.{visited-keeps}
 use Rattle.marks.specs.CutLaws.{upto-le}
 use Rattle.marks.specs.Rows.{Stored, CutAt, uncut, behind, Cuts, Loaded, Closed}
@@ -121,20 +123,16 @@ module _ (P : Pattern) (n k : ℕ) (small : k ≤ n) (cut : ℕ → ℕ) (cuts :
         holds-same n t _ (row (0 + k)) (filled P k) (λ j _. rw e (pruned-filled P (partOf n T) k cut-of j)) (q .set)
 
 -- only marks and block stamps change
-merge-same : (n t k : ℕ) (T : ℕ → List ℕ) → ((i : ℕ) → i < k → Below n (T i)) → (s : List ℕ) → Same n s (visited t (unite n t T) 0 k s)
+merge-unmarked : (n t k : ℕ) (T : ℕ → List ℕ) → ((i : ℕ) → i < k → Below n (T i)) → (s : List ℕ) → Unmarked n s (visited t (unite n t T) 0 k s)
 unfolding unite
-merge-same n t k T below s = visited-keeps t (unite n t T) (λ i u. Same n s u) 0 k s
-    (λ i _ l u w m. same-after n t s u (stamped n t u (T i)) (T i) refl (below i (omega arith)) w) (λ i _ l u w m. w) (λ q f. refl)
+merge-unmarked n t k T below s = visited-keeps t (unite n t T) (λ i u. Unmarked n s u) 0 k s
+    (λ i _ l u w m. unmarked-after n t s u (stamped n t u (T i)) (T i) refl (below i (omega arith)) w) (λ i _ l u w m. w) (same s)
 
 -- ---- the parts in the store
 
-length-listAt : (index runs starts : List ℕ) (i : ℕ) → ListIn index runs starts i → length (listAt starts runs index i) ≡ getD starts (i + 1) 0 - getD starts i 0
-unfolding listAt
-length-listAt index runs starts i h = length-take-le _ (drop (getD runs i 0) index) (omega (arith, length-drop (getD runs i 0) index, h .inside))
-
 module _ (P : Pattern) (n k : ℕ) (index runs starts : List ℕ) (store : Stored P n k index runs starts) where
   pub upper-length : (i : ℕ) → i < k → length (upperRow P n i) ≡ getD starts (i + 1) 0 - getD starts i 0
-  upper-length i l = ap length (sym (store .list i l)) ∙ length-listAt index runs starts i (store .read i l)
+  upper-length i l = ap length (sym (store .list i l)) ∙ list-length starts runs index i (store .read i l)
 
   module _ (cuts : ℕ) (s : List ℕ) (cut : Cuts P n k cuts s) where
     part-upper-is : (i : ℕ) → i < k → partAt s cuts index runs i ≡ take (getD s (cuts + i) 0) (upperRow P n i)
@@ -168,19 +166,16 @@ module _ (P : Pattern) (n k : ℕ) (index runs starts : List ℕ) (store : Store
 pub closed-is : (n t k cuts : ℕ) (index runs s u : List ℕ) → k ≤ n → Room n s → Parts n k s cuts index runs
     → u ≡ visited t (unite n t (partAt s cuts index runs)) 0 k s → Closed n t k cuts index runs s u
 closed-is n t k cuts index runs s u h r p e = rw e (record {
-  same = merge-same n t k (partAt s cuts index runs) (p .below) s;
+  same = merge-unmarked n t k (partAt s cuts index runs) (p .below) s;
   fill = λ P starts store cut m. closed-held P n k index runs starts store cuts s cut t h r m;
 })
 
 -- ---- a row of M is loaded
 
-pub list-in-at : (index runs starts : List ℕ) (i j : ℕ) → i ≡ j → ListIn index runs starts j → ListIn index runs starts i
-list-in-at index runs starts i j e h = rw e h
-
-pub loaded-is : (n t i : ℕ) (columns starts s list u : List ℕ) → list ≡ rowOf starts columns i → Below n (rowOf starts columns i) → Room n s
-    → ((j : ℕ) → j < n → getD s (n + j) 0 < n) → u ≡ stamped n t s (through s n list) → Loaded n t i columns starts s u
-loaded-is n t i columns starts s list u e b r o eu =
-    let l = through s n (rowOf starts columns i) in
-    let w = through-below n s (rowOf starts columns i) o b in
-    let q : u ≡ stamped n t s l = eu ∙ ap (λ x. stamped n t s (through s n x)) e in
-    record { same = same-after n t s s u l q w (λ q f. refl); row = λ f. rw q (holds-list n t s l w r f) }
+pub loaded-is : (n t i : ℕ) (starts columns s list u : List ℕ) → list ≡ rowOf starts columns i → Below n (rowOf starts columns i) → Room n s
+    → Order n s → u ≡ stamped n t s (placed (orderOf n s) list) → Loaded n t i starts columns s u
+loaded-is n t i starts columns s list u e b r o eu =
+    let l = placed (orderOf n s) (rowOf starts columns i) in
+    let w = below-placed n s (rowOf starts columns i) o b in
+    let q : u ≡ stamped n t s l = eu ∙ ap (λ x. stamped n t s (placed (orderOf n s) x)) e in
+    record { same = rw q (unmarked-stamped n t s l w); row = λ f. rw q (holds-list n t s l w r f) }

@@ -1,13 +1,13 @@
 -- The lists of place k in scratch, and the count of products by the list starts.
 use mathlib.Core.Path.{_≡_, refl, sym, ap, _∙_}
-use mathlib.Core.List.{List, [], _∷_, _++_, map, append-assoc}
+use mathlib.Core.List.{List, _++_, map, append-assoc}
 use mathlib.Core.Bool.{Bool, false, _&&_}
 use Prim.Native.Nat.{ℕ, zero, suc, _+_, _-_, _*_, _<_, _≤_}
 use native.Mathlib.Omega.{arith}
 use native.Mathlib.Numerals.{add-one}
 use native.Mathlib.Decide.{decLt}
 use native.Mathlib.Nat.{zero-add, mul-le-mul}
-use lib.ListN.{length, getD, take, drop, set, length-append}
+use lib.ListN.{length, getD, take, drop, length-append}
 use lib.Seq.{sets, length-sets, sets-eq, drop-cons, drop-length, take-at, drop-at, length-take-le, drop-drop}
 use lib.Dec.{ltb}
 use borrow.Author.Tests.{le-ltb, le-leb}
@@ -15,11 +15,13 @@ use Rattle.base.specs.Lists.{count, total, sum, bit}
 use Rattle.base.specs.AscLaws.{asc-ext, asc-at, length-asc, count-le, total-asc, sum-ext, sum-mono, count-none, count-suc, bit-le}
 use Rattle.fill.specs.Fill.{Pattern, filled, upper, upperRow, lowerRow, products}
 use Rattle.fill.specs.ListLaws.{steps, products-steps, products-le}
+use Rattle.lent.specs.Reading.{But}
 use Rattle.marks.specs.Marks.{Room, Holds, chosen, members, visited, unite, partAt, Parts, Merged}
+use Rattle.marks.specs.BlockLaws.{sets-append}
 use Rattle.marks.specs.MarkLaws.{sets-below, sets-above, holds-kept, marks-sets}
-use Rattle.marks.specs.Rows.{Stored, LowerListed, Closing, UpperListed, Listed, But, rowSteps, lengthIn, Countable}
+use Rattle.marks.specs.Rows.{Stored, LowerListed, Closing, UpperListed, Listed, rowSteps, lengthIn, Countable}
 use Rattle.marks.specs.FillLaws.{upper-length, closed-is}
-use Rattle.base.specs.Scratch.{blocksFrom, listFrom}
+use Rattle.base.specs.Scratch.{listFrom}
 use Rattle.base.specs.Limits.{maxRows, maxProducts}
 
 -- ---- the members are the paper's lists
@@ -36,13 +38,6 @@ module _ (P : Pattern) (n t k : ℕ) (s : List ℕ) (h : k < n) (m : Holds n t s
   pub upper-members : members t s (k + 1) n ≡ upperRow P n k
   unfolding members chosen upperRow upper
   upper-members = rw add-one (asc-ext _ (λ j. ltb k j && filled P k j) n (λ j l. ap (λ x. ltb k j && x) (m .exact j l)))
-
--- two lists one behind the other
-sets-append : (s : List ℕ) (at : ℕ) (a b : List ℕ) → sets (sets s at a) (at + length a) b ≡ sets s at (a ++ b)
-sets-append s at [] b = let e : at + 0 ≡ at = omega arith in rw e
-sets-append s at (x ∷ a) b =
-    let e : at + suc (length a) ≡ suc at + length a = omega arith in
-    rw e (sets-append (set s at x) (suc at) a b)
 
 -- place k is closed, and the members below it are written down
 pub closing-is : (n t k cuts : ℕ) (index runs s u : List ℕ) (below : ℕ) → k < n → Room n s → Parts n k s cuts index runs → length u ≡ length s
@@ -71,7 +66,7 @@ module _ (P : Pattern) (n t k : ℕ) (s u : List ℕ) (below : ℕ) (l : LowerLi
   listed-both v above w = record {
     lower = l .lower;
     upper = w .upper;
-    slots = w .slots ∙ rw (l .slots, l .lower) (sets-append s (listFrom n) (lowerRow P k) (upperRow P n k));
+    slots = w .slots ∙ rw (l .slots, l .lower) (sym (sets-append s (listFrom n) (lowerRow P k) (upperRow P n k)));
   }
 
 -- ---- how long they are

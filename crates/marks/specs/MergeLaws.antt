@@ -1,7 +1,7 @@
 -- Laws of a merge that lists the members it visits.
 use mathlib.Core.Path.{_≡_, refl, sym, ap, _∙_}
 use mathlib.Core.List.{List, [], _∷_, _++_}
-use Prim.Native.Nat.{ℕ, zero, suc, _+_, _-_, _*_, _<_, _≤_, _/_}
+use Prim.Native.Nat.{ℕ, zero, suc, _+_, _-_, _<_, _≤_, _/_}
 use native.Mathlib.Omega.{arith}
 use native.Mathlib.Numerals.{add-one}
 use native.Mathlib.Nat.{add-zero, zero-add}
@@ -9,8 +9,10 @@ use lib.ListN.{length, getD, set, length-set, length-append}
 use lib.Seq.{getD-set-other, set-comm, sets}
 use borrow.Author.Tests.{eq-eqb, ne-eqb, le-leb}
 use Rattle.base.specs.AscLaws.{asc-yes, asc-no}
-use Rattle.marks.specs.Marks.{Below, Above, Room, markAt, stamped, pick, marked, Blocks, Bare, chosen, members, visited, unite, Merged, Base, partAt, Parts}
-use Rattle.marks.specs.MarkLaws.{mark-other, room-kept, stamped-length, blocks-after, same-after, not-chosen, members-none, sets-snoc, sets-below, blocks-same}
+use Rattle.lent.specs.Reading.{Below}
+use Rattle.lent.specs.ReadingLaws.{same}
+use Rattle.marks.specs.Marks.{Above, Room, markAt, stamped, pick, marked, Blocks, Bare, chosen, members, visited, unite, Merged, Base, partAt, Parts}
+use Rattle.marks.specs.MarkLaws.{mark-other, room-kept, stamped-length, blocks-after, unmarked-after, not-chosen, members-none, sets-snoc, sets-below, blocks-same}
 use Rattle.marks.specs.BlockLaws.{members-same}
 use Rattle.base.specs.Scratch.{blocksFrom, upperCuts, listFrom}
 
@@ -74,7 +76,7 @@ cuts-set n s c x q a b = getD-set-other s (listFrom n + c) q x 0 (omega arith)
 
 pub cuts-turn : (n t : ℕ) (s₀ s u l : List ℕ) (c x : ℕ) → u ≡ stamped n t (set s (listFrom n + c) x) l → Below n l → Cuts n s₀ s → Cuts n s₀ u
 cuts-turn n t s₀ s u l c x e b h q lo hi =
-    same-after n t (set s (listFrom n + c) x) (set s (listFrom n + c) x) u l e b (λ r f. refl) q (record { past = omega arith; away = λ _. lo })
+    unmarked-after n t (set s (listFrom n + c) x) (set s (listFrom n + c) x) u l e b (same (set s (listFrom n + c) x)) .slots q (λ _. omega arith) (λ _. lo)
     ∙ cuts-set n s c x q lo hi ∙ h q lo hi
 
 module _ (n k cuts : ℕ) (index runs s₀ s : List ℕ) (base : Base n cuts) (small : k ≤ n) (kept : Cuts n s₀ s) where

@@ -1,7 +1,7 @@
 -- The cuts from place to place.
 use mathlib.Core.Path.{_≡_, refl, sym, ap, _∙_}
 use mathlib.Core.List.{List}
-use mathlib.Core.Bool.{Bool, true, false, false≢true}
+use mathlib.Core.Bool.{Bool, true, false≢true}
 use Prim.Native.Nat.{ℕ, suc, _+_, _-_, _<_, _≤_}
 use native.Mathlib.Omega.{arith}
 use native.Mathlib.Decide.{ℕ-discrete}
@@ -11,10 +11,11 @@ use lib.Dec.{eqb, ltb}
 use Rattle.base.specs.Lists.{has, listAt}
 use Rattle.base.specs.Tests.{by-test, and-cases}
 use Rattle.fill.specs.Fill.{Pattern, filled, upper, upperRow}
-use Rattle.marks.specs.Marks.{Room, marked, Fresh, Holds, Same, Base, upto, cutOne, visited, newCuts}
+use Rattle.lent.specs.Reading.{But}
+use Rattle.marks.specs.Marks.{Room, marked, Fresh, Holds, Unmarked, Base, upto, cutOne, visited, newCuts}
 use Rattle.marks.specs.VisitLaws.{visited-keeps}
-use Rattle.marks.specs.CutLaws.{cut-other, cut-length, cut-free}
-use Rattle.marks.specs.Rows.{Stored, CutAt, uncut, behind, Cuts, Held, But, Renewed}
+use Rattle.marks.specs.CutLaws.{cut-other, cut-length, cut-unmarked}
+use Rattle.marks.specs.Rows.{Stored, CutAt, uncut, behind, Cuts, Held, Renewed}
 use Rattle.marks.specs.AscCuts.{upto-none}
 use Rattle.marks.specs.FillLaws.{has-upper, upper-length}
 
@@ -24,8 +25,8 @@ pub cuts-kept : (P : Pattern) (n k cuts : ℕ) (s u : List ℕ) → ((i : ℕ) �
 cuts-kept P n k cuts s u e h i l = rw (e i l) (h i l)
 
 -- marks keep them
-pub cuts-same : (P : Pattern) (n k cuts : ℕ) (s u : List ℕ) → Base n cuts → Same n s u → Cuts P n k cuts s → Cuts P n k cuts u
-cuts-same P n k cuts s u b e h = cuts-kept P n k cuts s u (λ i l. e (cuts + i) (cut-free n cuts i b)) h
+pub cuts-same : (P : Pattern) (n k cuts : ℕ) (s u : List ℕ) → Base n cuts → Unmarked n s u → Cuts P n k cuts s → Cuts P n k cuts u
+cuts-same P n k cuts s u b e h = cuts-kept P n k cuts s u (λ i l. cut-unmarked n cuts i s u b e) h
 
 -- what is written elsewhere keeps them
 pub cuts-but : (P : Pattern) (n k cuts lo hi : ℕ) (s u : List ℕ) → ((i : ℕ) → i < k → lo ≤ cuts + i → hi ≤ cuts + i) → But lo hi s u → Cuts P n k cuts s → Cuts P n k cuts u

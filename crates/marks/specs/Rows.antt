@@ -2,20 +2,21 @@
 -- M' with rows and columns exchanged for the lower one. Definitions only.
 use mathlib.Core.Path.{_≡_}
 use mathlib.Core.List.{List, _++_, map}
-use Prim.Native.Nat.{ℕ, _+_, _-_, _*_, _<_, _≤_}
+use Prim.Native.Nat.{ℕ, _+_, _-_, _<_, _≤_}
 use lib.ListN.{length, getD}
 use lib.Seq.{sets}
 use Rattle.base.specs.Lists.{listAt, rowOf, has, total}
 use Rattle.fill.specs.Fill.{Pattern, filled, upperRow, lowerRow}
 use Rattle.fill.specs.Prune.{Pair}
-use Rattle.marks.specs.Marks.{Fresh, Holds, Same, ListIn, upto, through}
+use Rattle.lent.specs.Reading.{ListIn, orderOf, placed, But}
+use Rattle.marks.specs.Marks.{Fresh, Holds, Unmarked, upto}
 use Rattle.base.specs.Scratch.{listFrom}
 use Rattle.base.specs.Limits.{maxRows}
 
 -- the lists of the first k places stand in the store
 pub record Stored (P : Pattern) (n k : ℕ) (index runs starts : List ℕ) : Type 0 where
   pub list : (i : ℕ) → i < k → listAt starts runs index i ≡ upperRow P n i
-  pub read : (i : ℕ) → i < k → ListIn index runs starts i
+  pub read : (i : ℕ) → i < k → ListIn starts runs (length index) i
 
 -- of list i, place k merges the first c entries: all, or those up to a place p below k with (i, p) and (p, i) filled
 pub data CutAt (P : Pattern) (n k i c : ℕ) : Type 0 where
@@ -32,18 +33,14 @@ pub record Held (P : Pattern) (n k t cuts : ℕ) (s index runs starts : List ℕ
   pub store : Stored P n k index runs starts
   pub cut : Cuts P n k cuts s
 
--- all slots but those from lo up to hi are as they were
-abbrev pub But : ℕ → ℕ → List ℕ → List ℕ → Type 0
-But lo hi s₀ s = (q : ℕ) → (lo ≤ q → hi ≤ q) → getD s q 0 ≡ getD s₀ q 0
-
 -- own row i of M is added at its places
-pub record Loaded (n t i : ℕ) (columns starts s₀ s : List ℕ) : Type 0 where
-  pub same : Same n s₀ s
-  pub row : Fresh n t s₀ → Holds n t s (has (through s₀ n (rowOf starts columns i)))
+pub record Loaded (n t i : ℕ) (starts columns s₀ s : List ℕ) : Type 0 where
+  pub same : Unmarked n s₀ s
+  pub row : Fresh n t s₀ → Holds n t s (has (placed (orderOf n s₀) (rowOf starts columns i)))
 
 -- the entries of place k are closed over the lists before it: the marks are row k of the fill
 pub record Closed (n t k cuts : ℕ) (index runs s₀ s : List ℕ) : Type 0 where
-  pub same : Same n s₀ s
+  pub same : Unmarked n s₀ s
   pub fill : (P : Pattern) (starts : List ℕ) → Stored P n k index runs starts → Cuts P n k cuts s₀ → Holds n t s₀ (P k) → Holds n t s (filled P k)
 
 -- lower row k, so long, is written to the list region of scratch

@@ -3,13 +3,14 @@ use mathlib.Core.List.{List}
 use Prim.Native.Nat.{ℕ, _+_, _<_, _≤_}
 use native.Mathlib.Omega.{arith}
 use Rattle.fill.specs.Fill.{Pattern, filled}
-use Rattle.marks.specs.Marks.{Holds, Same, Base}
+use Rattle.lent.specs.Reading.{But}
+use Rattle.marks.specs.Marks.{Holds, Unmarked, Base}
 use Rattle.marks.specs.MarkLaws.{holds-kept}
-use Rattle.marks.specs.Rows.{Stored, Cuts, Held, Closed, But, Renewed}
+use Rattle.marks.specs.Rows.{Stored, Cuts, Held, Closed, Renewed}
 use Rattle.marks.specs.RenewLaws.{cuts-same, cuts-but}
 
 module _ (P : Pattern) (n k t cuts at : ℕ) (h : k < n) (base : Base n cuts) (apart : cuts + n ≤ at) (index runs starts s₀ s₁ s₂ : List ℕ)
-    (held : Held P n k t cuts s₀ index runs starts) (loaded : Same n s₀ s₁) (entries : Holds n t s₁ (P k)) where
+    (held : Held P n k t cuts s₀ index runs starts) (loaded : Unmarked n s₀ s₁) (entries : Holds n t s₁ (P k)) where
   -- the cuts that closing finds
   pub loaded-cuts : Cuts P n k cuts s₁
   loaded-cuts = cuts-same P n k cuts s₀ s₁ base loaded (held .cut)

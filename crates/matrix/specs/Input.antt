@@ -10,8 +10,6 @@ use Rattle.base.specs.Lists.{has, table, rowOf, pairs}
 use Rattle.base.specs.First.{first}
 use Rattle.base.specs.declared.Found.{Found}
 use Rattle.base.specs.declared.Found.the-variants.{At, Nothing}
-use Rattle.base.specs.declared.OwnNumber.{OwnNumber}
-use Rattle.base.specs.declared.Place.{Place}
 
 -- a matrix, its orders and a right side
 pub record Input : Type 0 where
@@ -26,14 +24,6 @@ pub record Input : Type 0 where
 -- the input as a call is lent it
 abbrev pub inputOf : ℕ → List ℕ → List ℕ → List Float → List ℕ → List ℕ → List Float → Input
 inputOf n s j v r c b = record { n = n; starts = s; columns = j; values = v; r = r; c = c; b = b }
-
--- "Row order r: place k takes own row r(k)": an own number from a place, by an order
-abbrev pub ownAt : List ℕ → Place → OwnNumber
-ownAt order k = record { 0 = getD order (k .0) 0 }
-
--- a place from an own number, by the inverse of an order
-abbrev pub placeAt : List ℕ → OwnNumber → Place
-placeAt inverse j = record { 0 = getD inverse (j .0) 0 }
 
 -- the order has v at index j
 unfoldable pub isOf : List ℕ → ℕ → ℕ → Bool

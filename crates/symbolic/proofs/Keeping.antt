@@ -14,7 +14,8 @@ use Rattle.base.specs.AscLaws.{asc-at, length-asc}
 use Rattle.base.specs.declared.Side.the-variants.{Upper}
 use Rattle.fill.specs.Fill.{Pattern, filled, upperRow, lowerRow, flip}
 use Rattle.placement.specs.PlacingLaws.{room}
-use Rattle.marks.specs.Marks.{ListIn, members}
+use Rattle.lent.specs.Reading.{ListIn}
+use Rattle.marks.specs.Marks.{members}
 use Rattle.marks.specs.Rows.{Stored, Renewed, rowSteps, lengthIn, Countable}
 use Rattle.marks.specs.FillLaws.{upper-below}
 use Rattle.marks.specs.ListLaws.{lower-members, lower-le, upper-le, row-products-is, held-countable, products-fit}
@@ -93,7 +94,7 @@ module _ {way : Way} {P : Pattern} {n k t cuts : ℕ} {store : List ℕ} {values
     next-store = let b = h .below in rw add-one (stored-held (omega arith) held)
 
     -- what renewing the cuts asks for
-    pub next-lists : (i : ℕ) → i < k + 1 → ListIn index′ runs′ starts′ i
+    pub next-lists : (i : ℕ) → i < k + 1 → ListIn starts′ runs′ (length index′) i
     next-lists = next-store .read
 
     pub kept-next : room (wayOf way) (upperRow P n) (lowerRow P) (length (blank 0 store)) values k ≡ true → length starts′ ≡ length starts → length runs′ ≡ length runs

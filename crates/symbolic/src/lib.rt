@@ -87,8 +87,8 @@ fn open_place(
     starts: &[u32],
     columns: &[Index],
     r: &[Index],
-    index: &[Index],
     runs: &[u32],
+    index: &[Index],
     marks: &mut [u32],
     stamp: u32,
     k: Place,
@@ -98,9 +98,9 @@ fn open_place(
     ensures { λ o. ⌜ ((c lists : List ℕ) → Open side (inputOf n (now (starts .entry)) (now (columns .entry)) [] (now (r .entry)) c []) (k .0) stamp window (now (index .entry)) (now (runs .entry)) lists (now (marks .entry)) → OpenEnds side (inputOf n (now (starts .entry)) (now (columns .entry)) [] (now (r .entry)) c []) (k .0) stamp (now (marks .entry)) (now (marks .exit)) o) ⌝ }
 {
     let p = k.0 as usize;
-    let end = columns::load(side, marks, n, stamp, p, window, columns, starts, r);
+    let end = columns::load(side, marks, n, stamp, p, window, starts, columns, r);
     let cuts = cuts_of(side, n);
-    let below = marks::close_place(marks, n, stamp, k, cuts, index, runs);
+    let below = marks::close_place(marks, n, stamp, k, cuts, runs, index);
     if marks::has_diagonal(marks, stamp, k) {
         let above = marks::list_upper(marks, n, stamp, k, below);
         return Opened::Row(OpenRow {
@@ -120,14 +120,13 @@ fn keep_shared(
     index: &mut [Index],
     values: usize,
     marks: &mut [u32],
-    stamp: u32,
     k: Place,
     cuts: usize,
     row: OpenRow,
     e: Extent,
 ) -> Put
-    requires { ⌜ Keeping Way.Sharing n (k .0) stamp cuts values (now starts) (now runs) (now index) (now marks) row e ⌝ }
-    ensures { λ o. ⌜ ((P : Pattern) (store : List ℕ) → Keep Way.Sharing P n (k .0) stamp cuts store values (now (starts .entry)) (now (runs .entry)) (now (index .entry)) (now (marks .entry)) row e → KeepEnds Way.Sharing P n (k .0) cuts store values (now (starts .exit)) (now (runs .exit)) (now (index .exit)) (now (marks .entry)) (now (marks .exit)) o) ⌝ }
+    requires { ⌜ Keeping Way.Sharing n (k .0) cuts values (now starts) (now runs) (now index) (now marks) row e ⌝ }
+    ensures { λ o. ⌜ ((P : Pattern) (store : List ℕ) (stamp : ℕ) → Keep Way.Sharing P n (k .0) stamp cuts store values (now (starts .entry)) (now (runs .entry)) (now (index .entry)) (now (marks .entry)) row e → KeepEnds Way.Sharing P n (k .0) cuts store values (now (starts .exit)) (now (runs .exit)) (now (index .exit)) (now (marks .entry)) (now (marks .exit)) o) ⌝ }
 {
     let at = scratch::LIST * n;
     let mid = at + row.below;
@@ -145,7 +144,7 @@ fn keep_shared(
     );
     match put {
         Put::Done(next) => {
-            marks::renew_cuts(marks, n, stamp, k, row.below, cuts, index, runs, starts);
+            marks::renew_cuts(marks, n, k, row.below, cuts, starts, runs, index);
             Put::Done(next)
         }
         Put::Full => Put::Full,
@@ -159,13 +158,12 @@ fn keep_plain(
     index: &mut [Index],
     values: usize,
     marks: &mut [u32],
-    stamp: u32,
     k: Place,
     row: OpenRow,
     e: Extent,
 ) -> Put
-    requires { ⌜ Keeping Way.OneAfterAnother n (k .0) stamp (upperCuts n) values (now starts) (now starts) (now index) (now marks) row e ⌝ }
-    ensures { λ o. ⌜ ((P : Pattern) (store : List ℕ) → Keep Way.OneAfterAnother P n (k .0) stamp (upperCuts n) store values (now (starts .entry)) (now (starts .entry)) (now (index .entry)) (now (marks .entry)) row e → KeepEnds Way.OneAfterAnother P n (k .0) (upperCuts n) store values (now (starts .exit)) (now (starts .exit)) (now (index .exit)) (now (marks .entry)) (now (marks .exit)) o) ⌝ }
+    requires { ⌜ Keeping Way.OneAfterAnother n (k .0) (upperCuts n) values (now starts) (now starts) (now index) (now marks) row e ⌝ }
+    ensures { λ o. ⌜ ((P : Pattern) (store : List ℕ) (stamp : ℕ) → Keep Way.OneAfterAnother P n (k .0) stamp (upperCuts n) store values (now (starts .entry)) (now (starts .entry)) (now (index .entry)) (now (marks .entry)) row e → KeepEnds Way.OneAfterAnother P n (k .0) (upperCuts n) store values (now (starts .exit)) (now (starts .exit)) (now (index .exit)) (now (marks .entry)) (now (marks .exit)) o) ⌝ }
 {
     let mid = scratch::LIST * n + row.below;
     let end = mid + row.above;
@@ -175,13 +173,12 @@ fn keep_plain(
             marks::renew_cuts(
                 marks,
                 n,
-                stamp,
                 k,
                 row.below,
                 scratch::UPPER_CUTS * n,
+                starts,
+                starts,
                 index,
-                starts,
-                starts,
             );
             Put::Done(next)
         }
@@ -244,8 +241,8 @@ fn place_side(
         starts,
         columns,
         r,
-        side_index,
         side_runs,
+        side_index,
         marks,
         stamp,
         k,
@@ -262,7 +259,6 @@ fn place_side(
         side_index,
         side_values,
         marks,
-        stamp,
         k,
         cuts,
         row,
@@ -290,12 +286,19 @@ fn begin_marks(n: usize, c: &[Index], marks: &mut [u32])
 }
 
 // The same, and the columns of M' can be handed out.
-fn begin_columns(n: usize, starts: &[u32], columns: &[Index], r: &[Index], c: &[Index], marks: &mut [u32])
+fn begin_columns(
+    n: usize,
+    starts: &[u32],
+    columns: &[Index],
+    r: &[Index],
+    c: &[Index],
+    marks: &mut [u32],
+)
     requires { ⌜ MatrixLent (inputOf n (now starts) (now columns) [] (now r) (now c) []) (length (now marks)) ⌝ }
     ensures { λ _. ⌜ ColumnsBegun (inputOf n (now (starts .entry)) (now (columns .entry)) [] (now (r .entry)) (now (c .entry)) []) (now (marks .exit)) ⌝ }
 {
     begin_marks(n, c, marks);
-    columns::start_columns(marks, n, columns, starts, r);
+    columns::start_columns(marks, n, starts, columns, r);
 }
 
 fn no_progress() -> Progress
@@ -354,8 +357,8 @@ fn plain_place(
         starts,
         columns,
         r,
-        upper_index,
         upper_starts,
+        upper_index,
         marks,
         stamp,
         k,
@@ -384,7 +387,6 @@ fn plain_place(
         upper_index,
         upper_values,
         marks,
-        stamp,
         k,
         row,
         g.upper,

@@ -36,7 +36,7 @@ renew-cuts-requires c κs =
       F .store .read,
       (
         (F .place, base-at _, room-kept (s .args .n) (l .last .0) (q .last .0) (q .kept .0) (room-kept (s .args .n) (now (s .args .marks)) (l .last .0) (l .kept .0) (F .room))),
-        cut-members F (l .ensures) (l .kept .0) (q .ensures) (q .kept .0),
+        record { stamp = _; list = cut-members F (l .ensures) (l .kept .0) (q .ensures) (q .kept .0) },
       ),
     )
 
@@ -45,7 +45,7 @@ returns c P F =
     let l = c .before .before .before .before .before .before .before .before .before .before .load-row-place in
     let q = c .before .before .before .before .before .before .close-place in
     let e = c .before .before .renew-cuts in
-    found F (l .ensures) (l .kept .0) (q .ensures) (q .kept .0) (e .ensures) (e .kept .0)
+    found F (l .ensures) (l .kept .0) (q .ensures) (q .kept .0) (e .ensures _ (cut-members F (l .ensures) (l .kept .0) (q .ensures) (q .kept .0))) (e .kept .0)
 
 pub find-lower-spec : {M : Type 1} → statement M
 find-lower-spec =

@@ -45,7 +45,7 @@ keep-shared-requires : tie.Need-keep-shared-requires
 keep-shared-requires c κs =
     let a = c .before .before .before .before .before .before in
     let d = Begin (Opening a) .pre in
-    record { pattern = _; store = d .store; keep = side-keep (d .due) (found a (d .order) (d .store) (d .due)) _ (c .before .before .before .before .cuts-of .ensures) }
+    record { pattern = _; store = d .store; stamp = _; keep = side-keep (d .due) (found a (d .order) (d .store) (d .due)) _ (c .before .before .before .before .cuts-of .ensures) }
 
 abbrev Row : tie.After-keep-shared → tie.After-opened
 Row w = w .before .before .before .before .before .before .before
@@ -55,7 +55,7 @@ keeps : (w : tie.After-keep-shared) (c store : List ℕ) → Holds (Begin (Openi
     → let s = Begin (Opening (Row w)) in
     let r = w .keep-shared in
     KeepEnds Sharing (patternOf (s .args .side) (given s c)) (s .args .n) (s .args .k .0) (w .before .before .before .before .before .cuts-of .result) store (s .args .side-values) (r .last .1 .0) (r .last .1 .1 .0) (r .last .1 .1 .1 .0) (Opening (Row w) .open-place .last .1 .1 .1 .1 .1 .1 .1 .0) (r .last .1 .1 .1 .1 .1 .0) (r .result)
-keeps w c store h = w .keep-shared .ensures _ store (side-keep h (found (Row w) c store h) _ (w .before .before .before .before .before .cuts-of .ensures))
+keeps w c store h = w .keep-shared .ensures _ store _ (side-keep h (found (Row w) c store h) _ (w .before .before .before .before .before .cuts-of .ensures))
 
 returns-2 : tie.Need-returns-2
 returns-2 c =

@@ -94,7 +94,7 @@ keep-plain-requires : tie.Need-keep-plain-requires
 keep-plain-requires c κs =
     let a = Row (Kept (c .before .before .before .before .before .before .before)) in
     let d = Begin (Opening a) .pre in
-    record { pattern = _; store = d .up; keep = plain-keep _ _ _ _ _ _ _ _ _ _ _ _ (d .at) (d .place) _ _ (found a (d .order) (d .low) (d .up) (d .at)) }
+    record { pattern = _; store = d .up; stamp = _; keep = plain-keep _ _ _ _ _ _ _ _ _ _ _ _ (d .at) (d .place) _ _ (found a (d .order) (d .low) (d .up) (d .at)) }
 
 -- what keeping T(k) tells
 uppers : (w : tie.After-keep-plain) (c low up : List ℕ) → Holds (Begin (Opening (Row (Kept (Low w))))) c low up
@@ -104,7 +104,7 @@ uppers : (w : tie.After-keep-plain) (c low up : List ℕ) → Holds (Begin (Open
     KeepEnds OneAfterAnother (stored (given s c)) (s .args .n) (s .args .k .0) (upperCuts (s .args .n)) up (s .args .upper-values) (r .last .1 .0) (r .last .1 .0) (r .last .1 .1 .0) (Opening a .open-place .last .1 .1 .1 .1 .1 .1 .1 .0) (r .last .1 .1 .1 .1 .0) (r .result)
 uppers w c low up h =
     let a = Row (Kept (Low w)) in
-    w .keep-plain .ensures _ up (plain-keep _ _ _ _ _ _ _ _ _ _ _ _ h (Begin (Opening a) .pre .place) _ _ (found a c low up h))
+    w .keep-plain .ensures _ up _ (plain-keep _ _ _ _ _ _ _ _ _ _ _ _ h (Begin (Opening a) .pre .place) _ _ (found a c low up h))
 
 same-marks : (w : tie.After-keep-plain) → length (w .keep-plain .last .1 .1 .1 .1 .0) ≡ length (Begin (Opening (Row (Kept (Low w)))) .args .marks .now)
 same-marks w = w .keep-plain .kept .1 .1 .1 .1 .0 ∙ Opening (Row (Kept (Low w))) .open-place .kept .1 .1 .1 .1 .1 .1 .1 .0
