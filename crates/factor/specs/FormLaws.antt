@@ -2,7 +2,7 @@
 use mathlib.Core.Path.{_≡_, refl, sym, ap, _∙_, subst}
 use mathlib.Core.Bool.{Bool, true}
 use mathlib.Core.List.{List, [], _∷_, _++_}
-use Prim.Native.Nat.{ℕ, _+_, _-_, _*_, _<_, _≤_}
+use Prim.Native.Nat.{ℕ, _+_, _*_, _<_, _≤_}
 use native.Mathlib.Omega.{arith}
 use lib.ListN.{length, getD, take, drop, length-drop}
 use lib.Seq.{sets, ext-getD, getD-take, getD-drop, length-take-le}
@@ -253,7 +253,7 @@ module _ {i : Input} {L : Lists} {k : ℕ} {w : Written} (f : Form) (G : Going f
     pub close-asked : LowerAt (i .n) below (length x) × Closable (i .n) k (length g) (lowerIn (i .n) below x) (L .upper-starts) (L .upper-runs) (L .upper-index) (length (w .d))
     close-asked = row-closable G h g lg (lowered-row G h (ex ∙ em) row-kept)
 
-    pub row-more : (u d v : List Float) → Sizes w (written l u d v x) → (t : RowSums) (p : Pivot) → p ≡ pivot.Kept t
+    pub row-more : (u d v : List Float) → Sizes w (written l u d v x) → (t : RowSums) (p : Pivot) → p ≡ pivot.Usable t
         → Reduced (system i) (G .rows) (i .n) k (L .upper-starts) (w .work) g (w .upper) u p
         → Shut (i .n) k (lowerIn (i .n) below x) (listAt (L .upper-starts) (L .upper-runs) (L .upper-index) k) g v (w .d) d t
         → Going f i L (k + 1) (written l u d v x)

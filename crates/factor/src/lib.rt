@@ -26,7 +26,6 @@ ghost use Rattle.factor.specs.Factoring.{FactoredAs, lists, written, Fac
 ghost use Rattle.base.specs.Scratch.{listFrom, zFrom};
 ghost use Rattle.fill.specs.Fill.{Pattern};
 ghost use Rattle.lent.specs.Reading.{ListIn};
-ghost use Rattle.base.specs.Limits.{maxRows};
 
 // Every row is done and z is found, or what the arithmetic meets first.
 pub enum Factored {
@@ -399,7 +398,7 @@ fn eliminate_row(
     let below = row.below;
     let p = row.pivot;
     match p {
-        Pivot::Kept(t) => {
+        Pivot::Usable(t) => {
             keep_at(form, n, k, lower_starts, lower_values, work, marks, below);
             close_at(
                 n,

@@ -4,17 +4,6 @@ use Rattle.marks.specs.MarkLaws.{room-kept}
 use borrow.Author.Needs.{needs}
 use Rattle.factor.proofs.find_lower.Statement.{statement}
 use Rattle.factor.proofs.find_lower.Tie as tie
-use Rattle.factor.proofs.find_lower.Reads as reads
-use Rattle.factor.proofs.find_lower.Lts as lts
-use Rattle.marks.proofs.close_place.Reads as close-place-reads
-use Rattle.marks.proofs.load_row_place.Reads as load-row-place-reads
-use Rattle.marks.proofs.renew_cuts.Reads as renew-cuts-reads
-
-add-stamp : tie.Need-add-stamp
-add-stamp c = search needs
-
-mul-cuts : tie.Need-mul-cuts
-mul-cuts c = search needs
 
 load-row-place-requires : tie.Need-load-row-place-requires
 load-row-place-requires c κs =
@@ -49,4 +38,5 @@ returns c P F =
 
 pub find-lower-spec : {M : Type 1} → statement M
 find-lower-spec =
-    tie.close (tie.spec add-stamp mul-cuts load-row-place-requires close-place-requires renew-cuts-requires (λ c. search needs) returns)
+    tie.close
+    (tie.spec (λ c. search needs) (λ c. search needs) load-row-place-requires close-place-requires renew-cuts-requires (λ c. search needs) returns)
