@@ -33,7 +33,7 @@ module _ (P : Pattern) (n i : ℕ) where
   unfolding upperRow
   upper-below p h = asc-at (upper P i) n p (omega (arith, length-asc (upper P i) n)) .below
 
-  pub upper-above : Above i (upperRow P n i)
+  upper-above : Above i (upperRow P n i)
   unfolding upperRow upper
   upper-above p h =
       let a = asc-at (upper P i) n p (omega (arith, length-asc (upper P i) n)) in
@@ -44,11 +44,11 @@ module _ (P : Pattern) (n i : ℕ) where
   pair-upper p q = rw (lt-ltb i p (q .after), q .right)
 
   -- cut behind p, T(i) has its entries up to p
-  pub upper-cut : (p : ℕ) → p < n → Pair P i p → take (upto p (upperRow P n i)) (upperRow P n i) ≡ asc (upper P i) (suc p)
+  upper-cut : (p : ℕ) → p < n → Pair P i p → take (upto p (upperRow P n i)) (upperRow P n i) ≡ asc (upper P i) (suc p)
   unfolding upperRow
   upper-cut p l q = upto-part (upper P i) n p l (pair-upper p q)
 
-  pub cut-le : (k c : ℕ) → CutAt P n k i c → c ≤ length (upperRow P n i)
+  cut-le : (k c : ℕ) → CutAt P n k i c → c ≤ length (upperRow P n i)
   cut-le k c (uncut e) = omega arith
   cut-le k c (behind p a q e) = omega (arith, upto-le p (upperRow P n i))
 
@@ -116,7 +116,7 @@ module _ (P : Pattern) (n k : ℕ) (small : k ≤ n) (cut : ℕ → ℕ) (cuts :
       set = holds-same n t s (row i) (row (suc i)) (λ j q. row-out i j (sym (h .set .exact i (omega arith)) ∙ m)) (h .set);
     }
 
-    pub closed-fill : (s : List ℕ) → Room n s → Holds n t s (P k) → Holds n t (visited t (unite n t T) 0 k s) (filled P k)
+    closed-fill : (s : List ℕ) → Room n s → Holds n t s (P k) → Holds n t (visited t (unite n t T) 0 k s) (filled P k)
     closed-fill s r h =
         let e : 0 + k ≡ k = omega arith in
         let q = visited-keeps t (unite n t T) Step 0 k s step-in step-out (record { room = r; set = holds-same n t s (P k) (row 0) (λ j _. row-start j) h }) in
@@ -160,7 +160,7 @@ module _ (P : Pattern) (n k : ℕ) (starts runs index : List ℕ) (store : Store
       above = part-above;
     }
 
-    pub closed-held : (t : ℕ) → k ≤ n → Room n s → Holds n t s (P k) → Holds n t (visited t (unite n t (partAt s cuts runs index)) 0 k s) (filled P k)
+    closed-held : (t : ℕ) → k ≤ n → Room n s → Holds n t s (P k) → Holds n t (visited t (unite n t (partAt s cuts runs index)) 0 k s) (filled P k)
     closed-held t h r m = closed-fill P n k h (λ i. getD s (cuts + i) 0) cut (partAt s cuts runs index) part-upper-is t part-below s r m
 
 pub closed-is : (n t k cuts : ℕ) (runs index s u : List ℕ) → k ≤ n → Room n s → Parts n k s cuts runs index

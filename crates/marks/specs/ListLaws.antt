@@ -26,16 +26,12 @@ use Rattle.base.specs.Limits.{maxRows, maxProducts}
 
 -- ---- the members are the paper's lists
 
-pub members-le : (t : ℕ) (s : List ℕ) (e : ℕ) → length (members t s 0 e) ≤ e
-unfolding members
-members-le t s e = omega (arith, length-asc (chosen t s 0) e, count-le (chosen t s 0) e)
-
 module _ (P : Pattern) (n t k : ℕ) (s : List ℕ) (h : k < n) (m : Holds n t s (filled P k)) where
   pub lower-members : members t s 0 k ≡ lowerRow P k
   unfolding members chosen lowerRow
   lower-members = asc-ext _ (filled P k) k (λ j l. rw (le-leb 0 j (omega arith)) (m .exact j (omega arith)))
 
-  pub upper-members : members t s (k + 1) n ≡ upperRow P n k
+  upper-members : members t s (k + 1) n ≡ upperRow P n k
   unfolding members chosen upperRow upper
   upper-members = rw add-one (asc-ext _ (λ j. ltb k j && filled P k j) n (λ j l. ap (λ x. ltb k j && x) (m .exact j l)))
 

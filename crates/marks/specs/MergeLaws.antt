@@ -71,10 +71,10 @@ members-miss t s i h = asc-no (chosen t s 0) i (not-chosen t s 0 i h)
 abbrev pub Cuts : ℕ → List ℕ → List ℕ → Type 0
 Cuts n s₀ s = (q : ℕ) → upperCuts n ≤ q → q < listFrom n → getD s q 0 ≡ getD s₀ q 0
 
-pub cuts-set : (n : ℕ) (s : List ℕ) (c x : ℕ) → Cuts n s (set s (listFrom n + c) x)
+cuts-set : (n : ℕ) (s : List ℕ) (c x : ℕ) → Cuts n s (set s (listFrom n + c) x)
 cuts-set n s c x q a b = getD-set-other s (listFrom n + c) q x 0 (omega arith)
 
-pub cuts-turn : (n t : ℕ) (s₀ s u l : List ℕ) (c x : ℕ) → u ≡ stamped n t (set s (listFrom n + c) x) l → Below n l → Cuts n s₀ s → Cuts n s₀ u
+cuts-turn : (n t : ℕ) (s₀ s u l : List ℕ) (c x : ℕ) → u ≡ stamped n t (set s (listFrom n + c) x) l → Below n l → Cuts n s₀ s → Cuts n s₀ u
 cuts-turn n t s₀ s u l c x e b h q lo hi =
     unmarked-after n t (set s (listFrom n + c) x) (set s (listFrom n + c) x) u l e b (same (set s (listFrom n + c) x)) .slots q (λ _. omega arith) (λ _. lo)
     ∙ cuts-set n s c x q lo hi ∙ h q lo hi
@@ -83,7 +83,7 @@ module _ (n k cuts : ℕ) (runs index s₀ s : List ℕ) (base : Base n cuts) (s
   cut-same : (i : ℕ) → i < k → getD s (cuts + i) 0 ≡ getD s₀ (cuts + i) 0
   cut-same i h = let a = base .low in let b = base .high in kept (cuts + i) (omega arith) (omega arith)
 
-  pub part-same : (i : ℕ) → i < k → partAt s cuts runs index i ≡ partAt s₀ cuts runs index i
+  part-same : (i : ℕ) → i < k → partAt s cuts runs index i ≡ partAt s₀ cuts runs index i
   unfolding partAt
   part-same i h = rw (cut-same i h)
 
@@ -132,7 +132,7 @@ module _ (n t : ℕ) (T : ℕ → List ℕ) (s₀ s : List ℕ) (i c : ℕ) (h :
   plain-at : getD s i 0 ≡ getD (g .plain) i 0
   plain-at = rw (g .slots) (sets-below (g .plain) (listFrom n) (members t (g .plain) 0 i) i (omega arith))
 
-  pub going-miss : (getD s i 0 ≡ t → ⊥) → Going n t T s₀ s (i + 1) c
+  going-miss : (getD s i 0 ≡ t → ⊥) → Going n t T s₀ s (i + 1) c
   going-miss m =
       let d : getD (g .plain) i 0 ≡ t → ⊥ = λ e. m (plain-at ∙ e) in
       let e = members-miss t (g .plain) i d in
@@ -164,7 +164,7 @@ module _ (n t : ℕ) (T : ℕ → List ℕ) (s₀ s : List ℕ) (i c : ℕ) (h :
         members-same t (stamped n t (g .plain) l) (g .plain) 0 (i + 1) (λ j k. stamped-low n t (g .plain) l i j h a (omega arith))
         ∙ members-hit t (g .plain) i (sym plain-at ∙ m)
 
-    pub going-hit : Above i l → l ≡ T i → getD s i 0 ≡ t → Going n t T s₀ u (i + 1) (c + 1)
+    going-hit : Above i l → l ≡ T i → getD s i 0 ≡ t → Going n t T s₀ u (i + 1) (c + 1)
     unfolding unite
     going-hit a q m =
         let w = hit-members a m in

@@ -33,7 +33,7 @@ pub cuts-but : (P : Pattern) (n k cuts lo hi : ℕ) (s u : List ℕ) → ((i : �
 cuts-but P n k cuts lo hi s u a e h = cuts-kept P n k cuts s u (λ i l. e (cuts + i) (a i l)) h
 
 -- every later stamp is fresh
-pub holds-fresh : (n t later : ℕ) (s : List ℕ) (p : ℕ → Bool) → t < later → Holds n t s p → Fresh n later s
+holds-fresh : (n t later : ℕ) (s : List ℕ) (p : ℕ → Bool) → t < later → Holds n t s p → Fresh n later s
 holds-fresh n t later s p l h j q = omega (arith, h .last j q)
 
 -- what another side writes keeps what a place finds

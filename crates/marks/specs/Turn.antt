@@ -23,10 +23,10 @@ module _ (P : Pattern) (n k t cuts at : ℕ) (h : k < n) (base : Base n cuts) (a
     -- a list is written behind the cuts
     module _ (s₃ : List ℕ) (hi : ℕ) (written : But at hi s₂ s₃) where
       -- the marks and the cuts that renewing finds
-      pub listed-marks : Holds n t s₃ (filled P k)
+      listed-marks : Holds n t s₃ (filled P k)
       listed-marks = let b = base .low in holds-kept n t s₂ s₃ (filled P k) (λ q l. written q (λ w. absurd (omega arith))) closed-marks
 
-      pub listed-cuts : Cuts P n k cuts s₃
+      listed-cuts : Cuts P n k cuts s₃
       listed-cuts = cuts-but P n k cuts at hi s₂ s₃ (λ i l w. absurd (omega arith)) written (cuts-same P n k cuts s₁ s₂ base (closed .same) loaded-cuts)
 
       -- T(k) is put in the store, and the cuts are renewed
