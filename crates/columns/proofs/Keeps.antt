@@ -7,7 +7,8 @@ use lib.ListN.{length, getD}
 use Rattle.base.specs.Lists.{rowOf}
 use Rattle.lent.specs.Reading.{Below, orderOf, placed}
 use Rattle.lent.specs.ReadingLaws.{order-outside}
-use Rattle.marks.specs.Marks.{Room, Unmarked}
+use Rattle.marks.specs.Marks.{Unmarked}
+use Rattle.marks.specs.MarkLaws.{room-kept}
 use Rattle.columns.specs.Columns.{Kept, Steady, Given, rowsOf}
 use Rattle.base.specs.Scratch.{headsFrom}
 
@@ -27,12 +28,9 @@ steady-unmarked n k h = record {
 
 -- ---- what the lengths and the order settle
 
-pub space-kept : {n : ℕ} {s u : List ℕ} → length u ≡ length s → Room n s → Room n u
-space-kept e h = record { small = h .small; long = omega (arith, h .long) }
-
 pub given-kept : {n : ℕ} {starts columns r s u : List ℕ} → length u ≡ length s → orderOf n u ≡ orderOf n s → Given n starts columns r s → Given n starts columns r u
 given-kept e o g = record {
-  space = space-kept e (g .space);
+  space = room-kept _ _ _ e (g .space);
   order = rw o (g .order);
   long = g .long;
   read = g .read;

@@ -17,7 +17,7 @@ use Rattle.base.specs.Scratch.{headsFrom, nodesFrom}
 
 -- ---- frames
 
-pub chain-frame : {n : ℕ} {s u : List ℕ} {h : ℕ} {l : List ℕ} → ((x : ℕ) → nodesFrom n ≤ x → x < nodesFrom n + (h + h) → getD u x 0 ≡ getD s x 0)
+chain-frame : {n : ℕ} {s u : List ℕ} {h : ℕ} {l : List ℕ} → ((x : ℕ) → nodesFrom n ≤ x → x < nodesFrom n + (h + h) → getD u x 0 ≡ getD s x 0)
     → Chain n s h l → Chain n u h l
 chain-frame k none = none
 chain-frame {n} k (node {q} {h} lo le ei eh c) =
@@ -69,13 +69,13 @@ module _ (n p i j : ℕ) (s : List ℕ) (sp : Room n s) (hj : j < n) (hp : p < n
   push-chain : {h : ℕ} {l : List ℕ} → h ≤ p → Chain n s h l → Chain n (pushAt n p i j s) h l
   push-chain h c = chain-frame (λ x a b. push-other n p i j x s (omega arith) (omega arith) (omega arith)) c
 
-  pub push-kept : (lo hi : ℕ) → lo ≤ j → j < hi → Kept n lo hi s (pushAt n p i j s)
+  push-kept : (lo hi : ℕ) → lo ≤ j → j < hi → Kept n lo hi s (pushAt n p i j s)
   push-kept lo hi a b =
       then (stored s (nodesFrom n + (p + p)) i (λ y x q e. omega (arith, q (omega arith))))
       (then (stored (set s (nodesFrom n + (p + p)) i) (nodesFrom n + (p + p) + 1) (getD s (headsFrom n + j) 0) (λ y x q e. omega (arith, q (omega arith))))
       (stored (set (set s (nodesFrom n + (p + p)) i) (nodesFrom n + (p + p) + 1) (getD s (headsFrom n + j) 0)) (headsFrom n + j) (p + 1) (λ y x q e. omega (arith, x (omega arith)))))
 
-  pub push-lists : (lo hi : ℕ) (f : ℕ → List ℕ) → i < n → lo ≤ j → j < hi → hi ≤ n → Lists n lo hi s p f → Lists n lo hi (pushAt n p i j s) (p + 1) (hits i (j ∷ []) f)
+  push-lists : (lo hi : ℕ) (f : ℕ → List ℕ) → i < n → lo ≤ j → j < hi → hi ≤ n → Lists n lo hi s p f → Lists n lo hi (pushAt n p i j s) (p + 1) (hits i (j ∷ []) f)
   unfolding hits
   push-lists lo hi f hi′ hl hh hn l = record { chain = λ x a b. chain-at x a b (ℕ-discrete j x); heads = λ x a b. head-at x a b (ℕ-discrete j x) }
     where

@@ -4,17 +4,16 @@ use mathlib.Core.List.{List}
 use Prim.Native.Nat.{ℕ, _<_}
 use Rattle.base.specs.declared.Side.{Side}
 use Rattle.base.specs.declared.Side.the-variants.{Lower, Upper}
-use Rattle.matrix.specs.Input.{Input}
 use Rattle.marks.specs.MarkLaws.{order-unmarked, below-placed, unmarked-stamped}
 use Rattle.lent.specs.ReadingLaws.{same}
 use Rattle.lent.specs.Reading.{Below, orderOf}
 use Rattle.marks.specs.Marks.{stamped, Unmarked}
-use Rattle.columns.specs.Columns.{Kept, Untouched, Given, rowsOf, Started, Ready, Loaded}
+use Rattle.columns.specs.Columns.{Kept, Untouched, Given, rowsOf, Ready, Loaded}
 use Rattle.base.specs.Lists.{rowOf}
 use lib.ListN.{getD}
 use native.Mathlib.Omega.{arith}
-use Rattle.columns.specs.Sides.{sideRow, SideReady, SideLoaded, Inverse}
-use Rattle.columns.proofs.Keeps.{order-kept, given-kept}
+use Rattle.columns.specs.Sides.{sideRow, SideReady, SideLoaded}
+use Rattle.columns.proofs.Keeps.{order-kept}
 use Rattle.columns.proofs.ColumnLaws.{below-column}
 
 -- what a side is due, once it is known which it is
@@ -39,17 +38,6 @@ side-below Upper n k starts columns r s g h = below-placed n s (rowOf starts col
 
 -- ---- what a load leaves to others
 
-pub inverse-kept : (i : Input) {s u : List ℕ} → orderOf (i .n) u ≡ orderOf (i .n) s → Inverse i s → Inverse i u
-inverse-kept i e v = record { place = rw e (v .place) }
-
-pub started-untouched : {n : ℕ} {R : ℕ → List ℕ} {s₀ s : List ℕ} → Started n R s₀ s → Untouched n 0 s₀ s
-started-untouched {n} b = record {
-  size = b .kept .size;
-  order = order-kept n 0 n (b .kept);
-  cuts = λ x h g. b .kept .slots x (λ a. omega arith) (λ a. omega arith);
-  list = λ x h g. b .kept .slots x (λ a. omega arith) (λ a. omega arith);
-}
-
 module _ (side : Side) (n t k hi₀ hi : ℕ) (starts columns r s₀ s : List ℕ) (given : Given n starts columns r s₀) (place : k < n)
     (loaded : SideLoaded side n t k hi₀ hi (rowsOf (orderOf n s₀) starts columns r) s₀ s) where
   abbrev list : List ℕ
@@ -68,7 +56,3 @@ module _ (side : Side) (n t k hi₀ hi : ℕ) (starts columns r s₀ s : List �
     cuts = λ x a b. marks .slots x (λ v. omega arith) (λ v. omega arith) ∙ others .slots x (λ v. omega arith) (λ v. omega arith);
     list = λ x a b. marks .slots x (λ v. omega arith) (λ v. omega arith) ∙ others .slots x (λ v. omega arith) (λ v. omega arith);
   }
-
-  -- the next load can follow
-  pub side-given : Given n starts columns r s
-  side-given = given-kept (side-untouched .size) (side-untouched .order) given

@@ -59,7 +59,7 @@ row-joins R m k j = go (ℕ-discrete m j) (decLt j m)
     go (no q) (no d) = rw (ne-eqb m j q, le-ltb j m (omega arith), le-ltb j (suc m) (omega arith)) (other (has (R m) k) false (has (R j) k))
 
 -- a row is in column k exactly if it has an entry there
-pub has-column : (R : ℕ → List ℕ) (n k j : ℕ) → has (column R n k) j ≡ (ltb j n && has (R j) k)
+has-column : (R : ℕ → List ℕ) (n k j : ℕ) → has (column R n k) j ≡ (ltb j n && has (R j) k)
 unfolding column bare has
 has-column R zero k j = rw (le-ltb j 0 (omega arith))
 has-column R (suc m) k j = has-hits m (R m) (column R m) k j ∙ ap (λ v. (has (R m) k && eqb m j) || v) (has-column R m k j) ∙ row-joins R m k j
@@ -146,7 +146,7 @@ module _ (i : Input) (s : List ℕ) (sound : Sound i) (inverse : Inverse i s) wh
   }
 
   -- what a side loads is row k of the side's pattern
-  pub side-stored : (side : Side) (k j : ℕ) → k < i .n → j < i .n
+  side-stored : (side : Side) (k j : ℕ) → k < i .n → j < i .n
       → has (sideRow side (rowsIn i s) (i .n) k) j ≡ sidePattern side (stored i) k j
   side-stored Upper k j h g = row-stored k j
   side-stored Lower k j h g = has-column (rowsIn i s) (i .n) k j ∙ rw (lt-ltb j (i .n) g) (row-stored j k)

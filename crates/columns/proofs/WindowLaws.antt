@@ -21,7 +21,7 @@ use Rattle.base.specs.Scratch.{headsFrom}
 -- ---- counting
 
 -- a head written
-pub head-kept : (n lo hi j v : ℕ) (s : List ℕ) → lo ≤ j → j < hi → hi ≤ n → Kept n lo hi s (set s (headsFrom n + j) v)
+head-kept : (n lo hi j v : ℕ) (s : List ℕ) → lo ≤ j → j < hi → hi ≤ n → Kept n lo hi s (set s (headsFrom n + j) v)
 head-kept n lo hi j v s a b h = stored s (headsFrom n + j) v (λ y p q e. omega (arith, p (omega arith)))
 
 pub record Clearing (n i : ℕ) (s₀ s : List ℕ) : Type 0 where
@@ -222,9 +222,6 @@ fill-end {n} {lo} {hi} {k} {R} {s₀} {s} {p} e h f =
 
 -- ---- the window
 
-pub window-kept : {n k hi : ℕ} {R : ℕ → List ℕ} {s : List ℕ} → k < hi → Ready n k hi R s → Windowed n k hi R s s
-window-kept {s = s} h r = record { kept = same s; has = h; ready = r }
-
 -- the counts say that the window's entries fit
 pub window-fits : {n k hi end : ℕ} {R Q : ℕ → List ℕ} {s₀ s : List ℕ} → Q ≡ R → hi ≤ k → Ready n k hi R s₀ → Emptied n k end s₀ s → held k end (column Q n) ≤ n
 unfolding held lengthAt headAt
@@ -270,11 +267,8 @@ ready-steady {n} {k} {hi} {R} d r =
       counts = record { slot = λ j a b. d .heads j (omega arith) b ∙ r .counts .slot j a b };
     }
 
-pub ready-stamped : {n k hi : ℕ} {R : ℕ → List ℕ} (t : ℕ) (s l : List ℕ) → Below n l → Ready n k hi R s → Ready n k hi R (stamped n t s l)
-ready-stamped {n} {k} t s l b r = ready-steady (steady-unmarked n k (unmarked-stamped n t s l b)) r
-
 -- the next column is due
-pub ready-next : {n k hi : ℕ} {R : ℕ → List ℕ} {s : List ℕ} → k < hi → Ready n k hi R s → Ready n (k + 1) hi R s
+ready-next : {n k hi : ℕ} {R : ℕ → List ℕ} {s : List ℕ} → k < hi → Ready n k hi R s → Ready n (k + 1) hi R s
 ready-next h r = record {
   least = omega arith;
   most = r .most;

@@ -103,8 +103,8 @@ Inverse i s = (j : ℕ) → j < i .n → getD s (i .n + j) 0 ≡ ic (i .c) (i .n
 -- by which lower row k is found: the plain form reads it
 abbrev pub Finding : Form → Input → Lists → ℕ → List ℕ → Type 0
 Finding Plain i L k s = Unit {0}
-Finding Shared i L k s = found.Held (stored i) (i .n) k (k + 1) (3 * i .n) s (L .upper-index) (L .upper-runs) (L .upper-starts)
-Finding ByRow i L k s = found.Held (stored i) (i .n) k (k + 1) (3 * i .n) s (L .upper-index) (L .upper-runs) (L .upper-starts)
+Finding Shared i L k s = found.Held (stored i) (i .n) k (k + 1) (3 * i .n) s (L .upper-starts) (L .upper-runs) (L .upper-index)
+Finding ByRow i L k s = found.Held (stored i) (i .n) k (k + 1) (3 * i .n) s (L .upper-starts) (L .upper-runs) (L .upper-index)
 
 -- rows 0 to k - 1 are done
 pub record Going (f : Form) (i : Input) (L : Lists) (k : ℕ) (w : Written) : Type 0 where
@@ -146,12 +146,12 @@ pub record Findable (P : Pattern) (n k : ℕ) (starts columns r ustarts runs ind
   pub columns-below : Below n (rowOf starts columns (getD r k 0))
   pub inverse : marking.Order n s
   pub entries : (j : ℕ) → j < n → has (reading.placed (reading.orderOf n s) (rowOf starts columns (getD r k 0))) j ≡ P k j
-  pub held : found.Held P n k (k + 1) (3 * n) s index runs ustarts
-  pub store : found.Stored P n (k + 1) index runs ustarts
+  pub held : found.Held P n k (k + 1) (3 * n) s ustarts runs index
+  pub store : found.Stored P n (k + 1) ustarts runs index
 
 -- lower row k, so long, stands from slot 5n on; the inverse order and the cursors are as they were, and row k + 1 can be found
 pub record LowerFound (P : Pattern) (n k below : ℕ) (ustarts runs index s₀ s : List ℕ) : Type 0 where
-  pub next : found.Held P n (k + 1) (k + 1 + 1) (3 * n) s index runs ustarts
+  pub next : found.Held P n (k + 1) (k + 1 + 1) (3 * n) s ustarts runs index
   pub size : below ≡ length (lowerRow P k)
   pub lower : lowerIn n below s ≡ lowerRow P k
   pub inverse : (j : ℕ) → j < n → getD s (n + j) 0 ≡ getD s₀ (n + j) 0

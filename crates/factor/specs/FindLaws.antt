@@ -35,19 +35,19 @@ module _ {P : Pattern} {n k : ℕ} {starts columns r index runs ustarts s₀ : L
     marked-row : Holds n (k + 1) s₁ (P k)
     marked-row = holds-same n (k + 1) s₁ (has (placed (orderOf n s₀) (rowOf starts columns (getD r k 0)))) (P k) (F .entries) (loaded .row (F .held .fresh))
 
-    pub close-parts : Parts n k s₁ (3 * n) index runs
-    close-parts = held-parts P n k index runs ustarts (F .held .store) (3 * n) s₁
-        (loaded-cuts P n k (k + 1) (3 * n) (listFrom n) (F .place) (base-at n) (omega arith) index runs ustarts s₀ s₁ s₁ (F .held) (loaded .same) marked-row) (omega (arith, F .place))
+    pub close-parts : Parts n k s₁ (3 * n) runs index
+    close-parts = held-parts P n k ustarts runs index (F .held .store) (3 * n) s₁
+        (loaded-cuts P n k (k + 1) (3 * n) (listFrom n) (F .place) (base-at n) (omega arith) ustarts runs index s₀ s₁ s₁ (F .held) (loaded .same) marked-row) (omega (arith, F .place))
 
     pub close-blocks : Blocks n (k + 1) s₁
     close-blocks = marked-row .blocks
 
-    module _ {s₃ : List ℕ} {below : ℕ} (closing : Closing n (k + 1) k (3 * n) index runs s₁ s₃ below) (l₃ : length s₃ ≡ length s₁) where
+    module _ {s₃ : List ℕ} {below : ℕ} (closing : Closing n (k + 1) k (3 * n) runs index s₁ s₃ below) (l₃ : length s₃ ≡ length s₁) where
       abbrev s₂ : List ℕ
       s₂ = closing .mid
 
       filled-row : Holds n (k + 1) s₂ (filled P k)
-      filled-row = closed-marks P n k (k + 1) (3 * n) (listFrom n) (F .place) (base-at n) (omega arith) index runs ustarts s₀ s₁ s₂ (F .held) (loaded .same) marked-row (closing .closed)
+      filled-row = closed-marks P n k (k + 1) (3 * n) (listFrom n) (F .place) (base-at n) (omega arith) ustarts runs index s₀ s₁ s₂ (F .held) (loaded .same) marked-row (closing .closed)
 
       listed : LowerListed P n k s₂ s₃ below
       listed = closing .lower P filled-row
@@ -65,7 +65,7 @@ module _ {P : Pattern} {n k : ℕ} {starts columns r index runs ustarts s₀ : L
       pub cut-members : take below (drop (listFrom n) s₃) ≡ members (k + 1) s₃ 0 k
       cut-members = lower-read P n k s₂ s₃ below listed fits (F .place) ∙ sym (lower-members P n (k + 1) k s₃ (F .place) kept-marks)
 
-      module _ {s₄ : List ℕ} (renewed : Renewed n (k + 1) k (3 * n) index runs ustarts s₃ s₄) (l₄ : length s₄ ≡ length s₃) where
+      module _ {s₄ : List ℕ} (renewed : Renewed n (k + 1) k (3 * n) ustarts runs index s₃ s₄) (l₄ : length s₄ ≡ length s₃) where
         -- a slot that no step writes
         same : (q : ℕ) → n ≤ q → (zFrom n ≤ q → cursorsFrom n ≤ q) → q < listFrom n → getD s₄ q 0 ≡ getD s₀ q 0
         same q a b c =
@@ -87,8 +87,8 @@ module _ {P : Pattern} {n k : ℕ} {starts columns r index runs ustarts s₀ : L
 
         pub found : LowerFound P n k below ustarts runs index s₀ s₄
         found = record {
-          next = place-turn P n k (k + 1) (3 * n) (listFrom n) (F .place) (base-at n) (omega arith) index runs ustarts s₀ s₁ s₂ (F .held) (loaded .same) marked-row (closing .closed) s₃ (listFrom n + below) written
-              s₄ index runs ustarts (F .store) renewed (k + 1 + 1) (omega arith);
+          next = place-turn P n k (k + 1) (3 * n) (listFrom n) (F .place) (base-at n) (omega arith) ustarts runs index s₀ s₁ s₂ (F .held) (loaded .same) marked-row (closing .closed) s₃ (listFrom n + below) written
+              s₄ ustarts runs index (F .store) renewed (k + 1 + 1) (omega arith);
           size = listed .lower;
           lower = lower-same ∙ lower-read P n k s₂ s₃ below listed fits (F .place);
           inverse = λ j h. same (n + j) (omega arith) (λ e. absurd (omega arith)) (omega arith);
@@ -105,7 +105,7 @@ placed-is f n s (j ∷ cols) e b =
     rw (← order-read n s j h, e j h, placed-is f n s cols e (λ p h. b (suc p) (omega arith)))
 
 -- the lists of the places up to k stand in the store
-placed-stored : (f : Form) (P : Pattern) (n k : ℕ) (starts runs index : List ℕ) (size : ℕ) → k < n → PlacedSide f Upper P n starts runs index size → Stored P n (k + 1) index runs starts
+placed-stored : (f : Form) (P : Pattern) (n k : ℕ) (starts runs index : List ℕ) (size : ℕ) → k < n → PlacedSide f Upper P n starts runs index size → Stored P n (k + 1) starts runs index
 placed-stored f P n k starts runs index size h S = record {
   list = λ j l. list-at f Upper P n starts runs index size S j (omega arith);
   read = λ j l. record {
@@ -117,7 +117,7 @@ placed-stored f P n k starts runs index size h S = record {
 }
 
 module _ {f : Form} {i : Input} {L : Lists} {k : ℕ} {w : Written} (G : Going f i L k w) (h : k < i .n)
-    (H : Held (stored i) (i .n) k (k + 1) (3 * i .n) (w .marks) (L .upper-index) (L .upper-runs) (L .upper-starts)) where
+    (H : Held (stored i) (i .n) k (k + 1) (3 * i .n) (w .marks) (L .upper-starts) (L .upper-runs) (L .upper-index)) where
   abbrev own : ℕ
   own = getD (i .r) k 0
 

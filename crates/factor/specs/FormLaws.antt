@@ -213,7 +213,7 @@ kept-held {i = i} ByRow G h m below e em next g l x en K = K ∙ G .lower
 
 held-stays : (i : Input) (L : Lists) (k : ℕ) (m x : List ℕ) → k < i .n → But (cursorsFrom (i .n)) (listFrom (i .n)) m x → Finding ByRow i L (k + 1) m → Finding ByRow i L (k + 1) x
 held-stays i L k m x h same F =
-    held-kept (stored i) (i .n) (k + 1) (k + 1 + 1) (k + 1 + 1) (3 * i .n) m x (L .upper-index) (L .upper-runs) (L .upper-starts)
+    held-kept (stored i) (i .n) (k + 1) (k + 1 + 1) (k + 1 + 1) (3 * i .n) m x (L .upper-starts) (L .upper-runs) (L .upper-index)
     (λ j b. same (3 * i .n + j) (λ e. absurd (omega arith))) (λ j b. rw (same j (λ e. absurd (omega arith))) (F .fresh j b)) F
 
 finding-stays : (f : Form) (i : Input) (L : Lists) (k : ℕ) (m x : List ℕ) → k < i .n → But (cursorsFrom (i .n)) (listFrom (i .n)) m x → Finding f i L (k + 1) m → Finding f i L (k + 1) x

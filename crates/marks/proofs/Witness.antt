@@ -51,7 +51,7 @@ first-cut : CutAt full 2 1 0 (getD scratch 6 0)
 unfolding upperRow asc upper filled reach
 first-cut = uncut refl
 
-held : Held full 2 1 3 6 scratch index runs starts
+held : Held full 2 1 3 6 scratch starts runs index
 held = record {
   fresh = fresh;
   store = record {
@@ -61,11 +61,11 @@ held = record {
   cut = λ i l. let e : i ≡ 0 = omega arith in rw e first-cut;
 }
 
-parts : Parts 2 1 scratch 6 index runs
-parts = held-parts full 2 1 index runs starts (held .store) 6 scratch (held .cut) (omega arith)
+parts : Parts 2 1 scratch 6 runs index
+parts = held-parts full 2 1 starts runs index (held .store) 6 scratch (held .cut) (omega arith)
 
 countable : Countable (lowerRow full 1) starts
-countable = held-countable full 2 1 index runs starts (held .store) (omega arith) (lowerRow full 1) refl
+countable = held-countable full 2 1 starts runs index (held .store) (omega arith) (lowerRow full 1) refl
 
 -- the same place with member 0 marked and written to the list region: what renewing the cuts walks along
 abbrev listed : List ℕ

@@ -14,10 +14,10 @@ use Rattle.marks.specs.Marks.{pick, Unmarked, Base, partAt, upto, unless
 
 -- ---- parts of the lists
 
-pub cut-is : (s : List ℕ) (cuts : ℕ) (index runs : List ℕ) (i a c : ℕ) → a ≡ getD runs i 0 → c ≡ getD s (cuts + i) 0
-    → take (a + c - a) (drop a index) ≡ partAt s cuts index runs i
+pub cut-is : (s : List ℕ) (cuts : ℕ) (runs index : List ℕ) (i a c : ℕ) → a ≡ getD runs i 0 → c ≡ getD s (cuts + i) 0
+    → take (a + c - a) (drop a index) ≡ partAt s cuts runs index i
 unfolding partAt
-cut-is s cuts index runs i a c ea ec = let e : a + c - a ≡ c = omega arith in rw (e, ea, ec)
+cut-is s cuts runs index i a c ea ec = let e : a + c - a ≡ c = omega arith in rw (e, ea, ec)
 
 -- marks leave the cuts as they were
 pub cut-unmarked : (n cuts i : ℕ) (s₀ s : List ℕ) → Base n cuts → Unmarked n s₀ s → getD s (cuts + i) 0 ≡ getD s₀ (cuts + i) 0

@@ -33,7 +33,7 @@ module _ (P : Pattern) (n i : ℕ) where
   unfolding upperRow
   upper-below p h = asc-at (upper P i) n p (omega (arith, length-asc (upper P i) n)) .below
 
-  pub upper-above : Above i (upperRow P n i)
+  upper-above : Above i (upperRow P n i)
   unfolding upperRow upper
   upper-above p h =
       let a = asc-at (upper P i) n p (omega (arith, length-asc (upper P i) n)) in
@@ -44,11 +44,11 @@ module _ (P : Pattern) (n i : ℕ) where
   pair-upper p q = rw (lt-ltb i p (q .after), q .right)
 
   -- cut behind p, T(i) has its entries up to p
-  pub upper-cut : (p : ℕ) → p < n → Pair P i p → take (upto p (upperRow P n i)) (upperRow P n i) ≡ asc (upper P i) (suc p)
+  upper-cut : (p : ℕ) → p < n → Pair P i p → take (upto p (upperRow P n i)) (upperRow P n i) ≡ asc (upper P i) (suc p)
   unfolding upperRow
   upper-cut p l q = upto-part (upper P i) n p l (pair-upper p q)
 
-  pub cut-le : (k c : ℕ) → CutAt P n k i c → c ≤ length (upperRow P n i)
+  cut-le : (k c : ℕ) → CutAt P n k i c → c ≤ length (upperRow P n i)
   cut-le k c (uncut e) = omega arith
   cut-le k c (behind p a q e) = omega (arith, upto-le p (upperRow P n i))
 
@@ -116,7 +116,7 @@ module _ (P : Pattern) (n k : ℕ) (small : k ≤ n) (cut : ℕ → ℕ) (cuts :
       set = holds-same n t s (row i) (row (suc i)) (λ j q. row-out i j (sym (h .set .exact i (omega arith)) ∙ m)) (h .set);
     }
 
-    pub closed-fill : (s : List ℕ) → Room n s → Holds n t s (P k) → Holds n t (visited t (unite n t T) 0 k s) (filled P k)
+    closed-fill : (s : List ℕ) → Room n s → Holds n t s (P k) → Holds n t (visited t (unite n t T) 0 k s) (filled P k)
     closed-fill s r h =
         let e : 0 + k ≡ k = omega arith in
         let q = visited-keeps t (unite n t T) Step 0 k s step-in step-out (record { room = r; set = holds-same n t s (P k) (row 0) (λ j _. row-start j) h }) in
@@ -130,29 +130,29 @@ merge-unmarked n t k T below s = visited-keeps t (unite n t T) (λ i u. Unmarked
 
 -- ---- the parts in the store
 
-module _ (P : Pattern) (n k : ℕ) (index runs starts : List ℕ) (store : Stored P n k index runs starts) where
+module _ (P : Pattern) (n k : ℕ) (starts runs index : List ℕ) (store : Stored P n k starts runs index) where
   pub upper-length : (i : ℕ) → i < k → length (upperRow P n i) ≡ getD starts (i + 1) 0 - getD starts i 0
   upper-length i l = ap length (sym (store .list i l)) ∙ list-length starts runs index i (store .read i l)
 
   module _ (cuts : ℕ) (s : List ℕ) (cut : Cuts P n k cuts s) where
-    part-upper-is : (i : ℕ) → i < k → partAt s cuts index runs i ≡ take (getD s (cuts + i) 0) (upperRow P n i)
+    part-upper-is : (i : ℕ) → i < k → partAt s cuts runs index i ≡ take (getD s (cuts + i) 0) (upperRow P n i)
     unfolding partAt listAt
     part-upper-is i l =
         sym (ap (take (getD s (cuts + i) 0)) (sym (store .list i l)) ∙ take-take (getD s (cuts + i) 0) (getD starts (i + 1) 0 - getD starts i 0) (drop (getD runs i 0) index)
         (omega (arith, cut-le P n i k (getD s (cuts + i) 0) (cut i l), upper-length i l)))
 
-    part-below : (i : ℕ) → i < k → Below n (partAt s cuts index runs i)
+    part-below : (i : ℕ) → i < k → Below n (partAt s cuts runs index i)
     part-below i l = rw (part-upper-is i l) (λ p h.
         let b : p < getD s (cuts + i) 0 = omega (arith, length-take-le (getD s (cuts + i) 0) (upperRow P n i) (cut-le P n i k _ (cut i l))) in
         rw (getD-take (getD s (cuts + i) 0) (upperRow P n i) p 0 b) (upper-below P n i p (omega (arith, cut-le P n i k _ (cut i l)))))
 
-    part-above : (i : ℕ) → i < k → Above i (partAt s cuts index runs i)
+    part-above : (i : ℕ) → i < k → Above i (partAt s cuts runs index i)
     part-above i l = rw (part-upper-is i l) (λ p h.
         let b : p < getD s (cuts + i) 0 = omega (arith, length-take-le (getD s (cuts + i) 0) (upperRow P n i) (cut-le P n i k _ (cut i l))) in
         rw (getD-take (getD s (cuts + i) 0) (upperRow P n i) p 0 b) (upper-above P n i p (omega (arith, cut-le P n i k _ (cut i l)))))
 
     -- what closing place k asks for
-    pub held-parts : k ≤ n → Parts n k s cuts index runs
+    pub held-parts : k ≤ n → Parts n k s cuts runs index
     held-parts h = record {
       read = λ i l. let r = store .read i l in
           record { place = omega arith; has-run = r .has-run; inside = omega (arith, r .inside, cut-le P n i k _ (cut i l), upper-length i l) };
@@ -160,14 +160,14 @@ module _ (P : Pattern) (n k : ℕ) (index runs starts : List ℕ) (store : Store
       above = part-above;
     }
 
-    pub closed-held : (t : ℕ) → k ≤ n → Room n s → Holds n t s (P k) → Holds n t (visited t (unite n t (partAt s cuts index runs)) 0 k s) (filled P k)
-    closed-held t h r m = closed-fill P n k h (λ i. getD s (cuts + i) 0) cut (partAt s cuts index runs) part-upper-is t part-below s r m
+    closed-held : (t : ℕ) → k ≤ n → Room n s → Holds n t s (P k) → Holds n t (visited t (unite n t (partAt s cuts runs index)) 0 k s) (filled P k)
+    closed-held t h r m = closed-fill P n k h (λ i. getD s (cuts + i) 0) cut (partAt s cuts runs index) part-upper-is t part-below s r m
 
-pub closed-is : (n t k cuts : ℕ) (index runs s u : List ℕ) → k ≤ n → Room n s → Parts n k s cuts index runs
-    → u ≡ visited t (unite n t (partAt s cuts index runs)) 0 k s → Closed n t k cuts index runs s u
-closed-is n t k cuts index runs s u h r p e = rw e (record {
-  same = merge-unmarked n t k (partAt s cuts index runs) (p .below) s;
-  fill = λ P starts store cut m. closed-held P n k index runs starts store cuts s cut t h r m;
+pub closed-is : (n t k cuts : ℕ) (runs index s u : List ℕ) → k ≤ n → Room n s → Parts n k s cuts runs index
+    → u ≡ visited t (unite n t (partAt s cuts runs index)) 0 k s → Closed n t k cuts runs index s u
+closed-is n t k cuts runs index s u h r p e = rw e (record {
+  same = merge-unmarked n t k (partAt s cuts runs index) (p .below) s;
+  fill = λ P starts store cut m. closed-held P n k starts runs index store cuts s cut t h r m;
 })
 
 -- ---- a row of M is loaded

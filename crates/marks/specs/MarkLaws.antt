@@ -20,7 +20,7 @@ use Rattle.base.specs.Scratch.{blocksFrom, upperCuts}
 
 -- ---- one mark
 
-pub markAt-length : (n t : ℕ) (s : List ℕ) (j : ℕ) → length (markAt n t s j) ≡ length s
+markAt-length : (n t : ℕ) (s : List ℕ) (j : ℕ) → length (markAt n t s j) ≡ length s
 markAt-length n t s j = length-set (set s j t) (blocksFrom n + j / 64) t ∙ length-set s j t
 
 pub room-kept : (n : ℕ) (s u : List ℕ) → length u ≡ length s → Room n s → Room n u
@@ -89,7 +89,7 @@ holds-stamped n t s (x ∷ l) p b r h =
     (holds-stamped n t (markAt n t s x) l (λ j. p j || eqb x j) (below-tail n x l b) (room-mark n t s x r) (holds-mark n t s x p (b 0 (omega arith)) r h))
 
 -- no mark is as late as a fresh stamp
-pub holds-none : (n t : ℕ) (s : List ℕ) → Fresh n t s → Holds n t s (λ j. false)
+holds-none : (n t : ℕ) (s : List ℕ) → Fresh n t s → Holds n t s (λ j. false)
 holds-none n t s f = record {
   blocks = λ j l e. absurd (omega (arith, f j l));
   exact = λ j l. ne-eqb (getD s j 0) t (λ e. omega (arith, f j l));
@@ -101,7 +101,7 @@ pub holds-list : (n t : ℕ) (s l : List ℕ) → Below n l → Room n s → Fre
 holds-list n t s l b r f = holds-stamped n t s l (λ j. false) b r (holds-none n t s f)
 
 -- what every mark below n keeps, stamping a list keeps
-pub stamped-keeps : (P : List ℕ → Type 0) (n t : ℕ) → ((u : List ℕ) (j : ℕ) → j < n → P u → P (markAt n t u j))
+stamped-keeps : (P : List ℕ → Type 0) (n t : ℕ) → ((u : List ℕ) (j : ℕ) → j < n → P u → P (markAt n t u j))
     → (s l : List ℕ) → Below n l → P s → P (stamped n t s l)
 unfolding stamped
 stamped-keeps P n t k s [] b h = h

@@ -103,19 +103,19 @@ pub record Base (n cuts : ℕ) : Type 0 where
 
 -- the entries of list i that a later place merges, its first ones: slot cuts + i says how many
 unfoldable pub partAt : List ℕ → ℕ → List ℕ → List ℕ → ℕ → List ℕ
-partAt s cuts index runs i = take (getD s (cuts + i) 0) (drop (getD runs i 0) index)
+partAt s cuts runs index i = take (getD s (cuts + i) 0) (drop (getD runs i 0) index)
 
 -- that part of list i can be read
-pub record PartIn (n : ℕ) (s : List ℕ) (cuts : ℕ) (index runs : List ℕ) (i : ℕ) : Type 0 where
+pub record PartIn (n : ℕ) (s : List ℕ) (cuts : ℕ) (runs index : List ℕ) (i : ℕ) : Type 0 where
   pub place : i < n
   pub has-run : i < length runs
   pub inside : getD runs i 0 + getD s (cuts + i) 0 ≤ length index
 
 -- the parts of the first k lists can be read, and hold places below n and above their own
-pub record Parts (n k : ℕ) (s : List ℕ) (cuts : ℕ) (index runs : List ℕ) : Type 0 where
-  pub read : (i : ℕ) → i < k → PartIn n s cuts index runs i
-  pub below : (i : ℕ) → i < k → Below n (partAt s cuts index runs i)
-  pub above : (i : ℕ) → i < k → Above i (partAt s cuts index runs i)
+pub record Parts (n k : ℕ) (s : List ℕ) (cuts : ℕ) (runs index : List ℕ) : Type 0 where
+  pub read : (i : ℕ) → i < k → PartIn n s cuts runs index i
+  pub below : (i : ℕ) → i < k → Below n (partAt s cuts runs index i)
+  pub above : (i : ℕ) → i < k → Above i (partAt s cuts runs index i)
 
 -- the list region holds the places below k with some stamp, `below` of them
 pub record Walk (n k below : ℕ) (s : List ℕ) : Type 0 where

@@ -147,7 +147,7 @@ fn cut_part<'a>(
     i: usize,
 ) -> &'a [Index]
     requires { ⌜ (cuts + i < length (now marks)) × (i < length (now runs)) × (getD (now runs) i 0 + getD (now marks) (cuts + i) 0 ≤ length (now index)) ⌝ }
-    ensures { λ r. ⌜ now r ≡ partAt (now (marks .entry)) cuts (now (index .entry)) (now (runs .entry)) i ⌝ }
+    ensures { λ r. ⌜ now r ≡ partAt (now (marks .entry)) cuts (now (runs .entry)) (now (index .entry)) i ⌝ }
 {
     let a = base::slot(runs[i]);
     let e = a + base::slot(marks[cuts + i]);
@@ -164,9 +164,9 @@ fn merge_run(
     runs: &[u32],
     index: &[Index],
 )
-    requires { ⌜ Room n (now marks) × Base n cuts × PartIn n (now marks) cuts (now index) (now runs) i ⌝ }
-    requires { ⌜ Below n (partAt (now marks) cuts (now index) (now runs) i) ⌝ }
-    ensures { λ r. ⌜ now (marks .exit) ≡ stamped n stamp (now (marks .entry)) (partAt (now (marks .entry)) cuts (now (index .entry)) (now (runs .entry)) i) ⌝ }
+    requires { ⌜ Room n (now marks) × Base n cuts × PartIn n (now marks) cuts (now runs) (now index) i ⌝ }
+    requires { ⌜ Below n (partAt (now marks) cuts (now runs) (now index) i) ⌝ }
+    ensures { λ r. ⌜ now (marks .exit) ≡ stamped n stamp (now (marks .entry)) (partAt (now (marks .entry)) cuts (now (runs .entry)) (now (index .entry)) i) ⌝ }
 {
     let list = cut_part(marks, cuts, runs, index, i);
     merge_list(marks, n, stamp, list);
@@ -184,9 +184,9 @@ fn merge_block(
     runs: &[u32],
     index: &[Index],
 ) -> usize
-    requires { ⌜ Parts n end (now marks) cuts (now index) (now runs) ⌝ }
+    requires { ⌜ Parts n end (now marks) cuts (now runs) (now index) ⌝ }
     requires { ⌜ (had ≤ from) × (from ≤ end) × (end ≤ n) × Base n cuts × Room n (now marks) ⌝ }
-    ensures { λ r. ⌜ GoesOn n stamp cuts (now (index .entry)) (now (runs .entry)) (now (marks .entry)) from had (now (marks .exit)) end r ⌝ }
+    ensures { λ r. ⌜ GoesOn n stamp cuts (now (runs .entry)) (now (index .entry)) (now (marks .entry)) from had (now (marks .exit)) end r ⌝ }
 {
     let mut count = had;
     let mut i = from;
@@ -212,10 +212,10 @@ fn merge_lower(
     runs: &[u32],
     index: &[Index],
 ) -> usize
-    requires { ⌜ Parts n k (now marks) cuts (now index) (now runs) ⌝ }
+    requires { ⌜ Parts n k (now marks) cuts (now runs) (now index) ⌝ }
     requires { ⌜ (k ≤ n) × Base n cuts × Room n (now marks) ⌝ }
     requires { ⌜ Blocks n stamp (now marks) ⌝ }
-    ensures { λ r. ⌜ Merged n stamp k (partAt (now (marks .entry)) cuts (now (index .entry)) (now (runs .entry))) (now (marks .entry)) (now (marks .exit)) r ⌝ }
+    ensures { λ r. ⌜ Merged n stamp k (partAt (now (marks .entry)) cuts (now (runs .entry)) (now (index .entry))) (now (marks .entry)) (now (marks .exit)) r ⌝ }
 {
     let mut count = 0;
     let mut i = 0;
@@ -333,10 +333,10 @@ pub fn close_place(
     runs: &[u32],
     index: &[Index],
 ) -> usize
-    requires { ⌜ Parts n (k .0) (now marks) cuts (now index) (now runs) ⌝ }
+    requires { ⌜ Parts n (k .0) (now marks) cuts (now runs) (now index) ⌝ }
     requires { ⌜ (k .0 < n) × Base n cuts × Room n (now marks) ⌝ }
     requires { ⌜ Blocks n stamp (now marks) ⌝ }
-    ensures { λ below. ⌜ Closing n stamp (k .0) cuts (now (index .entry)) (now (runs .entry)) (now (marks .entry)) (now (marks .exit)) below ⌝ }
+    ensures { λ below. ⌜ Closing n stamp (k .0) cuts (now (runs .entry)) (now (index .entry)) (now (marks .entry)) (now (marks .exit)) below ⌝ }
 {
     let end = k.0 as usize;
     merge_lower(marks, n, stamp, end, cuts, runs, index)
@@ -377,7 +377,7 @@ pub fn renew_cuts(
     requires { ⌜ (k .0 < n) × Base n cuts × Room n (now marks) ⌝ }
     requires { ⌜ Walk n (k .0) below (now marks) ⌝ }
     ensures { λ r. ⌜ ((stamp : ℕ) → take below (drop (listFrom n) (now (marks .entry))) ≡ members stamp (now (marks .entry)) 0 (k .0)
-        → Renewed n stamp (k .0) cuts (now (index .entry)) (now (runs .entry)) (now (starts .entry)) (now (marks .entry)) (now (marks .exit))) ⌝ }
+        → Renewed n stamp (k .0) cuts (now (starts .entry)) (now (runs .entry)) (now (index .entry)) (now (marks .entry)) (now (marks .exit))) ⌝ }
 {
     let i = k.0 as usize;
     close_cuts(marks, n, i, below, cuts, starts, runs, index);

@@ -141,8 +141,8 @@ module _ (side : Side) (i : Input) (k t window : ℕ) (index runs lists s₀ : L
     pub loaded-cuts : Cuts P n k cuts s₁
     loaded-cuts = cuts-kept P n k cuts s₀ s₁ (λ j l. let w = cut-slot side j l in kept .cuts (cuts + j) (w .0) (w .1)) (o .held .cut)
 
-    pub loaded-parts : Parts n k s₁ cuts index runs
-    loaded-parts = held-parts P n k index runs lists (o .held .store) cuts s₁ loaded-cuts (omega (arith, o .below))
+    pub loaded-parts : Parts n k s₁ cuts runs index
+    loaded-parts = held-parts P n k lists runs index (o .held .store) cuts s₁ loaded-cuts (omega (arith, o .below))
 
     -- the slots of the order and of the other side
     load-foreign : (side : Side) → SideLoaded side n t k window hi (rowsIn i s₀) s₀ s₁ → Untouched n k s₀ s₁ → (q : ℕ) → Foreign side n q → getD s₁ q 0 ≡ getD s₀ q 0
@@ -160,11 +160,11 @@ module _ (side : Side) (i : Input) (k t window : ℕ) (index runs lists s₀ : L
       foreign = load-foreign side loaded kept;
     }
 
-    module _ (u₂ : List ℕ) (below : ℕ) (closing : Closing n t k cuts index runs s₁ u₂ below) where
+    module _ (u₂ : List ℕ) (below : ℕ) (closing : Closing n t k cuts runs index s₁ u₂ below) where
       abbrev s₂ : List ℕ
       s₂ = closing .mid
 
-      abbrev closed : Closed n t k cuts index runs s₁ s₂
+      abbrev closed : Closed n t k cuts runs index s₁ s₂
       closed = closing .closed
 
       mid-marks : Holds n t s₂ (filled P k)
@@ -232,11 +232,11 @@ cuts-upper side n e = rw e
 pub cuts-lower : (side : Side) (n : ℕ) → side ≡ Lower → lowerCuts n ≡ cutsOf side n
 cuts-lower side n e = rw e
 
-pub parts-at : (n k : ℕ) (s : List ℕ) (a b : ℕ) (index runs : List ℕ) → a ≡ b → Parts n k s b index runs → Parts n k s a index runs
-parts-at n k s a b index runs e p = rw e p
+pub parts-at : (n k : ℕ) (s : List ℕ) (a b : ℕ) (runs index : List ℕ) → a ≡ b → Parts n k s b runs index → Parts n k s a runs index
+parts-at n k s a b runs index e p = rw e p
 
 pub base-at : (n a b : ℕ) → a ≡ b → Base n b → Base n a
 base-at n a b e p = rw e p
 
-pub closing-at : (n t k a b : ℕ) (index runs s u : List ℕ) (below : ℕ) → a ≡ b → Closing n t k a index runs s u below → Closing n t k b index runs s u below
-closing-at n t k a b index runs s u below e p = rw e at p
+pub closing-at : (n t k a b : ℕ) (runs index s u : List ℕ) (below : ℕ) → a ≡ b → Closing n t k a runs index s u below → Closing n t k b runs index s u below
+closing-at n t k a b runs index s u below e p = rw e at p

@@ -64,7 +64,7 @@ pub record Begun (i : Input) (s : List ℕ) : Type 0 where
 pub record Open (side : Side) (i : Input) (k t window : ℕ) (index runs starts s : List ℕ) : Type 0 where
   pub begun : Begun i s
   pub below : k < i .n
-  pub held : Held (patternOf side i) (i .n) k t (cutsOf side (i .n)) s index runs starts
+  pub held : Held (patternOf side i) (i .n) k t (cutsOf side (i .n)) s starts runs index
   pub ready : SideReady side (i .n) k window (rowsIn i s) s
 
 -- the same, for some column order and some list starts: neither is lent
@@ -168,7 +168,7 @@ pub record Adding (P : Pattern) (n k : ℕ) (index runs starts s : List ℕ) (co
   pub space : Room n s
   pub size : count ≡ length (lowerRow P k)
   pub list : take count (drop (listFrom n) s) ≡ lowerRow P k
-  pub store : Stored P n k index runs starts
+  pub store : Stored P n k starts runs index
   pub before : products ≡ sum k (rowSteps P n)
 
 -- the same, for some pattern, place, index store and run starts

@@ -1,11 +1,11 @@
 use Rattle.columns.specs.Columns.{Counted}
 use Rattle.columns.proofs.WindowLaws.{count-start, count-more, count-end, count-room, one-counted}
 use Rattle.lent.specs.ReadingLaws.{placed-length}
-use Rattle.marks.specs.MarkLaws.{entry-read, entry-below}
+use Rattle.marks.specs.MarkLaws.{entry-read, entry-below, room-kept}
 use Rattle.lent.specs.Reading.{orderOf, placed}
 use lib.ListN.{length, take}
 use Prim.Native.Nat.{_-_, _≤_}
-use Rattle.columns.proofs.Keeps.{space-kept, order-kept}
+use Rattle.columns.proofs.Keeps.{order-kept}
 use borrow.Author.Needs.{needs}
 use native.Mathlib.Omega.{arith}
 use Rattle.columns.proofs.count_row.Statement.{statement}
@@ -24,7 +24,7 @@ entry-place-requires : tie.Need-entry-place-requires Inv-loop μ-loop
 entry-place-requires c κs =
     let l = c .before .before in
     let s = l .before .before .before in
-    (omega arith, s .pre .1 .1 .0 (l .loop .q) (omega arith), space-kept (l .loop .inv .1 .kept .size) (s .pre .0))
+    (omega arith, s .pre .1 .1 .0 (l .loop .q) (omega arith), room-kept _ _ _ (l .loop .inv .1 .kept .size) (s .pre .0))
 
 count-one-requires : tie.Need-count-one-requires Inv-loop μ-loop
 count-one-requires c κs =
@@ -34,7 +34,7 @@ count-one-requires c κs =
     let k = l .loop .inv .1 .kept in
     let e = entry-read (s .args .n) (l .loop .q) _ _ _ (s .args .cols .now) (omega arith) (order-kept (s .args .n) 0 (s .args .n) k) (w .entry-place .ensures) in
     let b = entry-below (s .args .n) (l .loop .q) _ _ (s .args .cols .now) (s .pre .1 .0) (s .pre .1 .1 .0) (e .0) (e .1) in
-    (space-kept (k .size) (s .pre .0), (b, omega (arith, s .pre .0 .small, count-room (l .loop .q) _ (e .0) (e .1) b (s .pre .1 .1 .1) (l .loop .inv .1))))
+    (room-kept _ _ _ (k .size) (s .pre .0), (b, omega (arith, s .pre .0 .small, count-room (l .loop .q) _ (e .0) (e .1) b (s .pre .1 .1 .1) (l .loop .inv .1))))
 
 loop-again : tie.Need-loop-again Inv-loop μ-loop
 loop-again c =
@@ -45,7 +45,7 @@ loop-again c =
     let k = l .loop .inv .1 .kept in
     let e = entry-read (s .args .n) (l .loop .q) _ _ _ (s .args .cols .now) (omega arith) (order-kept (s .args .n) 0 (s .args .n) k) (w .entry-place .ensures) in
     let b = entry-below (s .args .n) (l .loop .q) _ _ (s .args .cols .now) (s .pre .1 .0) (s .pre .1 .1 .0) (e .0) (e .1) in
-    (omega arith, count-more (l .loop .q) _ (e .0) (e .1) (l .loop .inv .1) (one-counted (space-kept (k .size) (s .pre .0)) b (m .count-one .ensures)))
+    (omega arith, count-more (l .loop .q) _ (e .0) (e .1) (l .loop .inv .1) (one-counted (room-kept _ _ _ (k .size) (s .pre .0)) b (m .count-one .ensures)))
 
 returns : tie.Need-returns Inv-loop μ-loop
 returns c =

@@ -1,5 +1,5 @@
 use Rattle.columns.proofs.WindowLaws.{loaded, window-list, window-head}
-use Rattle.columns.proofs.Keeps.{space-kept}
+use Rattle.marks.specs.MarkLaws.{room-kept}
 use borrow.Author.Needs.{needs}
 use Rattle.columns.proofs.load_column.Statement.{statement}
 use Rattle.columns.proofs.load_column.Tie as tie
@@ -10,7 +10,7 @@ stamp-list-requires c κs =
     let w = v .before .before .before .before in
     let s = w .before .before .before .before .before .before in
     let e = w .window-at .ensures in
-    (space-kept (e .kept .size) (s .pre .0 .space), window-head e (v .slot .ensures .0))
+    (room-kept _ _ _ (e .kept .size) (s .pre .0 .space), window-head e (v .slot .ensures .0))
 
 returns : tie.Need-returns
 returns c =

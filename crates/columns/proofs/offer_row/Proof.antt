@@ -1,11 +1,11 @@
 use Rattle.lent.specs.ReadingLaws.{placed-length}
-use Rattle.marks.specs.MarkLaws.{entry-read}
+use Rattle.marks.specs.MarkLaws.{entry-read, room-kept}
 use Rattle.lent.specs.Reading.{orderOf, placed}
 use Rattle.columns.specs.Columns.{Offered}
 use lib.ListN.{length, take}
 use Prim.Native.Nat.{_-_, _≤_}
 use Rattle.columns.proofs.ListLaws.{row-start, row-more, row-room, row-end}
-use Rattle.columns.proofs.Keeps.{order-kept, space-kept}
+use Rattle.columns.proofs.Keeps.{order-kept}
 use borrow.Author.Needs.{needs}
 use native.Mathlib.Omega.{arith}
 use Rattle.columns.proofs.offer_row.Statement.{statement}
@@ -24,7 +24,7 @@ entry-place-requires : tie.Need-entry-place-requires Inv-loop μ-loop
 entry-place-requires c κs =
     let l = c .before .before in
     let s = l .before .before .before in
-    (omega arith, s .pre .1 .0 (l .loop .q) (omega arith), space-kept (l .loop .inv .1 .kept .size) (s .pre .0))
+    (omega arith, s .pre .1 .0 (l .loop .q) (omega arith), room-kept _ _ _ (l .loop .inv .1 .kept .size) (s .pre .0))
 
 offer-requires : tie.Need-offer-requires Inv-loop μ-loop
 offer-requires c κs =
@@ -33,7 +33,7 @@ offer-requires c κs =
     let s = l .before .before .before in
     let k = l .loop .inv .1 .kept in
     let e = entry-read (s .args .n) (l .loop .q) _ _ _ (s .args .cols .now) (omega arith) (order-kept (s .args .n) (s .args .lo) (s .args .hi) k) (w .entry-place .ensures) in
-    (space-kept (k .size) (s .pre .0), (s .pre .1 .1 .0, row-room (l .loop .q) _ (e .0) (e .1) (s .pre .1 .1 .1) (l .loop .inv .1)))
+    (room-kept _ _ _ (k .size) (s .pre .0), (s .pre .1 .1 .0, row-room (l .loop .q) _ (e .0) (e .1) (s .pre .1 .1 .1) (l .loop .inv .1)))
 
 loop-again : tie.Need-loop-again Inv-loop μ-loop
 loop-again c =

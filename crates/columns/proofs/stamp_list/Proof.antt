@@ -1,4 +1,4 @@
-use Rattle.columns.proofs.Keeps.{space-kept}
+use Rattle.marks.specs.MarkLaws.{room-kept}
 use Rattle.columns.proofs.ListLaws.{Walk, walk-start, walk-node, walk-more, left-end}
 use borrow.Author.Needs.{needs}
 use native.Mathlib.Omega.{arith}
@@ -21,7 +21,7 @@ mark-requires c κs =
     let l = w .before .before .before in
     let s = l .before .before in
     let d = walk-node (l .loop .inv) (s .pre .1) (omega arith) in
-    (omega (arith, d .row, w .slot .ensures .0), space-kept (l .loop .inv .size) (s .pre .0))
+    (omega (arith, d .row, w .slot .ensures .0), room-kept _ _ _ (l .loop .inv .size) (s .pre .0))
 
 loop-less : tie.Need-loop-less Inv-loop μ-loop
 loop-less c =

@@ -8,7 +8,7 @@ use Rattle.marks.proofs.merge_block.Statement.{statement}
 use Rattle.marks.proofs.merge_block.Tie as tie
 
 abbrev Inv-loop : tie.InvT-loop
-Inv-loop s₀ n stamp from end had cuts runs index count₀ i₀ s count i = Along n stamp cuts index runs s₀ from had end s i count
+Inv-loop s₀ n stamp from end had cuts runs index count₀ i₀ s count i = Along n stamp cuts runs index s₀ from had end s i count
 
 abbrev μ-loop : tie.MeasureT-loop
 μ-loop s₀ n stamp from end had cuts runs index count₀ i₀ s count i = end - i

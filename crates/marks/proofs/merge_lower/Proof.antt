@@ -8,7 +8,7 @@ use Rattle.marks.proofs.merge_lower.Statement.{statement}
 use Rattle.marks.proofs.merge_lower.Tie as tie
 
 abbrev Inv-loop : tie.InvT-loop
-Inv-loop s₀ n stamp k cuts runs index count₀ i₀ s count i = (i ≤ k) × Going n stamp (partAt s₀ cuts index runs) s₀ s i count
+Inv-loop s₀ n stamp k cuts runs index count₀ i₀ s count i = (i ≤ k) × Going n stamp (partAt s₀ cuts runs index) s₀ s i count
 
 abbrev μ-loop : tie.MeasureT-loop
 μ-loop s₀ n stamp k cuts runs index count₀ i₀ s count i = k - i
@@ -27,7 +27,7 @@ merge-block-requires c κs =
     let g = l .loop .inv .1 in
     let q = s .pre .1 .0 in
     let small : r .result ≤ s .args .n = omega (arith, r .ensures .1, q .0) in (
-      parts-kept (s .args .n) (r .result) (s .args .cuts) (s .args .index .now) (s .args .runs .now) (s .args .marks .now) (l .loop .marks) (q .1) small (g .cuts) (s .args .k) (r .ensures .1) (s .pre .0),
+      parts-kept (s .args .n) (r .result) (s .args .cuts) (s .args .runs .now) (s .args .index .now) (s .args .marks .now) (l .loop .marks) (q .1) small (g .cuts) (s .args .k) (r .ensures .1) (s .pre .0),
       (g .within, omega (arith, r .ensures .0), small, q .1, room-kept _ (s .args .marks .now) _ (g .long) (q .2)),
     )
 
