@@ -156,7 +156,8 @@ fn factor_and_solve(
     ensures { λ a. ⌜ ended a (plainBuffers (now («lower_starts» .exit)) (now («lower_index» .exit)) (now («lower_values» .exit)) (now («upper_starts» .exit)) (now («upper_index» .exit)) (now («upper_values» .exit)) (now (d .exit)) (now (x .exit)) (now (work .exit)) (now (marks .exit)))
         ≡ solveFactored Plain (inputOf n (now (starts .entry)) (now (columns .entry)) (now (values .entry)) (now (r .entry)) (now (c .entry)) (now (b .entry))) (plainBuffers (now («lower_starts» .entry)) (now («lower_index» .entry)) (now («lower_values» .entry)) (now («upper_starts» .entry)) (now («upper_index» .entry)) (now («upper_values» .entry)) (now (d .entry)) (now (x .entry)) (now (work .entry)) (now (marks .entry))) ⌝ }
 {
-    let a = factor::factor_plain(
+    let a = factor::factor(
+        base::Form::Plain,
         n,
         starts,
         columns,
@@ -167,6 +168,7 @@ fn factor_and_solve(
         lower_starts,
         lower_index,
         lower_values,
+        upper_starts,
         upper_starts,
         upper_index,
         upper_values,

@@ -1,10 +1,13 @@
 // The solve in the row form. Its stages are in stages/specs: Asking for questions 1 to 8, Stages and Ends for what is left of a call after them.
 ghost use mathlib.Core.Path.{_≡_};
-ghost use lib.ListN.{length};
+ghost use mathlib.Core.List.{[]};
+ghost use lib.ListN.{length, drop};
+ghost use Rattle.base.specs.Scratch.{zFrom};
 ghost use Rattle.base.specs.declared.Form.the-variants.{ByRow};
 ghost use Rattle.matrix.specs.Input.{inputOf};
 ghost use Rattle.outcome.specs.Buffers.{rowBuffers, sizes, cleared, ended};
 ghost use Rattle.outcome.specs.Solve.{Solves};
+ghost use Rattle.factor.specs.Factoring.{lists, written, Factorable, FactoredAs};
 ghost use Rattle.stages.specs.Stages.{solvePlaced};
 ghost use Rattle.stages.specs.Shaped.{SolveDue};
 use base::Answer;
@@ -12,6 +15,53 @@ use base::Form;
 use base::Index;
 use base::SideSizes;
 use base::Sizes;
+use factor::Factored;
+
+// The factors and z, without a lower side.
+fn factor_upper(
+    n: usize,
+    starts: &[u32],
+    columns: &[Index],
+    values: &[f64],
+    r: &[Index],
+    c: &[Index],
+    b: &[f64],
+    upper_starts: &[u32],
+    upper_runs: &[u32],
+    upper_index: &[Index],
+    upper_values: &mut [f64],
+    d: &mut [f64],
+    work: &mut [f64],
+    marks: &mut [u32],
+) -> Factored
+    requires { ⌜ Factorable ByRow (inputOf n (now starts) (now columns) (now values) (now r) (now c) (now b)) (lists [] [] (now «upper_starts») (now «upper_runs») (now «upper_index»))
+        (written [] (now «upper_values») (now d) (now work) (now marks)) ⌝ }
+    ensures { λ a. ⌜ FactoredAs ByRow (inputOf n (now (starts .entry)) (now (columns .entry)) (now (values .entry)) (now (r .entry)) (now (c .entry)) (now (b .entry))) a
+        [] (now («upper_values» .exit)) (now (d .exit)) (drop (zFrom n) (now (work .exit))) ⌝ }
+{
+    // The row form keeps no L.
+    let mut none = [0.0; 1];
+    factor::factor(
+        Form::ByRow,
+        n,
+        starts,
+        columns,
+        values,
+        r,
+        c,
+        b,
+        &starts[..0],
+        &columns[..0],
+        &mut none[..0],
+        upper_starts,
+        upper_runs,
+        upper_index,
+        upper_values,
+        d,
+        work,
+        marks,
+    )
+}
 
 // Finds the structure, factors, and writes x: what is left of the solve after 1 to 8. Structure and factors are left behind.
 fn analyze_and_solve(
@@ -50,7 +100,7 @@ fn analyze_and_solve(
     if stages::refuses(a) {
         return a;
     }
-    let factored = factor::factor_row(
+    let factored = factor_upper(
         n,
         starts,
         columns,

@@ -176,7 +176,8 @@ fn factor_and_solve(
     ensures { λ a. ⌜ ended a (sharedBuffers (now («lower_starts» .exit)) (now («lower_runs» .exit)) (now («lower_index» .exit)) (now («lower_values» .exit)) (now («upper_starts» .exit)) (now («upper_runs» .exit)) (now («upper_index» .exit)) (now («upper_values» .exit)) (now (d .exit)) (now (x .exit)) (now (work .exit)) (now (marks .exit)))
         ≡ solveFactored Shared (inputOf n (now (starts .entry)) (now (columns .entry)) (now (values .entry)) (now (r .entry)) (now (c .entry)) (now (b .entry))) (sharedBuffers (now («lower_starts» .entry)) (now («lower_runs» .entry)) (now («lower_index» .entry)) (now («lower_values» .entry)) (now («upper_starts» .entry)) (now («upper_runs» .entry)) (now («upper_index» .entry)) (now («upper_values» .entry)) (now (d .entry)) (now (x .entry)) (now (work .entry)) (now (marks .entry))) ⌝ }
 {
-    let a = factor::factor_shared(
+    let a = factor::factor(
+        base::Form::Shared,
         n,
         starts,
         columns,
@@ -185,6 +186,7 @@ fn factor_and_solve(
         c,
         b,
         lower_starts,
+        &columns[..0],
         lower_values,
         upper_starts,
         upper_runs,
