@@ -5,8 +5,7 @@ ghost use lib.ListN.{length};
 ghost use Rattle.base.specs.declared.Form.the-variants.{Plain};
 ghost use Rattle.matrix.specs.Input.{inputOf};
 ghost use Rattle.outcome.specs.Buffers.{plainBuffers, ended};
-ghost use Rattle.outcome.specs.Structure.{structure};
-ghost use Rattle.outcome.specs.Solve.{Solves};
+ghost use Rattle.outcome.specs.Calls.{StructuresPlain, SolvesPlain};
 ghost use Rattle.symbolic.specs.Pass.{slotsOf, PlainLent, FoundBoth};
 ghost use Rattle.factor.specs.Factoring.{lists, written};
 ghost use Rattle.stages.specs.Stages.{solveFactored};
@@ -82,8 +81,9 @@ pub fn structure_plain(
     work: &mut [f64],
     marks: &mut [u32],
 ) -> Answer
-    ensures { λ a. ⌜ ended a (plainBuffers (now («lower_starts» .exit)) (now («lower_index» .exit)) (now («lower_values» .exit)) (now («upper_starts» .exit)) (now («upper_index» .exit)) (now («upper_values» .exit)) [] [] (now (work .exit)) (now (marks .exit)))
-        ≡ structure Plain (inputOf n (now (starts .entry)) (now (columns .entry)) [] (now (r .entry)) (now (c .entry)) []) (plainBuffers (now («lower_starts» .entry)) (now («lower_index» .entry)) (now («lower_values» .entry)) (now («upper_starts» .entry)) (now («upper_index» .entry)) (now («upper_values» .entry)) [] [] (now (work .entry)) (now (marks .entry))) ⌝ }
+    ensures { λ a. ⌜ StructuresPlain (inputOf n (now (starts .entry)) (now (columns .entry)) [] (now (r .entry)) (now (c .entry)) [])
+        (now («lower_starts» .entry)) (now («lower_index» .entry)) (now («lower_values» .entry)) (now («upper_starts» .entry)) (now («upper_index» .entry)) (now («upper_values» .entry)) (now (work .entry)) (now (marks .entry)) a
+        (now («lower_starts» .exit)) (now («lower_index» .exit)) (now («lower_values» .exit)) (now («upper_starts» .exit)) (now («upper_index» .exit)) (now («upper_values» .exit)) (now (work .exit)) (now (marks .exit)) ⌝ }
 {
     let lower = SideSizes {
         starts: lower_starts.len(),
@@ -209,9 +209,9 @@ pub fn solve_plain(
     work: &mut [f64],
     marks: &mut [u32],
 ) -> Answer
-    ensures { λ a. ⌜ Solves Plain (inputOf n (now (starts .entry)) (now (columns .entry)) (now (values .entry)) (now (r .entry)) (now (c .entry)) (now (b .entry)))
-        (plainBuffers (now («lower_starts» .entry)) (now («lower_index» .entry)) (now («lower_values» .entry)) (now («upper_starts» .entry)) (now («upper_index» .entry)) (now («upper_values» .entry)) (now (d .entry)) (now (x .entry)) (now (work .entry)) (now (marks .entry)))
-        a (plainBuffers (now («lower_starts» .exit)) (now («lower_index» .exit)) (now («lower_values» .exit)) (now («upper_starts» .exit)) (now («upper_index» .exit)) (now («upper_values» .exit)) (now (d .exit)) (now (x .exit)) (now (work .exit)) (now (marks .exit))) ⌝ }
+    ensures { λ a. ⌜ SolvesPlain (inputOf n (now (starts .entry)) (now (columns .entry)) (now (values .entry)) (now (r .entry)) (now (c .entry)) (now (b .entry)))
+        (now («lower_starts» .entry)) (now («lower_index» .entry)) (now («lower_values» .entry)) (now («upper_starts» .entry)) (now («upper_index» .entry)) (now («upper_values» .entry)) (now (d .entry)) (now (x .entry)) (now (work .entry)) (now (marks .entry)) a
+        (now («lower_starts» .exit)) (now («lower_index» .exit)) (now («lower_values» .exit)) (now («upper_starts» .exit)) (now («upper_index» .exit)) (now («upper_values» .exit)) (now (d .exit)) (now (x .exit)) (now (work .exit)) (now (marks .exit)) ⌝ }
 {
     let lower = SideSizes {
         starts: lower_starts.len(),
@@ -233,7 +233,19 @@ pub fn solve_plain(
         work: work.len(),
         marks: marks.len(),
     };
-    let asked = stages::ask_solve(Form::Plain, n, starts, columns, values, r, c, b, sizes, work, marks);
+    let asked = stages::ask_solve(
+        Form::Plain,
+        n,
+        starts,
+        columns,
+        values,
+        r,
+        c,
+        b,
+        sizes,
+        work,
+        marks,
+    );
     if stages::stops(asked) {
         return stages::refusal(asked);
     }

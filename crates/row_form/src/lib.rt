@@ -6,7 +6,7 @@ ghost use Rattle.base.specs.Scratch.{zFrom};
 ghost use Rattle.base.specs.declared.Form.the-variants.{ByRow};
 ghost use Rattle.matrix.specs.Input.{inputOf};
 ghost use Rattle.outcome.specs.Buffers.{rowBuffers, sizes, cleared, ended};
-ghost use Rattle.outcome.specs.Solve.{Solves};
+ghost use Rattle.outcome.specs.Calls.{SolvesByRow};
 ghost use Rattle.factor.specs.Factoring.{lists, written, Factorable, FactoredAs};
 ghost use Rattle.stages.specs.Stages.{solvePlaced};
 ghost use Rattle.stages.specs.Shaped.{SolveDue};
@@ -142,9 +142,9 @@ pub fn solve_row(
     work: &mut [f64],
     marks: &mut [u32],
 ) -> Answer
-    ensures { λ a. ⌜ Solves ByRow (inputOf n (now (starts .entry)) (now (columns .entry)) (now (values .entry)) (now (r .entry)) (now (c .entry)) (now (b .entry)))
-        (rowBuffers (now («upper_starts» .entry)) (now («upper_runs» .entry)) (now («upper_index» .entry)) (now («upper_values» .entry)) (now (d .entry)) (now (x .entry)) (now (work .entry)) (now (marks .entry)))
-        a (rowBuffers (now («upper_starts» .exit)) (now («upper_runs» .exit)) (now («upper_index» .exit)) (now («upper_values» .exit)) (now (d .exit)) (now (x .exit)) (now (work .exit)) (now (marks .exit))) ⌝ }
+    ensures { λ a. ⌜ SolvesByRow (inputOf n (now (starts .entry)) (now (columns .entry)) (now (values .entry)) (now (r .entry)) (now (c .entry)) (now (b .entry)))
+        (now («upper_starts» .entry)) (now («upper_runs» .entry)) (now («upper_index» .entry)) (now («upper_values» .entry)) (now (d .entry)) (now (x .entry)) (now (work .entry)) (now (marks .entry)) a
+        (now («upper_starts» .exit)) (now («upper_runs» .exit)) (now («upper_index» .exit)) (now («upper_values» .exit)) (now (d .exit)) (now (x .exit)) (now (work .exit)) (now (marks .exit)) ⌝ }
 {
     let lower = SideSizes {
         starts: 0,
@@ -166,7 +166,19 @@ pub fn solve_row(
         work: work.len(),
         marks: marks.len(),
     };
-    let asked = stages::ask_solve(Form::ByRow, n, starts, columns, values, r, c, b, sizes, work, marks);
+    let asked = stages::ask_solve(
+        Form::ByRow,
+        n,
+        starts,
+        columns,
+        values,
+        r,
+        c,
+        b,
+        sizes,
+        work,
+        marks,
+    );
     if stages::stops(asked) {
         return stages::refusal(asked);
     }

@@ -6,8 +6,7 @@ ghost use Rattle.base.specs.Lists.{blank};
 ghost use Rattle.base.specs.declared.Form.the-variants.{Shared};
 ghost use Rattle.matrix.specs.Input.{inputOf};
 ghost use Rattle.outcome.specs.Buffers.{sharedBuffers, ended};
-ghost use Rattle.outcome.specs.Structure.{structure};
-ghost use Rattle.outcome.specs.Solve.{Solves};
+ghost use Rattle.outcome.specs.Calls.{StructuresShared, SolvesShared};
 ghost use Rattle.symbolic.specs.Pass.{slotsOf, SharedLent, FoundBoth};
 ghost use Rattle.factor.specs.Factoring.{written};
 ghost use Rattle.stages.specs.Stages.{solveFactored};
@@ -98,8 +97,9 @@ pub fn structure_shared(
     work: &mut [f64],
     marks: &mut [u32],
 ) -> Answer
-    ensures { λ a. ⌜ ended a (sharedBuffers (now («lower_starts» .exit)) (now («lower_runs» .exit)) (now («lower_index» .exit)) (now («lower_values» .exit)) (now («upper_starts» .exit)) (now («upper_runs» .exit)) (now («upper_index» .exit)) (now («upper_values» .exit)) [] [] (now (work .exit)) (now (marks .exit)))
-        ≡ structure Shared (inputOf n (now (starts .entry)) (now (columns .entry)) [] (now (r .entry)) (now (c .entry)) []) (sharedBuffers (now («lower_starts» .entry)) (now («lower_runs» .entry)) (now («lower_index» .entry)) (now («lower_values» .entry)) (now («upper_starts» .entry)) (now («upper_runs» .entry)) (now («upper_index» .entry)) (now («upper_values» .entry)) [] [] (now (work .entry)) (now (marks .entry))) ⌝ }
+    ensures { λ a. ⌜ StructuresShared (inputOf n (now (starts .entry)) (now (columns .entry)) [] (now (r .entry)) (now (c .entry)) [])
+        (now («lower_starts» .entry)) (now («lower_runs» .entry)) (now («lower_index» .entry)) (now («lower_values» .entry)) (now («upper_starts» .entry)) (now («upper_runs» .entry)) (now («upper_index» .entry)) (now («upper_values» .entry)) (now (work .entry)) (now (marks .entry)) a
+        (now («lower_starts» .exit)) (now («lower_runs» .exit)) (now («lower_index» .exit)) (now («lower_values» .exit)) (now («upper_starts» .exit)) (now («upper_runs» .exit)) (now («upper_index» .exit)) (now («upper_values» .exit)) (now (work .exit)) (now (marks .exit)) ⌝ }
 {
     let lower = SideSizes {
         starts: lower_starts.len(),
@@ -230,9 +230,9 @@ pub fn solve_shared(
     work: &mut [f64],
     marks: &mut [u32],
 ) -> Answer
-    ensures { λ a. ⌜ Solves Shared (inputOf n (now (starts .entry)) (now (columns .entry)) (now (values .entry)) (now (r .entry)) (now (c .entry)) (now (b .entry)))
-        (sharedBuffers (now («lower_starts» .entry)) (now («lower_runs» .entry)) (now («lower_index» .entry)) (now («lower_values» .entry)) (now («upper_starts» .entry)) (now («upper_runs» .entry)) (now («upper_index» .entry)) (now («upper_values» .entry)) (now (d .entry)) (now (x .entry)) (now (work .entry)) (now (marks .entry)))
-        a (sharedBuffers (now («lower_starts» .exit)) (now («lower_runs» .exit)) (now («lower_index» .exit)) (now («lower_values» .exit)) (now («upper_starts» .exit)) (now («upper_runs» .exit)) (now («upper_index» .exit)) (now («upper_values» .exit)) (now (d .exit)) (now (x .exit)) (now (work .exit)) (now (marks .exit))) ⌝ }
+    ensures { λ a. ⌜ SolvesShared (inputOf n (now (starts .entry)) (now (columns .entry)) (now (values .entry)) (now (r .entry)) (now (c .entry)) (now (b .entry)))
+        (now («lower_starts» .entry)) (now («lower_runs» .entry)) (now («lower_index» .entry)) (now («lower_values» .entry)) (now («upper_starts» .entry)) (now («upper_runs» .entry)) (now («upper_index» .entry)) (now («upper_values» .entry)) (now (d .entry)) (now (x .entry)) (now (work .entry)) (now (marks .entry)) a
+        (now («lower_starts» .exit)) (now («lower_runs» .exit)) (now («lower_index» .exit)) (now («lower_values» .exit)) (now («upper_starts» .exit)) (now («upper_runs» .exit)) (now («upper_index» .exit)) (now («upper_values» .exit)) (now (d .exit)) (now (x .exit)) (now (work .exit)) (now (marks .exit)) ⌝ }
 {
     let lower = SideSizes {
         starts: lower_starts.len(),
@@ -254,7 +254,19 @@ pub fn solve_shared(
         work: work.len(),
         marks: marks.len(),
     };
-    let asked = stages::ask_solve(Form::Shared, n, starts, columns, values, r, c, b, sizes, work, marks);
+    let asked = stages::ask_solve(
+        Form::Shared,
+        n,
+        starts,
+        columns,
+        values,
+        r,
+        c,
+        b,
+        sizes,
+        work,
+        marks,
+    );
     if stages::stops(asked) {
         return stages::refusal(asked);
     }

@@ -50,7 +50,9 @@ fn side_fits(form: Form, n: usize, side: SideSizes) -> bool
     requires { ⌜ n ≤ maxRows ⌝ }
     ensures { λ t. ⌜ t ≡ all (sideTests form n side) ⌝ }
 {
-    let stores = (side.starts == n + 1) & (side.index <= Matrix::MAX_SLOTS) & (side.values <= Matrix::MAX_SLOTS);
+    let stores = (side.starts == n + 1)
+        & (side.index <= Matrix::MAX_SLOTS)
+        & (side.values <= Matrix::MAX_SLOTS);
     match form {
         Form::Plain => stores,
         Form::Shared => stores & (side.runs == n),
@@ -98,7 +100,15 @@ fn scratch_fits(n: usize, sizes: Sizes) -> bool
 }
 
 // Asks a structure call's 1 and 2.
-fn shape_structure(form: Form, n: usize, starts: &[u32], columns: &[Index], r: &[Index], c: &[Index], sizes: Sizes) -> Asked
+fn shape_structure(
+    form: Form,
+    n: usize,
+    starts: &[u32],
+    columns: &[Index],
+    r: &[Index],
+    c: &[Index],
+    sizes: Sizes,
+) -> Asked
     ensures { λ a. ⌜ a ≡ structureShape form (inputOf n (now (starts .entry)) (now (columns .entry)) [] (now (r .entry)) (now (c .entry)) []) sizes ⌝ }
 {
     let made = Matrix::new(n, columns.len());

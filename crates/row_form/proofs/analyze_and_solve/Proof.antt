@@ -14,10 +14,10 @@ Begin s = s .before .before .before .before .before .before .before .before .bef
 abbrev Placed : tie.After-refuses → tie.After-find-row
 Placed s = s .before .before .before .before .before .before .before .before .before
 
-abbrev Goes : tie.After-factor-row-arg7 → tie.Else1
+abbrev Goes : tie.After-factor-upper-arg7 → tie.Else1
 Goes s = s .before .before .before .before .before .before .before
 
-abbrev Computed : tie.After-fault-of → tie.After-factor-row
+abbrev Computed : tie.After-fault-of → tie.After-factor-upper
 Computed s = s .before .before .before .before .before .before .before .before .before
 
 abbrev Sound : tie.After-write-x-arg2 → tie.Else2
@@ -32,23 +32,23 @@ find-row-requires c κs = let h = Begin c .pre in row-lent _ _ _ _ _ _ _ _ _ _ (
 returns : tie.Need-returns
 returns c = row-refused _ _ _ _ _ _ _ _ _ _ _ _ _ (Placed (c .before) .find-row .ensures) (sym (c .before .refuses .ensures) ∙ c .if1 .taken)
 
-factor-row-requires : tie.Need-factor-row-requires
-factor-row-requires c κs =
+factor-upper-requires : tie.Need-factor-upper-requires
+factor-upper-requires c κs =
     let g = Goes c in
     let p = Placed (g .before) in
     row-due _ _ _ _ _ _ _ _ _ _ _ _ _ _ (Begin (p .before) .pre) (p .find-row .ensures) (sym (g .before .refuses .ensures) ∙ g .if1 .left) (p .find-row .kept .1 .1 .1 .1 .1 .1 .1 .1 .1 .0)
 
 -- the arithmetic, and the pass before it
-abbrev Faulted : tie.After-refusal → tie.After-factor-row
+abbrev Faulted : tie.After-refusal → tie.After-factor-upper
 Faulted c = Computed (c .before .before .before)
 
-abbrev Solving : tie.After-write-x-arg2 → tie.After-factor-row
+abbrev Solving : tie.After-write-x-arg2 → tie.After-factor-upper
 Solving c = Computed (Sound c .before .before)
 
-abbrev Solved : tie.After-slice-known17 → tie.After-factor-row
+abbrev Solved : tie.After-slice-known17 → tie.After-factor-upper
 Solved c = Solving (Written c .before)
 
-abbrev Earlier : tie.After-factor-row → tie.After-find-row
+abbrev Earlier : tie.After-factor-upper → tie.After-find-row
 Earlier s = Placed (Goes (s .before) .before)
 
 returns-2 : tie.Need-returns-2
@@ -56,18 +56,18 @@ returns-2 c =
     let b = c .before in
     let k = Faulted c in
     let g = Goes (k .before) in
-    row-fault _ _ _ _ _ _ _ _ _ _ _ _ _ (Earlier k .find-row .ensures) (sym (g .before .refuses .ensures) ∙ g .if1 .left) _ _ _ _ _ (k .factor-row .ensures) (b .before .before .fault-of .ensures) _
+    row-fault _ _ _ _ _ _ _ _ _ _ _ _ _ (Earlier k .find-row .ensures) (sym (g .before .refuses .ensures) ∙ g .if1 .left) _ _ _ _ _ (k .factor-upper .ensures) (b .before .before .fault-of .ensures) _
     (sym (b .before .stops .ensures) ∙ b .if2 .taken) (c .refusal .ensures)
 
 write-x-requires : tie.Need-write-x-requires
-write-x-requires c κs = let k = Solving c in row-solution _ _ _ (Begin (Earlier k .before) .pre) (k .factor-row .kept .1 .1 .1 .1 .1 .1 .1 .1 .1 .1 .1 .1 .0)
+write-x-requires c κs = let k = Solving c in row-solution _ _ _ (Begin (Earlier k .before) .pre) (k .factor-upper .kept .1 .1 .1 .1 .1 .1 .1 .1 .1 .1 .1 .1 .0)
 
 returns-3 : tie.Need-returns-3
 returns-3 c =
     let b = Sound (Written c .before) in
     let k = Solved c in
     let g = Goes (k .before) in
-    row-solved _ _ _ _ _ _ _ _ _ _ _ _ _ (Earlier k .find-row .ensures) (sym (g .before .refuses .ensures) ∙ g .if1 .left) _ _ _ _ _ (k .factor-row .ensures) (b .before .before .fault-of .ensures) _
+    row-solved _ _ _ _ _ _ _ _ _ _ _ _ _ (Earlier k .find-row .ensures) (sym (g .before .refuses .ensures) ∙ g .if1 .left) _ _ _ _ _ (k .factor-upper .ensures) (b .before .before .fault-of .ensures) _
     (sym (b .before .stops .ensures) ∙ b .if2 .left) (Written c .write-x .ensures)
 
 pub analyze-and-solve-spec : {M : Type 1} → statement M
@@ -78,21 +78,21 @@ analyze-and-solve-spec =
     (λ c. Placed (c .before) .find-row .kept .1 .1 .1 .1 .1 .1 .0)
     (λ c. Placed (c .before) .find-row .kept .1 .1 .1 .1 .1 .1 .1 .0)
     (λ c. Placed (c .before) .find-row .kept .1 .1 .1 .1 .1 .1 .1 .1 .1 .0)
-    returns factor-row-requires (λ c κs. search needs) (λ c κs. search needs) (λ c κs. search needs)
+    returns factor-upper-requires (λ c κs. search needs) (λ c κs. search needs) (λ c κs. search needs)
     (λ c. Earlier (Faulted c) .find-row .kept .1 .1 .1 .1 .1 .0)
     (λ c. Earlier (Faulted c) .find-row .kept .1 .1 .1 .1 .1 .1 .0)
     (λ c. Earlier (Faulted c) .find-row .kept .1 .1 .1 .1 .1 .1 .1 .0)
-    (λ c. Faulted c .factor-row .kept .1 .1 .1 .1 .1 .1 .1 .1 .1 .1 .0)
-    (λ c. Faulted c .factor-row .kept .1 .1 .1 .1 .1 .1 .1 .1 .1 .1 .1 .0)
-    (λ c. Faulted c .factor-row .kept .1 .1 .1 .1 .1 .1 .1 .1 .1 .1 .1 .1 .0)
-    (λ c. Faulted c .factor-row .kept .1 .1 .1 .1 .1 .1 .1 .1 .1 .1 .1 .1 .1 .0 ∙ Earlier (Faulted c) .find-row .kept .1 .1 .1 .1 .1 .1 .1 .1 .1 .0)
+    (λ c. Faulted c .factor-upper .kept .1 .1 .1 .1 .1 .1 .1 .1 .1 .1 .0)
+    (λ c. Faulted c .factor-upper .kept .1 .1 .1 .1 .1 .1 .1 .1 .1 .1 .1 .0)
+    (λ c. Faulted c .factor-upper .kept .1 .1 .1 .1 .1 .1 .1 .1 .1 .1 .1 .1 .0)
+    (λ c. Faulted c .factor-upper .kept .1 .1 .1 .1 .1 .1 .1 .1 .1 .1 .1 .1 .1 .0 ∙ Earlier (Faulted c) .find-row .kept .1 .1 .1 .1 .1 .1 .1 .1 .1 .0)
     returns-2 write-x-requires
     (λ c. Earlier (Solved c) .find-row .kept .1 .1 .1 .1 .1 .0)
     (λ c. Earlier (Solved c) .find-row .kept .1 .1 .1 .1 .1 .1 .0)
     (λ c. Earlier (Solved c) .find-row .kept .1 .1 .1 .1 .1 .1 .1 .0)
-    (λ c. Solved c .factor-row .kept .1 .1 .1 .1 .1 .1 .1 .1 .1 .1 .0)
-    (λ c. Solved c .factor-row .kept .1 .1 .1 .1 .1 .1 .1 .1 .1 .1 .1 .0)
+    (λ c. Solved c .factor-upper .kept .1 .1 .1 .1 .1 .1 .1 .1 .1 .1 .0)
+    (λ c. Solved c .factor-upper .kept .1 .1 .1 .1 .1 .1 .1 .1 .1 .1 .1 .0)
     (λ c. Written c .write-x .kept .1 .1 .1 .0)
-    (λ c. Solved c .factor-row .kept .1 .1 .1 .1 .1 .1 .1 .1 .1 .1 .1 .1 .0)
-    (λ c. Solved c .factor-row .kept .1 .1 .1 .1 .1 .1 .1 .1 .1 .1 .1 .1 .1 .0 ∙ Earlier (Solved c) .find-row .kept .1 .1 .1 .1 .1 .1 .1 .1 .1 .0)
+    (λ c. Solved c .factor-upper .kept .1 .1 .1 .1 .1 .1 .1 .1 .1 .1 .1 .1 .0)
+    (λ c. Solved c .factor-upper .kept .1 .1 .1 .1 .1 .1 .1 .1 .1 .1 .1 .1 .1 .0 ∙ Earlier (Solved c) .find-row .kept .1 .1 .1 .1 .1 .1 .1 .1 .1 .0)
     returns-3)
