@@ -21,7 +21,7 @@ use Rattle.questions.specs.Lent.{SolveLent}
 use Rattle.questions.specs.Settled.{Settled}
 use Rattle.marks.specs.Marks as marking
 use Rattle.marks.specs.Rows as found
-use Rattle.lent.specs.Reading.{ListIn, Below}
+use Rattle.lent.specs.Reading.{ListIn, Below, But, placed, orderOf}
 use Rattle.numeric.specs.Stores.{Ascending, StoreShape, gathered, columns, keepColumns}
 use Rattle.numeric.specs.Rows.{RowsHeld, Stacked, lOf, columnOf, InColumns}
 use Rattle.factor.specs.declared.Factored.{Factored}
@@ -142,10 +142,10 @@ pub record Findable (P : Pattern) (n k : ℕ) (starts columns r ustarts runs ind
   pub place : k < n
   pub room : marking.Room n s
   pub own-place : k < length r
-  pub row : reading.ListIn starts starts (length columns) (getD r k 0)
+  pub row : ListIn starts starts (length columns) (getD r k 0)
   pub columns-below : Below n (rowOf starts columns (getD r k 0))
   pub inverse : marking.Order n s
-  pub entries : (j : ℕ) → j < n → has (reading.placed (reading.orderOf n s) (rowOf starts columns (getD r k 0))) j ≡ P k j
+  pub entries : (j : ℕ) → j < n → has (placed (orderOf n s) (rowOf starts columns (getD r k 0))) j ≡ P k j
   pub held : found.Held P n k (k + 1) (3 * n) s ustarts runs index
   pub store : found.Stored P n (k + 1) ustarts runs index
 
@@ -225,7 +225,7 @@ LowerKept ByRow n k below starts w l₀ l s₀ s = l ≡ l₀
 
 pub record KeepGiven (f : Form) (n k below : ℕ) (starts : List ℕ) (w l₀ l : List Float) (s₀ s : List ℕ) : Type 0 where
   pub values : LowerKept f n k below starts w l₀ l s₀ s
-  pub same : reading.But (cursorsFrom n) (listFrom n) s₀ s
+  pub same : But (cursorsFrom n) (listFrom n) s₀ s
 
 -- ---- the back steps
 

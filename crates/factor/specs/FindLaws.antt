@@ -127,6 +127,7 @@ module _ {f : Form} {i : Input} {L : Lists} {k : ℕ} {w : Written} (G : Going f
 
   -- what finding lower row k asks
   pub findable : Findable (stored i) (i .n) k (i .starts) (i .columns) (i .r) (L .upper-starts) (L .upper-runs) (L .upper-index) (w .marks)
+  unfolding stored
   findable =
       let g = G .given .settled .structured .readable in
       let b = order-below (i .r) (i .n) (g .row-order) k h in
