@@ -85,7 +85,7 @@ fn analyze_and_solve(
     ensures { λ a. ⌜ ended a (cleared (sizes (rowBuffers (now («upper_starts» .entry)) (now («upper_runs» .entry)) (now («upper_index» .entry)) (now («upper_values» .entry)) (now (d .entry)) (now (x .entry)) (now (work .entry)) (now (marks .entry)))) (now (x .exit)))
         ≡ solvePlaced ByRow (inputOf n (now (starts .entry)) (now (columns .entry)) (now (values .entry)) (now (r .entry)) (now (c .entry)) (now (b .entry))) (rowBuffers (now («upper_starts» .entry)) (now («upper_runs» .entry)) (now («upper_index» .entry)) (now («upper_values» .entry)) (now (d .entry)) (now (x .entry)) (now (work .entry)) (now (marks .entry))) ⌝ }
 {
-    let a = symbolic::find_row(
+    let a = symbolic::analyze_by_row(
         n,
         starts,
         columns,

@@ -113,7 +113,7 @@ fn open_place(
 }
 
 // T(k) goes into the stores in the sharing way, and the cuts for place k + 1 are made.
-fn keep_shared(
+fn share_list(
     n: usize,
     starts: &mut [u32],
     runs: &mut [u32],
@@ -152,7 +152,7 @@ fn keep_shared(
 }
 
 // The same in the plain form.
-fn keep_plain(
+fn append_upper(
     n: usize,
     starts: &mut [u32],
     index: &mut [Index],
@@ -187,7 +187,7 @@ fn keep_plain(
 }
 
 // Lower row k goes into the stores of the plain form.
-fn keep_lower(
+fn append_lower(
     n: usize,
     starts: &mut [u32],
     index: &mut [Index],
@@ -252,7 +252,7 @@ fn place_side(
         return SideEnd::NoDiagonal;
     };
     let cuts = cuts_of(side, n);
-    let put = keep_shared(
+    let put = share_list(
         n,
         side_starts,
         side_runs,
@@ -332,7 +332,7 @@ fn counts_at(g: Progress) -> Counts
 // ---- the plain form
 
 // Place k: 9, 10 and 11 are asked, and its lists are placed.
-fn plain_place(
+fn analyze_place_plain(
     n: usize,
     starts: &[u32],
     columns: &[Index],
@@ -367,7 +367,7 @@ fn plain_place(
     let Opened::Row(row) = opened else {
         return Turned::Stopped(Refusal::NullPivot(k));
     };
-    let low = keep_lower(
+    let low = append_lower(
         n,
         lower_starts,
         lower_index,
@@ -381,7 +381,7 @@ fn plain_place(
         return Turned::Stopped(Refusal::LowerSlots(k));
     };
     let products = add_products(n, upper_starts, marks, row.below, g.products);
-    let up = keep_plain(
+    let up = append_upper(
         n,
         upper_starts,
         upper_index,
@@ -403,7 +403,7 @@ fn plain_place(
 }
 
 // The plain form's structure: lower rows and T(k) one after another, and the counts.
-pub fn find_plain(
+pub fn analyze_plain(
     n: usize,
     starts: &[u32],
     columns: &[Index],
@@ -429,7 +429,7 @@ pub fn find_plain(
     let mut k = 0;
     while k < n {
         let place = Place(k as u32);
-        let turned = plain_place(
+        let turned = analyze_place_plain(
             n,
             starts,
             columns,
@@ -460,7 +460,7 @@ pub fn find_plain(
 // ---- the row form
 
 // Place k: 9 and 11 are asked, T(k) is placed, and the entries of lower row k are counted.
-fn row_place(
+fn analyze_place_by_row(
     n: usize,
     starts: &[u32],
     columns: &[Index],
@@ -515,7 +515,7 @@ fn row_place(
 }
 
 // The row form's structure: T(k) sharing runs, and the counts.
-pub fn find_row(
+pub fn analyze_by_row(
     n: usize,
     starts: &[u32],
     columns: &[Index],
@@ -537,7 +537,7 @@ pub fn find_row(
     let mut k = 0;
     while k < n {
         let place = Place(k as u32);
-        let turned = row_place(
+        let turned = analyze_place_by_row(
             n,
             starts,
             columns,
@@ -566,7 +566,7 @@ pub fn find_row(
 // ---- the shared form
 
 // Place k: 9, 10 and 11 are asked, and the lists of both sides are placed, the lower side's first.
-fn shared_place(
+fn analyze_place_shared(
     n: usize,
     starts: &[u32],
     columns: &[Index],
@@ -643,7 +643,7 @@ fn shared_place(
 }
 
 // The shared form's structure: columns of L and T(k), each side's sharing runs, and the counts.
-pub fn find_shared(
+pub fn analyze_shared(
     n: usize,
     starts: &[u32],
     columns: &[Index],
@@ -671,7 +671,7 @@ pub fn find_shared(
     let mut k = 0;
     while k < n {
         let place = Place(k as u32);
-        let turned = shared_place(
+        let turned = analyze_place_shared(
             n,
             starts,
             columns,

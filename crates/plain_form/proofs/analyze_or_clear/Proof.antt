@@ -9,7 +9,7 @@ use Rattle.plain_form.proofs.analyze_or_clear.Statement.{statement}
 use Rattle.plain_form.proofs.analyze_or_clear.Tie as tie
 
 -- the pass, the branch on its answer, and what the branch clears
-abbrev Passed : tie.After-refuses → tie.After-find-plain
+abbrev Passed : tie.After-refuses → tie.After-analyze-plain
 Passed s = s .before .before .before .before .before .before .before .before .before .before .before
 
 abbrev Branch : tie.After-slice-known14 → tie.Then1
@@ -30,7 +30,7 @@ UpperIndex s = s .before .before
 returns : tie.Need-returns
 returns c =
     let b = Branch c in
-    let p = Passed (b .before) .find-plain in
+    let p = Passed (b .before) .analyze-plain in
     let h = sym (b .before .refuses .ensures) ∙ b .if1 .taken in (
       found-none Plain _ _ _ _ _ _ _ _ _ _ _ _ _ _ _ _ _ (p .ensures) h,
       record {
@@ -40,21 +40,21 @@ returns c =
     )
 
 returns-2 : tie.Need-returns-2
-returns-2 c = (Passed (c .before) .find-plain .ensures, not-unplaced _ _ _ _ _ (sym (c .before .refuses .ensures) ∙ c .if1 .left))
+returns-2 c = (Passed (c .before) .analyze-plain .ensures, not-unplaced _ _ _ _ _ (sym (c .before .refuses .ensures) ∙ c .if1 .left))
 
 pub analyze-or-clear-spec : {M : Type 1} → statement M
 analyze-or-clear-spec =
     tie.close
     (tie.spec (λ c κs. search needs) (λ c κs. search needs) (λ c κs. search needs) (λ c κs. search needs) (λ c κs. search needs) (λ c κs. search needs)
-    (λ c. LowerStarts c .clear-u32 .kept .0 ∙ Passed (Branch c .before) .find-plain .kept .1 .1 .1 .1 .1 .0)
-    (λ c. LowerIndex c .clear-index .kept .0 ∙ Passed (Branch c .before) .find-plain .kept .1 .1 .1 .1 .1 .1 .0)
-    (λ c. UpperStarts c .clear-u322 .kept .0 ∙ Passed (Branch c .before) .find-plain .kept .1 .1 .1 .1 .1 .1 .1 .1 .0)
-    (λ c. UpperIndex c .clear-index2 .kept .0 ∙ Passed (Branch c .before) .find-plain .kept .1 .1 .1 .1 .1 .1 .1 .1 .1 .0)
-    (λ c. Passed (Branch c .before) .find-plain .kept .1 .1 .1 .1 .1 .1 .1 .1 .1 .1 .1 .0)
+    (λ c. LowerStarts c .clear-u32 .kept .0 ∙ Passed (Branch c .before) .analyze-plain .kept .1 .1 .1 .1 .1 .0)
+    (λ c. LowerIndex c .clear-index .kept .0 ∙ Passed (Branch c .before) .analyze-plain .kept .1 .1 .1 .1 .1 .1 .0)
+    (λ c. UpperStarts c .clear-u322 .kept .0 ∙ Passed (Branch c .before) .analyze-plain .kept .1 .1 .1 .1 .1 .1 .1 .1 .0)
+    (λ c. UpperIndex c .clear-index2 .kept .0 ∙ Passed (Branch c .before) .analyze-plain .kept .1 .1 .1 .1 .1 .1 .1 .1 .1 .0)
+    (λ c. Passed (Branch c .before) .analyze-plain .kept .1 .1 .1 .1 .1 .1 .1 .1 .1 .1 .1 .0)
     returns
-    (λ c. Passed (c .before) .find-plain .kept .1 .1 .1 .1 .1 .0)
-    (λ c. Passed (c .before) .find-plain .kept .1 .1 .1 .1 .1 .1 .0)
-    (λ c. Passed (c .before) .find-plain .kept .1 .1 .1 .1 .1 .1 .1 .1 .0)
-    (λ c. Passed (c .before) .find-plain .kept .1 .1 .1 .1 .1 .1 .1 .1 .1 .0)
-    (λ c. Passed (c .before) .find-plain .kept .1 .1 .1 .1 .1 .1 .1 .1 .1 .1 .1 .0)
+    (λ c. Passed (c .before) .analyze-plain .kept .1 .1 .1 .1 .1 .0)
+    (λ c. Passed (c .before) .analyze-plain .kept .1 .1 .1 .1 .1 .1 .0)
+    (λ c. Passed (c .before) .analyze-plain .kept .1 .1 .1 .1 .1 .1 .1 .1 .0)
+    (λ c. Passed (c .before) .analyze-plain .kept .1 .1 .1 .1 .1 .1 .1 .1 .1 .0)
+    (λ c. Passed (c .before) .analyze-plain .kept .1 .1 .1 .1 .1 .1 .1 .1 .1 .1 .1 .0)
     returns-2)

@@ -8,8 +8,8 @@ use mathlib.Core.List.{List}
 use Prim.Native.Nat.{ℕ, _+_}
 use native.Mathlib.Omega.{arith}
 use borrow.Author.Needs.{needs}
-use Rattle.symbolic.proofs.keep_plain.Statement.{statement}
-use Rattle.symbolic.proofs.keep_plain.Tie as tie
+use Rattle.symbolic.proofs.append_upper.Statement.{statement}
+use Rattle.symbolic.proofs.append_upper.Tie as tie
 use Rattle.base.specs.Scratch.{upperCuts}
 
 abbrev Begin : tie.After-append-list → tie.Start
@@ -64,8 +64,8 @@ returns-2 c =
     let p = c .before .before .before .before .before .before in
     λ P store t h. stepped-full _ _ _ _ _ _ _ _ _ _ (c .enum-told .given .1) (step p P store t h)
 
-pub keep-plain-spec : {M : Type 1} → statement M
-keep-plain-spec =
+pub append-upper-spec : {M : Type 1} → statement M
+append-upper-spec =
     tie.close
     (tie.spec (λ c. search needs) add-mid add-end mul-append-list (λ c. search needs) (λ c. search needs) part-append-list-end append-list-requires
     (λ c. search needs) (λ c. search needs) renew-cuts-requires (λ c. search needs) (λ c. search needs) (λ c. search needs) (λ c. search needs)

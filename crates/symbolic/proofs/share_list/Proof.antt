@@ -8,8 +8,8 @@ use mathlib.Core.List.{List}
 use Prim.Native.Nat.{ℕ}
 use native.Mathlib.Omega.{arith}
 use borrow.Author.Needs.{needs}
-use Rattle.symbolic.proofs.keep_shared.Statement.{statement}
-use Rattle.symbolic.proofs.keep_shared.Tie as tie
+use Rattle.symbolic.proofs.share_list.Statement.{statement}
+use Rattle.symbolic.proofs.share_list.Tie as tie
 
 abbrev Begin : tie.After-place-list → tie.Start
 Begin p = p .before .before .before .before .before .before .before .before .before .before .before .before .before
@@ -68,8 +68,8 @@ returns-2 c =
     let p = c .before .before .before .before .before .before .before .before in
     λ P store t h. stepped-full _ _ _ _ _ _ _ _ _ _ (c .enum-told .given .1) (step p P store t h)
 
-pub keep-shared-spec : {M : Type 1} → statement M
-keep-shared-spec =
+pub share-list-spec : {M : Type 1} → statement M
+share-list-spec =
     tie.close
     (tie.spec (λ c. search needs) add-mid add-end (λ c. search needs) (λ c. search needs) (λ c. search needs) part-place-list-end mul-place-list-2 (λ c. search needs)
     (λ c. search needs) part-place-list-end-2 place-list-requires (λ c. search needs) renew-cuts-requires (λ c. search needs)
