@@ -159,7 +159,16 @@ fn find_lower(
     let cuts = scratch::UPPER_CUTS * n;
     marks::load_row_place(marks, n, stamp, k, starts, columns, r);
     let below = marks::close_place(marks, n, stamp, k, cuts, upper_runs, upper_index);
-    marks::renew_cuts(marks, n, k, below, cuts, upper_starts, upper_runs, upper_index);
+    marks::renew_cuts(
+        marks,
+        n,
+        k,
+        below,
+        cuts,
+        upper_starts,
+        upper_runs,
+        upper_index,
+    );
     below
 }
 

@@ -288,7 +288,14 @@ fn look_for(
 }
 
 // What place k's list lacks goes after the used slots, and its values end where list start k + 1 says.
-fn write_list(starts: &mut [u32], index: &mut [Index], list: &[u32], k: Place, s: Extent, have: usize)
+fn write_list(
+    starts: &mut [u32],
+    index: &mut [Index],
+    list: &[u32],
+    k: Place,
+    s: Extent,
+    have: usize,
+)
     requires { ⌜ Writable (now starts) (now index) (now list) (k .0) s have ⌝ }
     ensures { λ _. ⌜ WrittenBy (now (starts .entry)) (now (index .entry)) (now (list .entry)) (k .0) s have (now (starts .exit)) (now (index .exit)) ⌝ }
 {
