@@ -7,7 +7,7 @@ use lib.ListN.{getD, set, replicate}
 use lib.Ieee.{Float, nan, binary64, sub, mul, div}
 use lib.Ieee.Scale.{finite}
 use Rattle.base.specs.Lists.{nought}
-use Rattle.arithmetic.specs.Arith.{Fault, zeroPivot, overflow, Out, ok, met, vanishes, one, System, Row, Given, given, Work, Result}
+use Rattle.arithmetic.specs.Arith.{zeroPivot, overflow, Out, ok, met, vanishes, one, System, Row, Given, given, Work, Result}
 use Rattle.arithmetic.specs.Again.{Factors, givenBy}
 
 infixl 20 _>>=_

@@ -1,5 +1,5 @@
 -- The elimination that stops at its first fault answers as the whole run judged does.
-use mathlib.Core.Path.{_≡_, refl, sym, ap, _∙_}
+use mathlib.Core.Path.{_≡_, refl, ap, _∙_}
 use Prim.Native.Nat.{ℕ, zero, suc}
 use mathlib.Core.Bool.{Bool, true, false, not, cond}
 use mathlib.Core.List.{List, [], _∷_, _++_}
@@ -7,7 +7,7 @@ use lib.ListN.{getD, set, replicate}
 use lib.Ieee.{Float, nan, binary64, sub, mul, div}
 use lib.Ieee.Scale.{finite}
 use Rattle.base.specs.Lists.{nought, pairs}
-use Rattle.arithmetic.specs.Arith.{Event, Run, give, _▸_, op, asked, overflow, bad, fault, Out, ok, met, firstBad, judged, one, System, Row, Given, given, Work, Result, lessRun, loadRun, step1, subtractRun, stepRun, step2, scaledRun, step3, rowRun, forwardRun, restRun, backRun, wholeRun}
+use Rattle.arithmetic.specs.Arith.{Event, Run, give, _▸_, op, asked, overflow, bad, fault, Out, ok, met, firstBad, judged, one, System, Row, Given, given, Work, lessRun, loadRun, step1, subtractRun, stepRun, step2, scaledRun, step3, rowRun, forwardRun, restRun, backRun, wholeRun}
 use Rattle.arithmetic.specs.Again.{Factors, givenBy, yRun, againRun, wholeAgain}
 use Rattle.arithmetic.specs.Stopping.{_>>=_, at, pivot, less, load, start, subtract, stepAt, steps, scaled, finish, row, forward, rest, back, solved, sumLess, yAt, again, solvedAgain}
 

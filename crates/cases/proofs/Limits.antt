@@ -16,12 +16,12 @@ use Rattle.base.specs.Limits.{maxEntries, rowsWithin}
 use Rattle.matrix.specs.Input.{Input, stored}
 use Rattle.matrix.specs.Shape.{shapeOf}
 use Rattle.matrix.specs.Questions.{askStructure, askSolve, askRight}
-use Rattle.arithmetic.specs.Again.{solvedAgain}
-use Rattle.arithmetic.specs.Arith.{Fault, zeroPivot, overflow, Out, ok, met, Result}
+use Rattle.arithmetic.specs.Again.{wholeAgain}
+use Rattle.arithmetic.specs.Arith.{Fault, zeroPivot, overflow, Out, ok, met, judged, Result}
 use Rattle.blocks.specs.Blocks.{askBlocks, wholeBlocks, firstWrong}
 use Rattle.matrix_file.specs.MatrixFile.{nOf, eOf, fitsShape, fileLength, lengthsRight, listsRight, askHead, askFile, shaped, opened, askRead, askLengths, askWrite, left, outcome, Lists, readOutcome, writeOutcome}
 use Rattle.lookup.specs.Lookup as lookup
-use Rattle.lookup.specs.LookupLaws.{both-no, both-yes, span-unfit, part-is}
+use Rattle.lookup.specs.LookupLaws.{sized-no, span-unfit, part-is}
 use Rattle.outcome.specs.Buffers.{Buffers, sizes, askShape, Outcome, ended, stop}
 use Rattle.outcome.specs.Structure.{askPlaces, structure}
 use Rattle.outcome.specs.Solve.{faultOf, listed, concluded, shape, solve}
@@ -74,13 +74,15 @@ made-1 n e o = rw o
 declined : {A : Type 0} (a : Asked) (new old : A) (q : Refusal) → a ≡ Stop q → outcome a new old ≡ left (Declined q) old
 declined a new old q e = rw e
 
-span-1 : (side : Side) (k : Place) (n extra : ℕ) (l u : lookup.Lists) → rowsWithin n ≡ false → lookup.spanIn side k n extra l u ≡ lookup.spanFrom 0 0
-unfolding lookup.spanIn
-span-1 side k n extra l u o = sym (span-unfit _ k n _ _ _ (sym (both-no n extra _ _ _ _ _ _ o)))
+span-1 : (f : Form) (side : Side) (k : Place) (n : ℕ) (l u : lookup.SideLists) → rowsWithin n ≡ false → lookup.spanIn f side k n l u ≡ lookup.spanFrom 0 0
+unfolding lookup.spanIn lookup.bothFit
+span-1 f side k n l u o =
+    let s = lookup.ofSide side l u in
+    sym (span-unfit (lookup.sized f n l && lookup.sized f n u) k n (s .starts) (s .runs) (s .index) (rw (← sized-no f n l o)))
 
-none-1 : (side : Side) (k : Place) (n extra : ℕ) (l u : lookup.Lists) → rowsWithin n ≡ false → lookup.lookup side k n extra l u ≡ []
+none-1 : (f : Form) (side : Side) (k : Place) (n : ℕ) (l u : lookup.SideLists) → rowsWithin n ≡ false → lookup.lookup f side k n l u ≡ []
 unfolding lookup.lookup lookup.within
-none-1 side k n extra l u o = rw (span-1 side k n extra l u o)
+none-1 f side k n l u o = rw (span-1 f side k n l u o)
 
 module _ (n : ℕ) (o : rowsWithin n ≡ false) where
   out : (m : ℕ) → m ≡ n → rowsWithin m ≡ false
@@ -98,7 +100,7 @@ module _ (n : ℕ) (o : rowsWithin n ≡ false) where
         opens = λ file p e. ap (λ (a : Asked). shaped a (record { rows = nOf file; entries = eOf file })) (file-1 file p (out (nOf file) e));
         reads = λ file l p e. declined (askRead file l) _ l Rows (read-1 file l (file-1 file p (out (nOf file) e)));
         writes = λ i file e. declined (askWrite i (length file)) _ file Rows (write-1 i (length file) (out (i .n) e));
-        looks = λ side k extra l u. (span-1 side k n extra l u o, none-1 side k n extra l u o);
+        looks = λ f side k l u. (span-1 f side k n l u o, none-1 f side k n l u o);
       }
 
 -- ---- an n that passes
@@ -165,15 +167,12 @@ unfolding Within
 not-left Pass new old w e = omega arith
 not-left (Stop q) new old w e = omega (arith, w q refl)
 
-looked : (side : Side) (k : Place) (n extra : ℕ) (l u : lookup.Lists) → rowsWithin n ≡ true
-    → lookup.sized n extra (length (l .starts)) (length (l .runs)) (length (l .index)) ≡ true
-    → lookup.sized n extra (length (u .starts)) (length (u .runs)) (length (u .index)) ≡ true
-    → k .0 < n → (o : lookup.Lists) → o ≡ lookup.ofSide side l u → getD (o .starts) (k .0) 0 ≤ getD (o .starts) (k .0 + 1) 0
+looked : (f : Form) (side : Side) (k : Place) (n : ℕ) (l u : lookup.SideLists) → lookup.sized f n l ≡ true → lookup.sized f n u ≡ true
+    → k .0 < n → (o : lookup.SideLists) → o ≡ lookup.ofSide side l u → getD (o .starts) (k .0) 0 ≤ getD (o .starts) (k .0 + 1) 0
     → getD (o .runs) (k .0) 0 + (getD (o .starts) (k .0 + 1) 0 - getD (o .starts) (k .0) 0) ≤ length (o .index)
-    → lookup.lookup side k n extra l u ≡ listAt (o .index) (o .runs) (o .starts) (k .0)
-unfolding lookup.lookup lookup.spanIn
-looked side k n extra l u r a b h o e f g =
-    rw (← both-yes n extra _ _ _ _ _ _ true true r (sym a) (sym b), ← e) (part-is k n (o .starts) (o .runs) (o .index) h f g)
+    → lookup.lookup f side k n l u ≡ listAt (o .starts) (o .runs) (o .index) (k .0)
+unfolding lookup.lookup lookup.spanIn lookup.bothFit
+looked f side k n l u a b h o e d g = rw (a, b, ← e) (part-is k n (o .starts) (o .runs) (o .index) h d g)
 
 fault-not : (q : Fault) → numberOf (faultOf q) ≡ 1 → ⊥
 fault-not (zeroPivot k) e = omega arith
@@ -221,7 +220,7 @@ module _ (f : Form) (i : Input) (s : Buffers) where
 
     resolve-not : numberOfEnd (resolve f i s .answer) ≡ 1 → ⊥
     unfolding resolve
-    resolve-not = never numberOfEnd Declined (λ q. refl) _ (askRight (i .n) (i .r) (i .c) (i .b)) _ _ _ _ _ (shape-later (i .n) _ o) (later 5 6 _ (omega arith) (omega arith) (right-within (i .n) (i .r) (i .c) (i .b))) factored (resolved-not (solvedAgain (factorsOf f i s)))
+    resolve-not = never numberOfEnd Declined (λ q. refl) _ (askRight (i .n) (i .r) (i .c) (i .b)) _ _ _ _ _ (shape-later (i .n) _ o) (later 5 6 _ (omega arith) (omega arith) (right-within (i .n) (i .r) (i .c) (i .b))) factored (resolved-not (judged (wholeAgain (factorsOf f i s))))
 
 module _ (n : ℕ) (o : rowsWithin n ≡ true) where
   in-limits : (m : ℕ) → m ≡ n → rowsWithin m ≡ true
@@ -239,5 +238,5 @@ module _ (n : ℕ) (o : rowsWithin n ≡ true) where
         opens = λ file e. not-shaped (askFile file) _ (file-later file (in-limits (nOf file) e));
         reads = λ file l e. not-left (askRead file l) _ l (read-later file l (in-limits (nOf file) e));
         writes = λ i file e. not-left (askWrite i (length file)) _ file (write-later i (length file) (in-limits (i .n) e));
-        looks = λ side k extra l u. looked side k n extra l u o;
+        looks = λ f side k l u. looked f side k n l u;
       }

@@ -40,7 +40,7 @@ pub record Refuses (n : ℕ) : Type 0 where
   pub reads : (file : List ℕ) (l : Lists) → askBlocks file ≡ Pass → nOf file ≡ n → readOutcome file l ≡ left (Declined Rows) l
   pub writes : (i : Input) (file : List ℕ) → i .n ≡ n → writeOutcome i file ≡ left (Declined Rows) file
   -- "the empty part at that store's start"
-  pub looks : (side : Side) (k : Place) (extra : ℕ) (l u : lookup.Lists) → (lookup.spanIn side k n extra l u ≡ lookup.spanFrom 0 0) × (lookup.lookup side k n extra l u ≡ [])
+  pub looks : (f : Form) (side : Side) (k : Place) (l u : lookup.SideLists) → (lookup.spanIn f side k n l u ≡ lookup.spanFrom 0 0) × (lookup.lookup f side k n l u ≡ [])
 
 -- no call refuses this n with 1
 pub record Passes (n : ℕ) : Type 0 where
@@ -53,12 +53,10 @@ pub record Passes (n : ℕ) : Type 0 where
   pub reads : (file : List ℕ) (l : Lists) → nOf file ≡ n → numberOfEnd (readOutcome file l .answer) ≡ 1 → ⊥
   pub writes : (i : Input) (file : List ℕ) → i .n ≡ n → numberOfEnd (writeOutcome i file .answer) ≡ 1 → ⊥
   -- with fitting lengths, a list within its store is handed back
-  pub looks : (side : Side) (k : Place) (extra : ℕ) (l u : lookup.Lists)
-      → lookup.sized n extra (length (l .starts)) (length (l .runs)) (length (l .index)) ≡ true
-      → lookup.sized n extra (length (u .starts)) (length (u .runs)) (length (u .index)) ≡ true
-      → k .0 < n → (o : lookup.Lists) → o ≡ lookup.ofSide side l u → getD (o .starts) (k .0) 0 ≤ getD (o .starts) (k .0 + 1) 0
+  pub looks : (f : Form) (side : Side) (k : Place) (l u : lookup.SideLists) → lookup.sized f n l ≡ true → lookup.sized f n u ≡ true
+      → k .0 < n → (o : lookup.SideLists) → o ≡ lookup.ofSide side l u → getD (o .starts) (k .0) 0 ≤ getD (o .starts) (k .0 + 1) 0
       → getD (o .runs) (k .0) 0 + (getD (o .starts) (k .0 + 1) 0 - getD (o .starts) (k .0) 0) ≤ length (o .index)
-      → lookup.lookup side k n extra l u ≡ listAt (o .index) (o .runs) (o .starts) (k .0)
+      → lookup.lookup f side k n l u ≡ listAt (o .starts) (o .runs) (o .index) (k .0)
 
 pub record Boundary : Type 0 where
   -- every entry of the table comes out as expected, over buffers that held anything

@@ -13,7 +13,7 @@ use lib.Dec.{eqb}
 use borrow.Author.Tests.{eq-eqb, ne-eqb}
 use Rattle.base.specs.Lists.{sum, bit}
 use Rattle.base.specs.AscLaws.{sum-ext}
-use Rattle.marks.specs.Marks.{Below}
+use Rattle.lent.specs.Reading.{Below}
 use Rattle.columns.specs.Columns.{consIf, hits, bare, column, Grown, lengthAt, held}
 
 -- ---- one entry after another

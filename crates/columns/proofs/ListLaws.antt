@@ -1,7 +1,7 @@
 -- Laws of the linked lists: frames, the pushing of a node, the stamping of a list.
 use mathlib.Core.Path.{_≡_, refl, sym, ap, _∙_}
 use mathlib.Core.List.{List, [], _∷_}
-use Prim.Native.Nat.{ℕ, suc, _+_, _-_, _*_, _<_, _≤_}
+use Prim.Native.Nat.{ℕ, suc, _+_, _-_, _<_, _≤_}
 use native.Mathlib.Omega.{arith}
 use native.Mathlib.Numerals.{add-one}
 use native.Mathlib.Decide.{ℕ-discrete}
@@ -10,13 +10,14 @@ use lib.Seq.{getD-set-other, getD-set-same}
 use borrow.Author.Tests.{eq-eqb, ne-eqb}
 use Rattle.marks.specs.Marks.{Room, markAt, stamped}
 use Rattle.columns.specs.Columns.{Kept, Steady, hits, Chain, none, node, HasChain, Lists, Listed, Roomy, pushAt, Offered}
-use Rattle.columns.proofs.Keeps.{same, then, stored, unmarked-mark, stamped-cons, stamped-none}
+use Rattle.marks.specs.MarkLaws.{unmarked-mark}
+use Rattle.lent.specs.ReadingLaws.{same, then, stored}
 use Rattle.columns.proofs.ColumnLaws.{hits-there, hits-more, hits-part, grown-start, grown-more, grown-end, held-one, held-ext, held-at-most}
 use Rattle.base.specs.Scratch.{headsFrom, nodesFrom}
 
 -- ---- frames
 
-pub chain-frame : {n : ℕ} {s u : List ℕ} {h : ℕ} {l : List ℕ} → ((x : ℕ) → nodesFrom n ≤ x → x < nodesFrom n + (h + h) → getD u x 0 ≡ getD s x 0)
+chain-frame : {n : ℕ} {s u : List ℕ} {h : ℕ} {l : List ℕ} → ((x : ℕ) → nodesFrom n ≤ x → x < nodesFrom n + (h + h) → getD u x 0 ≡ getD s x 0)
     → Chain n s h l → Chain n u h l
 chain-frame k none = none
 chain-frame {n} k (node {q} {h} lo le ei eh c) =
@@ -68,13 +69,13 @@ module _ (n p i j : ℕ) (s : List ℕ) (sp : Room n s) (hj : j < n) (hp : p < n
   push-chain : {h : ℕ} {l : List ℕ} → h ≤ p → Chain n s h l → Chain n (pushAt n p i j s) h l
   push-chain h c = chain-frame (λ x a b. push-other n p i j x s (omega arith) (omega arith) (omega arith)) c
 
-  pub push-kept : (lo hi : ℕ) → lo ≤ j → j < hi → Kept n lo hi s (pushAt n p i j s)
+  push-kept : (lo hi : ℕ) → lo ≤ j → j < hi → Kept n lo hi s (pushAt n p i j s)
   push-kept lo hi a b =
       then (stored s (nodesFrom n + (p + p)) i (λ y x q e. omega (arith, q (omega arith))))
       (then (stored (set s (nodesFrom n + (p + p)) i) (nodesFrom n + (p + p) + 1) (getD s (headsFrom n + j) 0) (λ y x q e. omega (arith, q (omega arith))))
       (stored (set (set s (nodesFrom n + (p + p)) i) (nodesFrom n + (p + p) + 1) (getD s (headsFrom n + j) 0)) (headsFrom n + j) (p + 1) (λ y x q e. omega (arith, x (omega arith)))))
 
-  pub push-lists : (lo hi : ℕ) (f : ℕ → List ℕ) → i < n → lo ≤ j → j < hi → hi ≤ n → Lists n lo hi s p f → Lists n lo hi (pushAt n p i j s) (p + 1) (hits i (j ∷ []) f)
+  push-lists : (lo hi : ℕ) (f : ℕ → List ℕ) → i < n → lo ≤ j → j < hi → hi ≤ n → Lists n lo hi s p f → Lists n lo hi (pushAt n p i j s) (p + 1) (hits i (j ∷ []) f)
   unfolding hits
   push-lists lo hi f hi′ hl hh hn l = record { chain = λ x a b. chain-at x a b (ℕ-discrete j x); heads = λ x a b. head-at x a b (ℕ-discrete j x) }
     where
@@ -169,6 +170,14 @@ pub record Left (n t h : ℕ) (s e : List ℕ) : Type 0 where
   pub rest : List ℕ
   pub chain : Chain n s h rest
   pub same : stamped n t s rest ≡ e
+
+stamped-cons : (n t j : ℕ) (s l : List ℕ) → stamped n t s (j ∷ l) ≡ stamped n t (markAt n t s j) l
+unfolding stamped
+stamped-cons n t j s l = refl
+
+stamped-none : (n t : ℕ) (s : List ℕ) → stamped n t s [] ≡ s
+unfolding stamped
+stamped-none n t s = refl
 
 left-more : (n t h i g : ℕ) (s u e : List ℕ) → 0 < h → h ≤ n → i ≡ getD s (nodesFrom n + (h - 1 + (h - 1))) 0
     → g ≡ getD s (nodesFrom n + (h - 1 + (h - 1)) + 1) 0 → u ≡ markAt n t s i → Left n t h s e → Left n t g u e

@@ -4,14 +4,16 @@ use mathlib.Core.List.{List}
 use Prim.Native.Nat.{ℕ, _<_}
 use Rattle.base.specs.declared.Side.{Side}
 use Rattle.base.specs.declared.Side.the-variants.{Lower, Upper}
-use Rattle.matrix.specs.Input.{Input}
-use Rattle.marks.specs.Marks.{Below, stamped}
-use Rattle.columns.specs.Columns.{orderOf, Kept, Unmarked, Untouched, Given, rowsOf, Started, Ready, Loaded}
+use Rattle.marks.specs.MarkLaws.{order-unmarked, below-placed, unmarked-stamped}
+use Rattle.lent.specs.ReadingLaws.{same}
+use Rattle.lent.specs.Reading.{Below, orderOf}
+use Rattle.marks.specs.Marks.{stamped, Unmarked}
+use Rattle.columns.specs.Columns.{Kept, Untouched, Given, rowsOf, Ready, Loaded}
 use Rattle.base.specs.Lists.{rowOf}
 use lib.ListN.{getD}
 use native.Mathlib.Omega.{arith}
-use Rattle.columns.specs.Sides.{sideRow, SideReady, SideLoaded, Inverse}
-use Rattle.columns.proofs.Keeps.{same, order-kept, order-unmarked, given-kept, below-placed, unmarked-stamped}
+use Rattle.columns.specs.Sides.{sideRow, SideReady, SideLoaded}
+use Rattle.columns.proofs.Keeps.{order-kept}
 use Rattle.columns.proofs.ColumnLaws.{below-column}
 
 -- what a side is due, once it is known which it is
@@ -29,34 +31,23 @@ pub side-marks : (side : Side) (n t k hi₀ hi : ℕ) (R : ℕ → List ℕ) (s�
 side-marks Lower n t k hi₀ hi R s₀ s l = l .marks
 side-marks Upper n t k hi₀ hi R s₀ s l = rw (l .0) (same (stamped n t s₀ (R k)))
 
-pub side-below : (side : Side) (n k : ℕ) (columns starts r s : List ℕ) → Given n columns starts r s → k < n → Below n (sideRow side (rowsOf (orderOf n s) columns starts r) n k)
+pub side-below : (side : Side) (n k : ℕ) (starts columns r s : List ℕ) → Given n starts columns r s → k < n → Below n (sideRow side (rowsOf (orderOf n s) starts columns r) n k)
 unfolding rowsOf
-side-below Lower n k columns starts r s g h = below-column n (rowsOf (orderOf n s) columns starts r) n k (omega arith)
-side-below Upper n k columns starts r s g h = below-placed n s (rowOf starts columns (getD r k 0)) (g .order) (g .below k h)
+side-below Lower n k starts columns r s g h = below-column n (rowsOf (orderOf n s) starts columns r) n k (omega arith)
+side-below Upper n k starts columns r s g h = below-placed n s (rowOf starts columns (getD r k 0)) (g .order) (g .below k h)
 
 -- ---- what a load leaves to others
 
-pub inverse-kept : (i : Input) {s u : List ℕ} → orderOf (i .n) u ≡ orderOf (i .n) s → Inverse i s → Inverse i u
-inverse-kept i e v = record { place = rw e (v .place) }
-
-pub started-untouched : {n : ℕ} {R : ℕ → List ℕ} {s₀ s : List ℕ} → Started n R s₀ s → Untouched n 0 s₀ s
-started-untouched {n} b = record {
-  size = b .kept .size;
-  order = order-kept n 0 n (b .kept);
-  cuts = λ x h g. b .kept .slots x (λ a. omega arith) (λ a. omega arith);
-  list = λ x h g. b .kept .slots x (λ a. omega arith) (λ a. omega arith);
-}
-
-module _ (side : Side) (n t k hi₀ hi : ℕ) (columns starts r s₀ s : List ℕ) (given : Given n columns starts r s₀) (place : k < n)
-    (loaded : SideLoaded side n t k hi₀ hi (rowsOf (orderOf n s₀) columns starts r) s₀ s) where
+module _ (side : Side) (n t k hi₀ hi : ℕ) (starts columns r s₀ s : List ℕ) (given : Given n starts columns r s₀) (place : k < n)
+    (loaded : SideLoaded side n t k hi₀ hi (rowsOf (orderOf n s₀) starts columns r) s₀ s) where
   abbrev list : List ℕ
-  list = sideRow side (rowsOf (orderOf n s₀) columns starts r) n k
+  list = sideRow side (rowsOf (orderOf n s₀) starts columns r) n k
 
   marks : Kept n k n (stamped n t s₀ list) s
-  marks = side-marks side n t k hi₀ hi (rowsOf (orderOf n s₀) columns starts r) s₀ s loaded
+  marks = side-marks side n t k hi₀ hi (rowsOf (orderOf n s₀) starts columns r) s₀ s loaded
 
   others : Unmarked n s₀ (stamped n t s₀ list)
-  others = unmarked-stamped n t s₀ list (side-below side n k columns starts r s₀ given place)
+  others = unmarked-stamped n t s₀ list (side-below side n k starts columns r s₀ given place)
 
   pub side-untouched : Untouched n k s₀ s
   side-untouched = record {
@@ -65,7 +56,3 @@ module _ (side : Side) (n t k hi₀ hi : ℕ) (columns starts r s₀ s : List �
     cuts = λ x a b. marks .slots x (λ v. omega arith) (λ v. omega arith) ∙ others .slots x (λ v. omega arith) (λ v. omega arith);
     list = λ x a b. marks .slots x (λ v. omega arith) (λ v. omega arith) ∙ others .slots x (λ v. omega arith) (λ v. omega arith);
   }
-
-  -- the next load can follow
-  pub side-given : Given n columns starts r s
-  side-given = given-kept (side-untouched .size) (side-untouched .order) given

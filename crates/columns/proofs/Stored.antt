@@ -1,26 +1,27 @@
 -- The lists are those of M': a row of places is a row of `stored`, a column of rows is one of its columns.
 use mathlib.Core.Path.{_≡_, refl, sym, ap, ap₂, _∙_}
 use mathlib.Core.Bool.{Bool, true, false, _&&_, _||_, or-false}
-use mathlib.Core.List.{List, [], _∷_}
+use mathlib.Core.List.{List, [], _∷_, map}
 use Prim.Native.Nat.{ℕ, zero, suc, _+_, _-_, _*_, _<_, _≤_, _/_}
 use native.Mathlib.Omega.{arith}
 use native.Mathlib.Decide.{ℕ-discrete, decLt}
-use lib.ListN.{length, getD, take, drop, set, length-set, length-take, length-drop}
-use lib.Seq.{getD-take, getD-drop, getD-set-same, getD-set-other}
+use lib.ListN.{length, getD, take, drop, length-take, length-drop}
+use lib.Seq.{getD-take, getD-drop}
 use lib.Dec.{eqb, ltb}
 use borrow.Author.Tests.{eq-eqb, ne-eqb, lt-ltb, le-ltb}
 use Rattle.base.specs.Lists.{has, rowOf, listAt, bit}
 use Rattle.base.specs.declared.Side.{Side}
 use Rattle.base.specs.declared.Side.the-variants.{Lower, Upper}
+use Rattle.lent.specs.Reading.{Below, orderOf, placed}
+use Rattle.lent.specs.ReadingLaws.{placed-length, placed-at}
 use Rattle.matrix.specs.Input.{Input, ic, stored}
 use Rattle.matrix.specs.OrderLaws.{order-below, place-of, place-hits}
-use Rattle.marks.specs.Marks.{Room, Below, markAt, stamped, Blocks, Fresh}
-use Rattle.columns.specs.Columns.{orderOf, Given, placed, rowsOf, consIf, hits, bare, column}
+use Rattle.marks.specs.Marks.{Room, stamped, Fresh, Holds}
+use Rattle.marks.specs.MarkLaws.{holds-kept, holds-same, holds-list}
+use Rattle.columns.specs.Columns.{Given, rowsOf, consIf, hits, bare, column}
 use Rattle.columns.specs.Sides.{sidePattern, sideRow, SideLoaded, Distinct, Inverse, Sound, rowsIn}
-use Rattle.columns.proofs.Keeps.{placed-at, placed-length, stamped-keeps, space-kept}
 use Rattle.columns.proofs.ColumnLaws.{hits-bit, hits-none, column-zero, column-suc, bare-length}
 use Rattle.columns.proofs.SideLaws.{side-marks, side-below}
-use Rattle.base.specs.Scratch.{blocksFrom, upperCuts, regionsEnd}
 
 -- ---- a column's members
 
@@ -58,7 +59,7 @@ row-joins R m k j = go (ℕ-discrete m j) (decLt j m)
     go (no q) (no d) = rw (ne-eqb m j q, le-ltb j m (omega arith), le-ltb j (suc m) (omega arith)) (other (has (R m) k) false (has (R j) k))
 
 -- a row is in column k exactly if it has an entry there
-pub has-column : (R : ℕ → List ℕ) (n k j : ℕ) → has (column R n k) j ≡ (ltb j n && has (R j) k)
+has-column : (R : ℕ → List ℕ) (n k j : ℕ) → has (column R n k) j ≡ (ltb j n && has (R j) k)
 unfolding column bare has
 has-column R zero k j = rw (le-ltb j 0 (omega arith))
 has-column R (suc m) k j = has-hits m (R m) (column R m) k j ∙ ap (λ v. (has (R m) k && eqb m j) || v) (has-column R m k j) ∙ row-joins R m k j
@@ -94,15 +95,10 @@ part-below n a s j h t l =
     let c = rw (length-take, length-drop) at b in
     rw (getD-take (getD s (a + 1) 0 - getD s a 0) (drop (getD s a 0) j) t 0 (omega arith), getD-drop) (h (getD s a 0 + t) (omega arith))
 
-has-placed : (order xs : List ℕ) (c p : ℕ) → getD order c 0 ≡ p → ((t : ℕ) → t < length xs → getD order (getD xs t 0) 0 ≡ p → getD xs t 0 ≡ c)
-    → has (placed order xs) p ≡ has xs c
-unfolding has placed
-has-placed order [] c p e h = refl
-has-placed order (x ∷ xs) c p e h = ap₂ (λ a b. a || b) (at (ℕ-discrete x c)) (has-placed order xs c p e (λ t k. h (suc t) (omega arith)))
-  where
-    at : Dec (x ≡ c) → eqb (getD order x 0) p ≡ eqb x c
-    at (yes u) = eq-eqb (getD order x 0) p (ap (λ v. getD order v 0) u ∙ e) ∙ sym (eq-eqb x c u)
-    at (no u) = ne-eqb (getD order x 0) p (λ v. u (h zero (omega arith) v)) ∙ sym (ne-eqb x c u)
+placed-is : (order xs : List ℕ) (n : ℕ) (f : ℕ → ℕ) → ((j : ℕ) → j < n → getD order j 0 ≡ f j) → Below n xs → placed order xs ≡ map f xs
+unfolding placed
+placed-is order [] n f e b = refl
+placed-is order (x ∷ xs) n f e b = rw (e x (b 0 (omega arith)), placed-is order xs n f e (λ p h. b (suc p) (omega arith)))
 
 module _ (i : Input) (s : List ℕ) (sound : Sound i) (inverse : Inverse i s) where
   back : (c p : ℕ) → c < i .n → getD (orderOf (i .n) s) c 0 ≡ p → c ≡ getD (i .c) p 0
@@ -112,13 +108,9 @@ module _ (i : Input) (s : List ℕ) (sound : Sound i) (inverse : Inverse i s) wh
   row-under k = part-below (i .n) (getD (i .r) k 0) (i .starts) (i .columns) (sound .columns-below)
 
   -- row k of M'
-  pub row-stored : (k p : ℕ) → p < i .n → has (rowsIn i s k) p ≡ stored i k p
+  row-stored : (k p : ℕ) → has (rowsIn i s k) p ≡ stored i k p
   unfolding stored rowsOf
-  row-stored k p h =
-      let c = getD (i .c) p 0 in
-      has-placed (orderOf (i .n) s) (rowOf (i .starts) (i .columns) (getD (i .r) k 0)) c p
-      (inverse .place c (order-below (i .c) (i .n) (sound .column-order) p h) ∙ place-of (i .c) (i .n) (sound .column-order) p h)
-      (λ t b e. back (getD (rowOf (i .starts) (i .columns) (getD (i .r) k 0)) t 0) p (row-under k t b) e)
+  row-stored k p = ap (λ l. has l p) (placed-is (orderOf (i .n) s) (rowOf (i .starts) (i .columns) (getD (i .r) k 0)) (i .n) (ic (i .c) (i .n)) (inverse .place) (row-under k))
 
   row-distinct : (k : ℕ) → k < i .n → Distinct (rowsIn i s k)
   unfolding rowsOf
@@ -135,84 +127,37 @@ module _ (i : Input) (s : List ℕ) (sound : Sound i) (inverse : Inverse i s) wh
       }
 
   -- the questions and the inverse order settle what the columns need
-  pub given-sound : Room (i .n) s → Given (i .n) (i .columns) (i .starts) (i .r) s
+  pub given-sound : Room (i .n) s → Given (i .n) (i .starts) (i .columns) (i .r) s
   given-sound sp = record {
     space = sp;
     order = λ c h. omega (arith, inverse .place c h, place-hits (i .c) (i .n) (sound .column-order) c h .0);
     long = omega (arith, sound .order-long);
     read = λ k h.
         let b = order-below (i .r) (i .n) (sound .row-order) k h in
-        record { has-end = omega (arith, sound .starts-long); rise = sound .rise (getD (i .r) k 0) b; inside = sound .within (getD (i .r) k 0) b };
+        let up = sound .rise (getD (i .r) k 0) b in
+        record {
+          has-run = omega (arith, sound .starts-long);
+          has-start = omega (arith, sound .starts-long);
+          rise = up;
+          inside = omega (arith, sound .within (getD (i .r) k 0) b);
+        };
     below = λ k h. row-under k;
     few = λ j. column-few (rowsIn i s) (i .n) j row-distinct;
   }
 
   -- what a side loads is row k of the side's pattern
-  pub side-stored : (side : Side) (k j : ℕ) → k < i .n → j < i .n
+  side-stored : (side : Side) (k j : ℕ) → k < i .n → j < i .n
       → has (sideRow side (rowsIn i s) (i .n) k) j ≡ sidePattern side (stored i) k j
-  side-stored Upper k j h g = row-stored k j g
-  side-stored Lower k j h g = has-column (rowsIn i s) (i .n) k j ∙ rw (lt-ltb j (i .n) g) (row-stored j k h)
+  side-stored Upper k j h g = row-stored k j
+  side-stored Lower k j h g = has-column (rowsIn i s) (i .n) k j ∙ rw (lt-ltb j (i .n) g) (row-stored j k)
 
--- ---- the marks as a set
-
-mark-at : (n t : ℕ) (s : List ℕ) (x j : ℕ) → Room n s → x < n → j < n → eqb (getD (markAt n t s x) j 0) t ≡ (eqb x j || eqb (getD s j 0) t)
-mark-at n t s x j sp h g = rw (getD-set-other (set s x t) (blocksFrom n + x / 64) j t 0 (omega arith)) (go (ℕ-discrete x j))
-  where
-    go : Dec (x ≡ j) → eqb (getD (set s x t) j 0) t ≡ (eqb x j || eqb (getD s j 0) t)
-    go (yes e) = rw (eq-eqb x j e, ← e, getD-set-same s x t 0 (omega (arith, sp .long))) (eq-eqb t t refl)
-    go (no e) = rw (ne-eqb x j e, getD-set-other s x j t 0 (λ v. e (sym v)))
-
-pub stamped-has : (n t : ℕ) (s l : List ℕ) (j : ℕ) → Room n s → Below n l → j < n → eqb (getD (stamped n t s l) j 0) t ≡ (has l j || eqb (getD s j 0) t)
-unfolding has stamped
-stamped-has n t s [] j sp b h = refl
-stamped-has n t s (x ∷ l) j sp b h =
-    stamped-has n t (markAt n t s x) l j (space-kept (simp length-set) sp) (λ p a. b (suc p) (omega arith)) h
-    ∙ ap (λ v. has l j || v) (mark-at n t s x j sp (b 0 (omega arith)) h) ∙ turn (has l j) (eqb x j) (eqb (getD s j 0) t)
-  where
-    turn : (a b c : Bool) → (a || (b || c)) ≡ ((b || a) || c)
-    turn true true c = refl
-    turn true false c = refl
-    turn false true c = refl
-    turn false false c = refl
-
--- marks and their blocks, in a buffer long enough
-record Blocked (n t : ℕ) (s : List ℕ) : Type 0 where
-  pub space : Room n s
-  pub blocks : Blocks n t s
-
-blocked-mark : (n t : ℕ) (s : List ℕ) (x : ℕ) → x < n → Blocked n t s → Blocked n t (markAt n t s x)
-blocked-mark n t s x h k = record { space = space-kept (simp length-set) (k .space); blocks = λ j g e. go j g e (ℕ-discrete (blocksFrom n + j / 64) (blocksFrom n + x / 64)) }
-  where
-    f : regionsEnd n ≤ length s
-    f = k .space .long
-
-    go : (j : ℕ) → j < n → getD (markAt n t s x) j 0 ≡ t → Dec (blocksFrom n + j / 64 ≡ blocksFrom n + x / 64) → getD (markAt n t s x) (blocksFrom n + j / 64) 0 ≡ t
-    go j g e (yes q) = rw q (getD-set-same (set s x t) (blocksFrom n + x / 64) t 0 (simp length-set (omega arith)))
-    go j g e (no q) =
-        getD-set-other (set s x t) (blocksFrom n + x / 64) (blocksFrom n + j / 64) t 0 q ∙ getD-set-other s x (blocksFrom n + j / 64) t 0 (omega arith)
-        ∙ k .blocks j g (sym (getD-set-other (set s x t) (blocksFrom n + x / 64) j t 0 (omega arith) ∙ getD-set-other s x j t 0 (λ v. q (ap (λ m. blocksFrom n + m / 64) v))) ∙ e)
-
--- after a load the marks are exactly row k of the side's pattern, and their blocks are stamped
-module _ (i : Input) (side : Side) (t k hi₀ hi : ℕ) (s₀ s : List ℕ) (sound : Sound i) (inverse : Inverse i s₀) (space : Room (i .n) s₀) (place : k < i .n)
-    (fresh : Fresh (i .n) t s₀) (loaded : SideLoaded side (i .n) t k hi₀ hi (rowsIn i s₀) s₀ s) where
-  abbrev list : List ℕ
-  list = sideRow side (rowsIn i s₀) (i .n) k
-
-  under : Below (i .n) list
-  under = side-below side (i .n) k (i .columns) (i .starts) (i .r) s₀ (given-sound i s₀ sound inverse space) place
-
-  slot : (x : ℕ) → x < upperCuts (i .n) → getD s x 0 ≡ getD (stamped (i .n) t s₀ list) x 0
-  slot x h = side-marks side (i .n) t k hi₀ hi (rowsIn i s₀) s₀ s loaded .slots x (λ a. omega arith) (λ a. omega arith)
-
-  pub side-set : (j : ℕ) → j < i .n → eqb (getD s j 0) t ≡ sidePattern side (stored i) k j
-  side-set j h =
-      ap (λ v. eqb v t) (slot j (omega arith))
-      ∙ stamped-has (i .n) t s₀ list j space under h
-      ∙ ap₂ (λ a b. a || b) (side-stored i s₀ sound inverse side k j place h) (ne-eqb (getD s₀ j 0) t (omega (arith, fresh j h)))
-      ∙ or-false (sidePattern side (stored i) k j)
-
-  pub side-blocks : Blocks (i .n) t s
-  side-blocks j h e =
-      let b = stamped-keeps (Blocked (i .n) t) (i .n) t (λ u x g p. blocked-mark (i .n) t u x g p) s₀ list under
-      (record { space = space; blocks = λ x g v. absurd (omega (arith, fresh x g)) }) in
-      slot (blocksFrom (i .n) + j / 64) (omega arith) ∙ b .blocks j h (sym (slot j (omega arith)) ∙ e)
+-- after a load the marks are row k of the side's pattern
+pub side-holds : (i : Input) (side : Side) (t k hi₀ hi : ℕ) (s₀ s : List ℕ) → Sound i → Inverse i s₀ → Room (i .n) s₀ → k < i .n
+    → Fresh (i .n) t s₀ → SideLoaded side (i .n) t k hi₀ hi (rowsIn i s₀) s₀ s → Holds (i .n) t s (sidePattern side (stored i) k)
+side-holds i side t k hi₀ hi s₀ s sound inverse space place fresh loaded =
+    let n = i .n in
+    let list = sideRow side (rowsIn i s₀) n k in
+    let under = side-below side n k (i .starts) (i .columns) (i .r) s₀ (given-sound i s₀ sound inverse space) place in
+    holds-kept n t (stamped n t s₀ list) s (sidePattern side (stored i) k)
+    (λ x h. side-marks side n t k hi₀ hi (rowsIn i s₀) s₀ s loaded .slots x (λ a. omega arith) (λ a. omega arith))
+    (holds-same n t (stamped n t s₀ list) (has list) (sidePattern side (stored i) k) (λ j h. side-stored i s₀ sound inverse side k j place h) (holds-list n t s₀ list under space fresh))

@@ -1,16 +1,19 @@
 -- Laws of the counts, of opening and filling a window, and of handing out a column.
 use mathlib.Core.Path.{_≡_, refl, sym, ap, _∙_}
 use mathlib.Core.List.{List, [], _∷_}
-use Prim.Native.Nat.{ℕ, zero, suc, _+_, _-_, _*_, _<_, _≤_}
+use Prim.Native.Nat.{ℕ, zero, suc, _+_, _-_, _<_, _≤_}
 use native.Mathlib.Omega.{arith}
 use native.Mathlib.Decide.{ℕ-discrete}
 use lib.ListN.{length, getD, take, set}
 use lib.Seq.{getD-set-other, getD-set-same}
 use Rattle.base.specs.Lists.{sum}
 use Rattle.base.specs.AscLaws.{sum-ext}
-use Rattle.marks.specs.Marks.{Room, Below, stamped}
-use Rattle.columns.specs.Columns.{orderOf, Kept, Steady, rowsOf, hits, bare, column, Counts, Countable, Counted, Tally, Started, Chain, none, HasChain, lengthAt, held, Listed, Roomy, Offered, headAt, Emptied, Filled, Ready, Windowed, Loaded}
-use Rattle.columns.proofs.Keeps.{same, then, stored, order-kept, kept-wider, steady-unmarked, unmarked-stamped, both-stamped}
+use Rattle.marks.specs.MarkLaws.{unmarked-stamped, both-stamped}
+use Rattle.lent.specs.ReadingLaws.{same, then, stored}
+use Rattle.lent.specs.Reading.{Below, orderOf}
+use Rattle.marks.specs.Marks.{Room, stamped}
+use Rattle.columns.specs.Columns.{Kept, Steady, rowsOf, hits, bare, column, Counts, Countable, Counted, Tally, Started, Chain, none, HasChain, lengthAt, held, Listed, Roomy, Offered, headAt, Emptied, Filled, Ready, Windowed, Loaded}
+use Rattle.columns.proofs.Keeps.{order-kept, kept-wider, steady-unmarked}
 use Rattle.columns.proofs.ColumnLaws.{hits-here, hits-there, hits-more, hits-part, grown-start, grown-more, grown-end, column-zero, column-more, column-part, bare-length, below-column, held-at-most}
 use Rattle.columns.proofs.ListLaws.{lists-frame}
 use Rattle.base.specs.Scratch.{headsFrom}
@@ -18,7 +21,7 @@ use Rattle.base.specs.Scratch.{headsFrom}
 -- ---- counting
 
 -- a head written
-pub head-kept : (n lo hi j v : ℕ) (s : List ℕ) → lo ≤ j → j < hi → hi ≤ n → Kept n lo hi s (set s (headsFrom n + j) v)
+head-kept : (n lo hi j v : ℕ) (s : List ℕ) → lo ≤ j → j < hi → hi ≤ n → Kept n lo hi s (set s (headsFrom n + j) v)
 head-kept n lo hi j v s a b h = stored s (headsFrom n + j) v (λ y p q e. omega (arith, p (omega arith)))
 
 pub record Clearing (n i : ℕ) (s₀ s : List ℕ) : Type 0 where
@@ -92,9 +95,9 @@ tally-more n k R e t c = record {
 pub tally-end : (n k : ℕ) (R : ℕ → List ℕ) {s₀ s : List ℕ} → k ≡ n → Tally n (column R k) s₀ s → Tally n (column R n) s₀ s
 tally-end n k R e t = rw e at t
 
-pub started : (n : ℕ) (columns starts r : List ℕ) {s₀ s u : List ℕ} → Tally n bare s₀ s → Tally n (column (rowsOf (orderOf n s) columns starts r) n) s u
-    → Started n (rowsOf (orderOf n s₀) columns starts r) s₀ u
-started n columns starts r a b = rw (← order-kept n 0 n (a .kept)) (record {
+pub started : (n : ℕ) (starts columns r : List ℕ) {s₀ s u : List ℕ} → Tally n bare s₀ s → Tally n (column (rowsOf (orderOf n s) starts columns r) n) s u
+    → Started n (rowsOf (orderOf n s₀) starts columns r) s₀ u
+started n starts columns r a b = rw (← order-kept n 0 n (a .kept)) (record {
   kept = then (a .kept) (b .kept);
   ready = record {
     least = omega arith;
@@ -219,9 +222,6 @@ fill-end {n} {lo} {hi} {k} {R} {s₀} {s} {p} e h f =
 
 -- ---- the window
 
-pub window-kept : {n k hi : ℕ} {R : ℕ → List ℕ} {s : List ℕ} → k < hi → Ready n k hi R s → Windowed n k hi R s s
-window-kept {s = s} h r = record { kept = same s; has = h; ready = r }
-
 -- the counts say that the window's entries fit
 pub window-fits : {n k hi end : ℕ} {R Q : ℕ → List ℕ} {s₀ s : List ℕ} → Q ≡ R → hi ≤ k → Ready n k hi R s₀ → Emptied n k end s₀ s → held k end (column Q n) ≤ n
 unfolding held lengthAt headAt
@@ -267,11 +267,8 @@ ready-steady {n} {k} {hi} {R} d r =
       counts = record { slot = λ j a b. d .heads j (omega arith) b ∙ r .counts .slot j a b };
     }
 
-pub ready-stamped : {n k hi : ℕ} {R : ℕ → List ℕ} (t : ℕ) (s l : List ℕ) → Below n l → Ready n k hi R s → Ready n k hi R (stamped n t s l)
-ready-stamped {n} {k} t s l b r = ready-steady (steady-unmarked n k (unmarked-stamped n t s l b)) r
-
 -- the next column is due
-pub ready-next : {n k hi : ℕ} {R : ℕ → List ℕ} {s : List ℕ} → k < hi → Ready n k hi R s → Ready n (k + 1) hi R s
+ready-next : {n k hi : ℕ} {R : ℕ → List ℕ} {s : List ℕ} → k < hi → Ready n k hi R s → Ready n (k + 1) hi R s
 ready-next h r = record {
   least = omega arith;
   most = r .most;

@@ -7,7 +7,8 @@ use Rattle.base.specs.Lists.{listAt}
 use Rattle.base.specs.First.{first}
 use Rattle.matrix.specs.Input.{Input, ic, isOf}
 use Rattle.matrix.specs.Questions.{badIndex, IsOrder}
-use Rattle.columns.specs.Columns.{orderOf, Given, placed, rowsOf, hits, bare, column, none, node, Ready}
+use Rattle.lent.specs.Reading.{orderOf, placed}
+use Rattle.columns.specs.Columns.{Given, rowsOf, hits, bare, column, none, node, Ready}
 use Rattle.columns.specs.Sides.{Inverse, Sound, rowsIn}
 use Rattle.columns.proofs.Stored.{given-sound}
 
@@ -35,7 +36,7 @@ pub inverse : Inverse one scratch
 unfolding orderOf ic first isOf
 inverse = record { place = elim [ zero ↦ λ h. refl | suc k ↦ λ h. absurd (omega arith) ] }
 
-pub given : Given 1 (0 ∷ []) (0 ∷ 1 ∷ []) (0 ∷ []) scratch
+pub given : Given 1 (0 ∷ 1 ∷ []) (0 ∷ []) (0 ∷ []) scratch
 given = given-sound one scratch sound inverse (record { small = omega arith; long = omega arith })
 
 pub counted : Ready 1 0 0 (rowsIn one scratch) scratch

@@ -5,31 +5,19 @@
 use mathlib.Core.List.{List, [], _∷_}
 use mathlib.Core.Bool.{Bool, true, false}
 use mathlib.Core.Path.{_≡_}
-use Prim.Native.Nat.{ℕ, zero, suc, _+_, _-_, _*_, _<_, _≤_}
-use lib.ListN.{length, getD, take, drop, set}
+use Prim.Native.Nat.{ℕ, zero, suc, _+_, _-_, _<_, _≤_}
+use lib.ListN.{length, getD, set}
 use lib.Dec.{eqb}
 use Rattle.base.specs.Lists.{sum, rowOf}
-use Rattle.marks.specs.Marks.{Below, Room, stamped}
-use Rattle.base.specs.Scratch.{blocksFrom, upperCuts, headsFrom, listFrom, nodesFrom, regionsEnd}
+use Rattle.lent.specs.Reading.{ListIn, Below, orderOf, placed, Outside}
+use Rattle.marks.specs.Marks.{Room, Order, stamped}
+use Rattle.base.specs.Scratch.{upperCuts, headsFrom, listFrom, nodesFrom, regionsEnd}
 
 -- ---- scratch
-
--- the inverse column order
-unfoldable pub orderOf : ℕ → List ℕ → List ℕ
-orderOf n s = take n (drop n s)
-
--- the slots outside a to b and outside c to d are the same
-pub record Outside (a b c d : ℕ) (s₀ s : List ℕ) : Type 0 where
-  pub size : length s ≡ length s₀
-  pub slots : (x : ℕ) → (a ≤ x → b ≤ x) → (c ≤ x → d ≤ x) → getD s x 0 ≡ getD s₀ x 0
 
 -- only heads of columns lo to hi, and nodes, are written
 abbrev pub Kept : ℕ → ℕ → ℕ → List ℕ → List ℕ → Type 0
 Kept n lo hi s₀ s = Outside (headsFrom n + lo) (headsFrom n + hi) (nodesFrom n) (regionsEnd n) s₀ s
-
--- only marks and block stamps are written
-abbrev pub Unmarked : ℕ → List ℕ → List ℕ → Type 0
-Unmarked n s₀ s = Outside 0 n (blocksFrom n) (upperCuts n) s₀ s
 
 -- what others keep in scratch is the same: the order, cuts and heads up to column k, the list
 pub record Untouched (n k : ℕ) (s₀ s : List ℕ) : Type 0 where
@@ -45,14 +33,9 @@ pub record Steady (n k : ℕ) (s₀ s : List ℕ) : Type 0 where
 
 -- ---- rows and columns of M'
 
--- own columns at their places
-unfoldable pub placed : List ℕ → List ℕ → List ℕ
-placed ic [] = []
-placed ic (c ∷ l) = getD ic c 0 ∷ placed ic l
-
 -- "M' is M with entry (k, ic(j)) where M has (r(k), j)": the places of the entries of row k of M'
 unfoldable pub rowsOf : List ℕ → List ℕ → List ℕ → List ℕ → ℕ → List ℕ
-rowsOf ic columns starts r k = placed ic (rowOf starts columns (getD r k 0))
+rowsOf ic starts columns r k = placed ic (rowOf starts columns (getD r k 0))
 
 abbrev pub consIf : Bool → ℕ → List ℕ → List ℕ
 consIf true i l = i ∷ l
@@ -76,24 +59,14 @@ column R (suc i) = hits i (R i) (column R i)
 pub record Grown (P Q : (ℕ → List ℕ) → Type 0) (i : ℕ) (xs : List ℕ) : Type 0 where
   pub grow : (f : ℕ → List ℕ) → P f → Q (hits i xs f)
 
--- own row q can be read
-pub record RowIn (columns starts : List ℕ) (q : ℕ) : Type 0 where
-  pub has-end : q + 1 < length starts
-  pub rise : getD starts q 0 ≤ getD starts (q + 1) 0
-  pub inside : getD starts (q + 1) 0 ≤ length columns
-
--- the places of the inverse order are below n
-abbrev pub Order : ℕ → List ℕ → Type 0
-Order n s = (c : ℕ) → c < n → getD (orderOf n s) c 0 < n
-
 -- what the questions and the inverse order settle: the rows of M' can be read, and no column has more than n entries
-pub record Given (n : ℕ) (columns starts r s : List ℕ) : Type 0 where
+pub record Given (n : ℕ) (starts columns r s : List ℕ) : Type 0 where
   pub space : Room n s
   pub order : Order n s
   pub long : n ≤ length r
-  pub read : (k : ℕ) → k < n → RowIn columns starts (getD r k 0)
+  pub read : (k : ℕ) → k < n → ListIn starts starts (length columns) (getD r k 0)
   pub below : (k : ℕ) → k < n → Below n (rowOf starts columns (getD r k 0))
-  pub few : (j : ℕ) → length (column (rowsOf (orderOf n s) columns starts r) n j) ≤ n
+  pub few : (j : ℕ) → length (column (rowsOf (orderOf n s) starts columns r) n j) ≤ n
 
 -- ---- counts
 

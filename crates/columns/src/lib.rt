@@ -5,162 +5,139 @@ ghost use mathlib.Core.List.{List, [], _∷_};
 ghost use Prim.Native.Nat.{ℕ, _+_, _*_, _≤_, _<_};
 ghost use lib.ListN.{length, getD, set};
 ghost use Rattle.base.specs.Lists.{rowOf};
-ghost use Rattle.matrix.specs.Input.{placeAt};
-ghost use Rattle.marks.specs.Marks.{Room, Below, markAt, stamped};
-ghost use Rattle.columns.specs.Columns.{orderOf, Order, RowIn, Given, placed, rowsOf, bare, column, Countable, Counted, Counts, Tally, Started, Emptied, Roomy, Offered, pushAt, held, Filled, Ready, Windowed, Chain, HasChain, Loaded};
+ghost use Rattle.lent.specs.Reading.{ListIn, Below, orderOf, placed};
+ghost use Rattle.marks.specs.Marks.{Room, Order, stamped};
+ghost use Rattle.columns.specs.Columns.{Given, rowsOf, bare, column, Countable, Counted, Counts, Tally, Started, Emptied, Roomy, Offered, pushAt, held, Filled, Ready, Windowed, Chain, HasChain, Loaded};
 ghost use Rattle.columns.specs.Sides.{SideReady, SideLoaded};
 ghost use Rattle.base.specs.Scratch.{headsFrom};
 ghost use Rattle.base.specs.Limits.{maxRows};
-ghost use Rattle.base.specs.Index.{indexBound};
 use base::Index;
-use base::OwnNumber;
 use base::Place;
 use base::Side;
 use base::scratch;
 
-fn wide16(x: Index) -> usize
-    ensures { λ r. ⌜ (r ≡ x) × (r < indexBound) ⌝ }
-{
-    x as usize
-}
-
-// The place of an own column.
-fn place_of(s: &[u32], n: usize, c: OwnNumber) -> Place
-    requires { ⌜ Room n (now s) ⌝ }
-    requires { ⌜ c .0 < n ⌝ }
-    ensures { λ p. ⌜ p ≡ placeAt (orderOf n (now (s .entry))) c ⌝ }
-{
-    let j = marks::wide32(c.0);
-    Place(s[n + j])
-}
-
-// The place of entry q of a row.
-fn entry_place(s: &[u32], n: usize, cols: &[Index], q: usize) -> usize
-    requires { ⌜ Room n (now s) ⌝ }
-    requires { ⌜ (q < length (now cols)) × (getD (now cols) q 0 < n) ⌝ }
-    ensures { λ j. ⌜ j ≡ getD (placed (orderOf n (now (s .entry))) (now (cols .entry))) q 0 ⌝ }
-{
-    let c = OwnNumber(cols[q] as u32);
-    let p = place_of(s, n, c);
-    marks::wide32(p.0)
-}
-
 // The own columns of the row at place k.
-fn row_of<'a>(columns: &'a [Index], starts: &[u32], r: &[Index], k: usize) -> &'a [Index]
-    requires { ⌜ k < length (now r) ⌝ }
-    requires { ⌜ RowIn (now columns) (now starts) (getD (now r) k 0) ⌝ }
+fn row_of<'a>(starts: &[u32], columns: &'a [Index], r: &[Index], k: usize) -> &'a [Index]
+    requires { ⌜ (k < length (now r)) × (k < maxRows) ⌝ }
+    requires { ⌜ ListIn (now starts) (now starts) (length (now columns)) (getD (now r) k 0) ⌝ }
     ensures { λ row. ⌜ now row ≡ rowOf (now (starts .entry)) (now (columns .entry)) (getD (now (r .entry)) k 0) ⌝ }
 {
-    let q = wide16(r[k]);
-    let a = marks::wide32(starts[q]);
-    let e = marks::wide32(starts[q + 1]);
-    &columns[a..e]
+    let i = lent::own_row(r, Place(k as u32));
+    lent::row_columns(starts, columns, i)
 }
 
 // ---- counts
 
 // Empties all heads.
-fn clear_heads(s: &mut [u32], n: usize)
-    requires { ⌜ Room n (now s) ⌝ }
-    ensures { λ _. ⌜ Tally n bare (now (s .entry)) (now (s .exit)) ⌝ }
+fn clear_heads(marks: &mut [u32], n: usize)
+    requires { ⌜ Room n (now marks) ⌝ }
+    ensures { λ _. ⌜ Tally n bare (now (marks .entry)) (now (marks .exit)) ⌝ }
 {
     let mut j = 0;
     while j < n {
-        s[scratch::HEADS * n + j] = 0;
+        marks[scratch::HEADS * n + j] = 0;
         j += 1;
     }
 }
 
 // Counts one entry of column j.
-fn count_one(s: &mut [u32], n: usize, j: usize)
-    requires { ⌜ Room n (now s) ⌝ }
-    requires { ⌜ (j < n) × (getD (now s) (headsFrom n + j) 0 < maxRows) ⌝ }
-    ensures { λ _. ⌜ now (s .exit) ≡ set (now (s .entry)) (headsFrom n + j) (getD (now (s .entry)) (headsFrom n + j) 0 + 1) ⌝ }
+fn count_one(marks: &mut [u32], n: usize, j: usize)
+    requires { ⌜ Room n (now marks) ⌝ }
+    requires { ⌜ (j < n) × (getD (now marks) (headsFrom n + j) 0 < maxRows) ⌝ }
+    ensures { λ _. ⌜ now (marks .exit) ≡ set (now (marks .entry)) (headsFrom n + j) (getD (now (marks .entry)) (headsFrom n + j) 0 + 1) ⌝ }
 {
-    let count = s[scratch::HEADS * n + j];
-    s[scratch::HEADS * n + j] = count + 1;
+    let count = marks[scratch::HEADS * n + j];
+    marks[scratch::HEADS * n + j] = count + 1;
 }
 
 // Counts the entries of a row by column.
-fn count_row(s: &mut [u32], n: usize, cols: &[Index])
-    requires { ⌜ Room n (now s) ⌝ }
-    requires { ⌜ Order n (now s) ⌝ }
+fn count_row(marks: &mut [u32], n: usize, cols: &[Index])
+    requires { ⌜ Room n (now marks) ⌝ }
+    requires { ⌜ Order n (now marks) ⌝ }
     requires { ⌜ Below n (now cols) ⌝ }
-    requires { ⌜ Countable n (placed (orderOf n (now s)) (now cols)) (now s) ⌝ }
-    ensures { λ _. ⌜ Counted n (placed (orderOf n (now (s .entry))) (now (cols .entry))) (now (s .entry)) (now (s .exit)) ⌝ }
+    requires { ⌜ Countable n (placed (orderOf n (now marks)) (now cols)) (now marks) ⌝ }
+    ensures { λ _. ⌜ Counted n (placed (orderOf n (now (marks .entry))) (now (cols .entry))) (now (marks .entry)) (now (marks .exit)) ⌝ }
 {
     let mut q = 0;
     while q < cols.len() {
-        let j = entry_place(s, n, cols, q);
-        count_one(s, n, j);
+        let j = marks::entry_place(marks, n, cols, q);
+        count_one(marks, n, j);
         q += 1;
     }
 }
 
 // Counts the entries of each column in heads that are empty.
-fn count_columns(s: &mut [u32], n: usize, columns: &[Index], starts: &[u32], r: &[Index])
-    requires { ⌜ Given n (now columns) (now starts) (now r) (now s) ⌝ }
-    requires { ⌜ Counts n 0 (now s) bare ⌝ }
-    ensures { λ _. ⌜ Tally n (column (rowsOf (orderOf n (now (s .entry))) (now (columns .entry)) (now (starts .entry)) (now (r .entry))) n) (now (s .entry)) (now (s .exit)) ⌝ }
+fn count_columns(marks: &mut [u32], n: usize, starts: &[u32], columns: &[Index], r: &[Index])
+    requires { ⌜ Given n (now starts) (now columns) (now r) (now marks) ⌝ }
+    requires { ⌜ Counts n 0 (now marks) bare ⌝ }
+    ensures { λ _. ⌜ Tally n (column (rowsOf (orderOf n (now (marks .entry))) (now (starts .entry)) (now (columns .entry)) (now (r .entry))) n) (now (marks .entry)) (now (marks .exit)) ⌝ }
 {
     let mut k = 0;
     while k < n {
-        let cols = row_of(columns, starts, r, k);
-        count_row(s, n, cols);
+        let cols = row_of(starts, columns, r, k);
+        count_row(marks, n, cols);
         k += 1;
     }
 }
 
 // Before the first column: no window is open.
-pub fn start_columns(s: &mut [u32], n: usize, columns: &[Index], starts: &[u32], r: &[Index])
-    requires { ⌜ Given n (now columns) (now starts) (now r) (now s) ⌝ }
-    ensures { λ _. ⌜ Started n (rowsOf (orderOf n (now (s .entry))) (now (columns .entry)) (now (starts .entry)) (now (r .entry))) (now (s .entry)) (now (s .exit)) ⌝ }
+pub fn start_columns(marks: &mut [u32], n: usize, starts: &[u32], columns: &[Index], r: &[Index])
+    requires { ⌜ Given n (now starts) (now columns) (now r) (now marks) ⌝ }
+    ensures { λ _. ⌜ Started n (rowsOf (orderOf n (now (marks .entry))) (now (starts .entry)) (now (columns .entry)) (now (r .entry))) (now (marks .entry)) (now (marks .exit)) ⌝ }
 {
-    clear_heads(s, n);
-    count_columns(s, n, columns, starts, r);
+    clear_heads(marks, n);
+    count_columns(marks, n, starts, columns, r);
 }
 
 // ---- windows
 
 // Empties the heads from lo on, as long as what they count fits the nodes, and answers where it stops.
-fn open_window(s: &mut [u32], n: usize, lo: usize) -> usize
-    requires { ⌜ Room n (now s) ⌝ }
+fn open_window(marks: &mut [u32], n: usize, lo: usize) -> usize
+    requires { ⌜ Room n (now marks) ⌝ }
     requires { ⌜ lo ≤ n ⌝ }
-    ensures { λ hi. ⌜ Emptied n lo hi (now (s .entry)) (now (s .exit)) ⌝ }
+    ensures { λ hi. ⌜ Emptied n lo hi (now (marks .entry)) (now (marks .exit)) ⌝ }
 {
     let mut left = n;
     let mut hi = lo;
     while hi < n {
-        let count = marks::wide32(s[scratch::HEADS * n + hi]);
+        let count = base::slot(marks[scratch::HEADS * n + hi]);
         if left < count {
             return hi;
         }
         left = left - count;
-        s[scratch::HEADS * n + hi] = 0;
+        marks[scratch::HEADS * n + hi] = 0;
         hi += 1;
     }
     hi
 }
 
 // Puts node p, with row i, in front of column j's list.
-fn push_node(s: &mut [u32], n: usize, p: usize, i: usize, j: usize)
-    requires { ⌜ Room n (now s) ⌝ }
+fn push_node(marks: &mut [u32], n: usize, p: usize, i: usize, j: usize)
+    requires { ⌜ Room n (now marks) ⌝ }
     requires { ⌜ (p < n) × (i < n) × (j < n) ⌝ }
-    ensures { λ _. ⌜ now (s .exit) ≡ pushAt n p i j (now (s .entry)) ⌝ }
+    ensures { λ _. ⌜ now (marks .exit) ≡ pushAt n p i j (now (marks .entry)) ⌝ }
 {
-    let rest = s[scratch::HEADS * n + j];
+    let rest = marks[scratch::HEADS * n + j];
     let b = scratch::NODES * n + (p + p);
-    s[b] = i as u32;
-    s[b + 1] = rest;
-    s[scratch::HEADS * n + j] = (p + 1) as u32;
+    marks[b] = i as u32;
+    marks[b + 1] = rest;
+    marks[scratch::HEADS * n + j] = (p + 1) as u32;
 }
 
 // Entry (i, j) goes into the lists of lo to hi; answers how many nodes are used.
-fn offer(s: &mut [u32], n: usize, lo: usize, hi: usize, i: usize, j: usize, used: usize) -> usize
-    requires { ⌜ Room n (now s) ⌝ }
+fn offer(
+    marks: &mut [u32],
+    n: usize,
+    lo: usize,
+    hi: usize,
+    i: usize,
+    j: usize,
+    used: usize,
+) -> usize
+    requires { ⌜ Room n (now marks) ⌝ }
     requires { ⌜ (hi ≤ n) × (i < n) ⌝ }
-    requires { ⌜ Roomy n lo hi i (j ∷ []) (now s) used ⌝ }
-    ensures { λ p. ⌜ Offered n lo hi i (j ∷ []) (now (s .entry)) (now (s .exit)) used p ⌝ }
+    requires { ⌜ Roomy n lo hi i (j ∷ []) (now marks) used ⌝ }
+    ensures { λ p. ⌜ Offered n lo hi i (j ∷ []) (now (marks .entry)) (now (marks .exit)) used p ⌝ }
 {
     if j < lo {
         return used;
@@ -168,13 +145,13 @@ fn offer(s: &mut [u32], n: usize, lo: usize, hi: usize, i: usize, j: usize, used
     if hi <= j {
         return used;
     }
-    push_node(s, n, used, i, j);
+    push_node(marks, n, used, i, j);
     used + 1
 }
 
 // The entries of row i go into the lists of lo to hi.
 fn offer_row(
-    s: &mut [u32],
+    marks: &mut [u32],
     n: usize,
     lo: usize,
     hi: usize,
@@ -182,17 +159,17 @@ fn offer_row(
     cols: &[Index],
     used: usize,
 ) -> usize
-    requires { ⌜ Room n (now s) ⌝ }
+    requires { ⌜ Room n (now marks) ⌝ }
     requires { ⌜ Below n (now cols) ⌝ }
     requires { ⌜ (hi ≤ n) × (i < n) ⌝ }
-    requires { ⌜ Roomy n lo hi i (placed (orderOf n (now s)) (now cols)) (now s) used ⌝ }
-    ensures { λ p. ⌜ Offered n lo hi i (placed (orderOf n (now (s .entry))) (now (cols .entry))) (now (s .entry)) (now (s .exit)) used p ⌝ }
+    requires { ⌜ Roomy n lo hi i (placed (orderOf n (now marks)) (now cols)) (now marks) used ⌝ }
+    ensures { λ p. ⌜ Offered n lo hi i (placed (orderOf n (now (marks .entry))) (now (cols .entry))) (now (marks .entry)) (now (marks .exit)) used p ⌝ }
 {
     let mut p = used;
     let mut q = 0;
     while q < cols.len() {
-        let j = entry_place(s, n, cols, q);
-        p = offer(s, n, lo, hi, i, j, p);
+        let j = marks::entry_place(marks, n, cols, q);
+        p = offer(marks, n, lo, hi, i, j, p);
         q += 1;
     }
     p
@@ -200,128 +177,113 @@ fn offer_row(
 
 // The lists of the columns lo to hi, whose heads are empty.
 fn fill_window(
-    s: &mut [u32],
+    marks: &mut [u32],
     n: usize,
     lo: usize,
     hi: usize,
-    columns: &[Index],
     starts: &[u32],
+    columns: &[Index],
     r: &[Index],
 )
-    requires { ⌜ Given n (now columns) (now starts) (now r) (now s) ⌝ }
-    requires { ⌜ (hi ≤ n) × (held lo hi (column (rowsOf (orderOf n (now s)) (now columns) (now starts) (now r)) n) ≤ n) ⌝ }
-    requires { ⌜ ((j : ℕ) → lo ≤ j → j < hi → getD (now s) (headsFrom n + j) 0 ≡ 0) ⌝ }
-    ensures { λ _. ⌜ Filled n lo hi (column (rowsOf (orderOf n (now (s .entry))) (now (columns .entry)) (now (starts .entry)) (now (r .entry))) n) (now (s .entry)) (now (s .exit)) ⌝ }
+    requires { ⌜ Given n (now starts) (now columns) (now r) (now marks) ⌝ }
+    requires { ⌜ (hi ≤ n) × (held lo hi (column (rowsOf (orderOf n (now marks)) (now starts) (now columns) (now r)) n) ≤ n) ⌝ }
+    requires { ⌜ ((j : ℕ) → lo ≤ j → j < hi → getD (now marks) (headsFrom n + j) 0 ≡ 0) ⌝ }
+    ensures { λ _. ⌜ Filled n lo hi (column (rowsOf (orderOf n (now (marks .entry))) (now (starts .entry)) (now (columns .entry)) (now (r .entry))) n) (now (marks .entry)) (now (marks .exit)) ⌝ }
 {
     let mut p = 0;
     let mut k = 0;
     while k < n {
-        let cols = row_of(columns, starts, r, k);
-        p = offer_row(s, n, lo, hi, k, cols, p);
+        let cols = row_of(starts, columns, r, k);
+        p = offer_row(marks, n, lo, hi, k, cols, p);
         k += 1;
     }
 }
 
 // A window from k on, unless column k is in the one at hand.
 fn window_at(
-    s: &mut [u32],
+    marks: &mut [u32],
     n: usize,
     k: usize,
     hi: usize,
-    columns: &[Index],
     starts: &[u32],
+    columns: &[Index],
     r: &[Index],
 ) -> usize
-    requires { ⌜ Given n (now columns) (now starts) (now r) (now s) ⌝ }
-    requires { ⌜ Ready n k hi (rowsOf (orderOf n (now s)) (now columns) (now starts) (now r)) (now s) ⌝ }
+    requires { ⌜ Given n (now starts) (now columns) (now r) (now marks) ⌝ }
+    requires { ⌜ Ready n k hi (rowsOf (orderOf n (now marks)) (now starts) (now columns) (now r)) (now marks) ⌝ }
     requires { ⌜ k < n ⌝ }
-    ensures { λ end. ⌜ Windowed n k end (rowsOf (orderOf n (now (s .entry))) (now (columns .entry)) (now (starts .entry)) (now (r .entry))) (now (s .entry)) (now (s .exit)) ⌝ }
+    ensures { λ end. ⌜ Windowed n k end (rowsOf (orderOf n (now (marks .entry))) (now (starts .entry)) (now (columns .entry)) (now (r .entry))) (now (marks .entry)) (now (marks .exit)) ⌝ }
 {
     if k < hi {
         return hi;
     }
-    let end = open_window(s, n, k);
-    fill_window(s, n, k, end, columns, starts, r);
+    let end = open_window(marks, n, k);
+    fill_window(marks, n, k, end, starts, columns, r);
     end
 }
 
 // ---- loading
 
 // Stamps the list at a head.
-fn stamp_list(s: &mut [u32], n: usize, stamp: u32, head: usize)
-    requires { ⌜ Room n (now s) ⌝ }
-    requires { ⌜ HasChain n (now s) head ⌝ }
-    ensures { λ _. ⌜ ((l : List ℕ) → Chain n (now (s .entry)) head l → now (s .exit) ≡ stamped n stamp (now (s .entry)) l) ⌝ }
+fn stamp_list(marks: &mut [u32], n: usize, stamp: u32, head: usize)
+    requires { ⌜ Room n (now marks) ⌝ }
+    requires { ⌜ HasChain n (now marks) head ⌝ }
+    ensures { λ _. ⌜ ((l : List ℕ) → Chain n (now (marks .entry)) head l → now (marks .exit) ≡ stamped n stamp (now (marks .entry)) l) ⌝ }
 {
     let mut h = head;
     while 0 < h {
         let b = scratch::NODES * n + (h - 1 + (h - 1));
-        let i = marks::wide32(s[b]);
-        let rest = marks::wide32(s[b + 1]);
-        marks::mark(s, n, stamp, i);
+        let i = base::slot(marks[b]);
+        let rest = base::slot(marks[b + 1]);
+        marks::mark(marks, n, stamp, i);
         h = rest;
     }
 }
 
 // Hands out column k as stamps, and answers the end of the window at hand.
 pub fn load_column(
-    s: &mut [u32],
+    marks: &mut [u32],
     n: usize,
     stamp: u32,
     k: usize,
     hi: usize,
-    columns: &[Index],
     starts: &[u32],
+    columns: &[Index],
     r: &[Index],
 ) -> usize
-    requires { ⌜ Given n (now columns) (now starts) (now r) (now s) ⌝ }
-    requires { ⌜ Ready n k hi (rowsOf (orderOf n (now s)) (now columns) (now starts) (now r)) (now s) ⌝ }
+    requires { ⌜ Given n (now starts) (now columns) (now r) (now marks) ⌝ }
+    requires { ⌜ Ready n k hi (rowsOf (orderOf n (now marks)) (now starts) (now columns) (now r)) (now marks) ⌝ }
     requires { ⌜ k < n ⌝ }
-    ensures { λ end. ⌜ Loaded n stamp k end (rowsOf (orderOf n (now (s .entry))) (now (columns .entry)) (now (starts .entry)) (now (r .entry))) (now (s .entry)) (now (s .exit)) ⌝ }
+    ensures { λ end. ⌜ Loaded n stamp k end (rowsOf (orderOf n (now (marks .entry))) (now (starts .entry)) (now (columns .entry)) (now (r .entry))) (now (marks .entry)) (now (marks .exit)) ⌝ }
 {
-    let end = window_at(s, n, k, hi, columns, starts, r);
-    let head = marks::wide32(s[scratch::HEADS * n + k]);
-    stamp_list(s, n, stamp, head);
+    let end = window_at(marks, n, k, hi, starts, columns, r);
+    let head = base::slot(marks[scratch::HEADS * n + k]);
+    stamp_list(marks, n, stamp, head);
     end
-}
-
-// Stamps the places of a row's columns.
-fn load_row(s: &mut [u32], n: usize, stamp: u32, cols: &[Index])
-    requires { ⌜ Room n (now s) ⌝ }
-    requires { ⌜ Order n (now s) ⌝ }
-    requires { ⌜ Below n (now cols) ⌝ }
-    ensures { λ _. ⌜ now (s .exit) ≡ stamped n stamp (now (s .entry)) (placed (orderOf n (now (s .entry))) (now (cols .entry))) ⌝ }
-{
-    let mut q = 0;
-    while q < cols.len() {
-        let j = entry_place(s, n, cols, q);
-        marks::mark(s, n, stamp, j);
-        q += 1;
-    }
 }
 
 // Place k of a side as stamps: row k of M' above, column k below. Answers the end of the window at hand.
 pub fn load(
     side: Side,
-    s: &mut [u32],
+    marks: &mut [u32],
     n: usize,
     stamp: u32,
     k: usize,
     hi: usize,
-    columns: &[Index],
     starts: &[u32],
+    columns: &[Index],
     r: &[Index],
 ) -> usize
-    requires { ⌜ Given n (now columns) (now starts) (now r) (now s) ⌝ }
-    requires { ⌜ SideReady side n k hi (rowsOf (orderOf n (now s)) (now columns) (now starts) (now r)) (now s) ⌝ }
+    requires { ⌜ Given n (now starts) (now columns) (now r) (now marks) ⌝ }
+    requires { ⌜ SideReady side n k hi (rowsOf (orderOf n (now marks)) (now starts) (now columns) (now r)) (now marks) ⌝ }
     requires { ⌜ k < n ⌝ }
-    ensures { λ end. ⌜ SideLoaded side n stamp k hi end (rowsOf (orderOf n (now (s .entry))) (now (columns .entry)) (now (starts .entry)) (now (r .entry))) (now (s .entry)) (now (s .exit)) ⌝ }
+    ensures { λ end. ⌜ SideLoaded side n stamp k hi end (rowsOf (orderOf n (now (marks .entry))) (now (starts .entry)) (now (columns .entry)) (now (r .entry))) (now (marks .entry)) (now (marks .exit)) ⌝ }
 {
     match side {
-        Side::Lower => load_column(s, n, stamp, k, hi, columns, starts, r),
+        Side::Lower => load_column(marks, n, stamp, k, hi, starts, columns, r),
         Side::Upper => {
-            let cols = row_of(columns, starts, r, k);
-            load_row(s, n, stamp, cols);
+            let cols = row_of(starts, columns, r, k);
+            marks::load_row(marks, n, stamp, cols);
             hi
         }
     }

@@ -1,13 +1,13 @@
 -- A turn of the loop that keeps L by columns.
 use mathlib.Core.Path.{_≡_, refl, sym, ap, _∙_}
 use mathlib.Core.List.{List}
-use Prim.Native.Nat.{ℕ, _+_, _-_, _*_, _<_, _≤_}
+use Prim.Native.Nat.{ℕ, _+_, _<_, _≤_}
 use native.Mathlib.Omega.{arith}
 use lib.ListN.{length, getD, drop, set, length-drop, length-set}
 use lib.Seq.{getD-take, getD-drop, getD-set-other, drop-set-add, length-take-le}
 use lib.Ieee.{Float, nan}
 use Rattle.base.specs.declared.Form.the-variants.{Shared}
-use Rattle.marks.specs.Rows.{But}
+use Rattle.lent.specs.Reading.{But}
 use Rattle.numeric.specs.Stores.{columns}
 use Rattle.numeric.proofs.Turns.{Keeping, keeping-more, keeping-end}
 use Rattle.factor.specs.Factoring.{lowerIn, LowerAt, Spread, LowerKept, KeepGiven}

@@ -11,7 +11,7 @@ use Rattle.base.specs.declared.Asked.the-variants.{Pass}
 use Rattle.base.specs.declared.Form.the-variants.{Plain, Shared, ByRow}
 use Rattle.base.specs.declared.Side.the-variants.{Lower, Upper}
 use Rattle.fill.specs.Fill.{reach, filled, upper, upperRow, lowerRow}
-use Rattle.matrix.specs.Input.{Input, inputOf, isOf, stored}
+use Rattle.matrix.specs.Input.{Input, inputOf, isOf, ic, stored}
 use Rattle.matrix.specs.Questions.{badStart, badColumn, badIndex, notFinite, emptyRow, noEntry, repeatRow, repeats, seenAt, ask3, ask4, ask5, ask6, ask7, ask8, askFinite, askPattern, askRows, askSolve}
 use Rattle.questions.specs.Lent.{SolveLent}
 use Rattle.questions.specs.SettledLaws.{settled}
@@ -41,7 +41,7 @@ lent = record {
 sides : PlacedSide Plain Upper (stored example) 2 (0 ∷ 1 ∷ 1 ∷ []) (0 ∷ 1 ∷ 1 ∷ []) (1 ∷ []) 1 × PlacedSide Shared Upper (stored example) 2 (0 ∷ 1 ∷ 1 ∷ []) (0 ∷ 1 ∷ []) (1 ∷ []) 1
     × PlacedSide ByRow Upper (stored example) 2 (0 ∷ 1 ∷ 1 ∷ []) (0 ∷ 1 ∷ []) (1 ∷ []) 1 × PlacedSide Plain Lower (stored example) 2 (0 ∷ 0 ∷ 1 ∷ []) (0 ∷ 0 ∷ 1 ∷ []) (0 ∷ []) 1
     × Starts Shared (stored example) 2 (0 ∷ 1 ∷ 1 ∷ []) 1
-unfolding table valueNeed startOf indexNeed placedTo placed after shared plain appendAll tailOr bestFrom tails countAbove overlap fresh meets firstAt agree padded upperRow lowerRow asc upper filled reach stored has listAt
+unfolding table valueNeed startOf indexNeed placedTo placed after shared plain appendAll tailOr bestFrom tails countAbove overlap fresh meets firstAt agree padded upperRow lowerRow asc upper filled reach stored ic first isOf has listAt
 sides = (
   record { starts-are = refl; runs-are = refl; index-is = refl; index-in = omega arith; values-in = omega arith },
   record { starts-are = refl; runs-are = refl; index-is = refl; index-in = omega arith; values-in = omega arith },

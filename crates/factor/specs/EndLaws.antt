@@ -1,7 +1,7 @@
 -- Before the first row, and from the last row and the back steps to the answer.
 use mathlib.Core.Path.{_≡_, refl, sym, ap, _∙_, subst}
 use mathlib.Core.List.{List, [], _∷_}
-use Prim.Native.Nat.{ℕ, zero, suc, _+_, _-_, _*_, _<_, _≤_}
+use Prim.Native.Nat.{ℕ, zero, suc, _+_, _*_, _<_, _≤_}
 use native.Mathlib.Omega.{arith}
 use lib.ListN.{length, getD, drop, set, replicate, length-replicate, getD-replicate}
 use lib.Seq.{ext-getD, getD-take, getD-drop}
@@ -89,7 +89,7 @@ module _ (i : Input) (L : Lists) {w : Written} (x : Written) (s : Sizes w x) (sl
 
   -- no mark and no cut yet
   found-start : Finding ByRow i L 0 (x .marks)
-  found-start = found.held-start (stored i) (i .n) (0 + 1) (3 * i .n) (x .marks) (L .upper-index) (L .upper-runs) (L .upper-starts) (λ j b. omega (arith, mark-at j b))
+  found-start = found.held-start (stored i) (i .n) (0 + 1) (3 * i .n) (x .marks) (L .upper-starts) (L .upper-runs) (L .upper-index) (λ j b. omega (arith, mark-at j b))
 
   finding-start : (f : Form) → Finding f i L 0 (x .marks)
   finding-start Plain = tt

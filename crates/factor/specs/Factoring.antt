@@ -21,7 +21,7 @@ use Rattle.questions.specs.Lent.{SolveLent}
 use Rattle.questions.specs.Settled.{Settled}
 use Rattle.marks.specs.Marks as marking
 use Rattle.marks.specs.Rows as found
-use Rattle.lent.specs.Reading.{ListIn, Below}
+use Rattle.lent.specs.Reading.{ListIn, Below, But, placed, orderOf}
 use Rattle.numeric.specs.Stores.{Ascending, StoreShape, gathered, columns, keepColumns}
 use Rattle.numeric.specs.Rows.{RowsHeld, Stacked, lOf, columnOf, InColumns}
 use Rattle.factor.specs.declared.Factored.{Factored}
@@ -103,8 +103,8 @@ Inverse i s = (j : ℕ) → j < i .n → getD s (i .n + j) 0 ≡ ic (i .c) (i .n
 -- by which lower row k is found: the plain form reads it
 abbrev pub Finding : Form → Input → Lists → ℕ → List ℕ → Type 0
 Finding Plain i L k s = Unit {0}
-Finding Shared i L k s = found.Held (stored i) (i .n) k (k + 1) (3 * i .n) s (L .upper-index) (L .upper-runs) (L .upper-starts)
-Finding ByRow i L k s = found.Held (stored i) (i .n) k (k + 1) (3 * i .n) s (L .upper-index) (L .upper-runs) (L .upper-starts)
+Finding Shared i L k s = found.Held (stored i) (i .n) k (k + 1) (3 * i .n) s (L .upper-starts) (L .upper-runs) (L .upper-index)
+Finding ByRow i L k s = found.Held (stored i) (i .n) k (k + 1) (3 * i .n) s (L .upper-starts) (L .upper-runs) (L .upper-index)
 
 -- rows 0 to k - 1 are done
 pub record Going (f : Form) (i : Input) (L : Lists) (k : ℕ) (w : Written) : Type 0 where
@@ -142,16 +142,16 @@ pub record Findable (P : Pattern) (n k : ℕ) (starts columns r ustarts runs ind
   pub place : k < n
   pub room : marking.Room n s
   pub own-place : k < length r
-  pub row : marking.ListIn columns starts starts (getD r k 0)
+  pub row : ListIn starts starts (length columns) (getD r k 0)
   pub columns-below : Below n (rowOf starts columns (getD r k 0))
-  pub inverse : (j : ℕ) → j < n → getD s (n + j) 0 < n
-  pub entries : (j : ℕ) → j < n → has (marking.through s n (rowOf starts columns (getD r k 0))) j ≡ P k j
-  pub held : found.Held P n k (k + 1) (3 * n) s index runs ustarts
-  pub store : found.Stored P n (k + 1) index runs ustarts
+  pub inverse : marking.Order n s
+  pub entries : (j : ℕ) → j < n → has (placed (orderOf n s) (rowOf starts columns (getD r k 0))) j ≡ P k j
+  pub held : found.Held P n k (k + 1) (3 * n) s ustarts runs index
+  pub store : found.Stored P n (k + 1) ustarts runs index
 
 -- lower row k, so long, stands from slot 5n on; the inverse order and the cursors are as they were, and row k + 1 can be found
 pub record LowerFound (P : Pattern) (n k below : ℕ) (ustarts runs index s₀ s : List ℕ) : Type 0 where
-  pub next : found.Held P n (k + 1) (k + 1 + 1) (3 * n) s index runs ustarts
+  pub next : found.Held P n (k + 1) (k + 1 + 1) (3 * n) s ustarts runs index
   pub size : below ≡ length (lowerRow P k)
   pub lower : lowerIn n below s ≡ lowerRow P k
   pub inverse : (j : ℕ) → j < n → getD s (n + j) 0 ≡ getD s₀ (n + j) 0
@@ -225,7 +225,7 @@ LowerKept ByRow n k below starts w l₀ l s₀ s = l ≡ l₀
 
 pub record KeepGiven (f : Form) (n k below : ℕ) (starts : List ℕ) (w l₀ l : List Float) (s₀ s : List ℕ) : Type 0 where
   pub values : LowerKept f n k below starts w l₀ l s₀ s
-  pub same : found.But (cursorsFrom n) (listFrom n) s₀ s
+  pub same : But (cursorsFrom n) (listFrom n) s₀ s
 
 -- ---- the back steps
 

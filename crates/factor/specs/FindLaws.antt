@@ -1,7 +1,7 @@
 -- Lower row k found anew, in the forms that keep no lower rows: from what its calls leave, and between two rows.
 use mathlib.Core.Path.{_≡_, refl, sym, ap, _∙_}
 use mathlib.Core.List.{List, [], _∷_, map}
-use Prim.Native.Nat.{ℕ, suc, _+_, _-_, _*_, _<_, _≤_}
+use Prim.Native.Nat.{ℕ, suc, _+_, _*_, _<_, _≤_}
 use native.Mathlib.Omega.{arith}
 use lib.ListN.{length, getD, take, drop, length-drop}
 use lib.Seq.{getD-take, getD-drop, ext-getD, length-take-le}
@@ -12,11 +12,13 @@ use Rattle.fill.specs.Fill.{Pattern, filled}
 use Rattle.matrix.specs.Input.{Input, ic, stored}
 use Rattle.matrix.specs.OrderLaws.{order-below, place-hits}
 use Rattle.questions.specs.Settled.{Under, columnsAt}
-use Rattle.questions.specs.SettledLaws.{row-under, stored-is}
+use Rattle.questions.specs.SettledLaws.{row-under}
 use Rattle.outcome.specs.Placed.{PlacedSide, starts-long, size-at, run-at, run-inside, list-at}
-use Rattle.marks.specs.Marks.{Below, Holds, Base, Parts, Blocks, members, through}
+use Rattle.lent.specs.Reading.{Below, But, orderOf, placed}
+use Rattle.lent.specs.ReadingLaws.{order-read}
+use Rattle.marks.specs.Marks.{Holds, Base, Parts, Blocks, members}
 use Rattle.marks.specs.MarkLaws.{holds-same}
-use Rattle.marks.specs.Rows.{Stored, Held, Loaded, LowerListed, Closing, But, Renewed}
+use Rattle.marks.specs.Rows.{Stored, Held, Loaded, LowerListed, Closing, Renewed}
 use Rattle.marks.specs.FillLaws.{held-parts}
 use Rattle.marks.specs.ListLaws.{lower-members, lower-marks, lower-read, lower-but, lower-le}
 use Rattle.marks.specs.Turn.{loaded-cuts, closed-marks, place-turn}
@@ -29,23 +31,23 @@ pub base-at : (n : ℕ) → Base n (3 * n)
 base-at n = record { low = omega arith; high = omega arith }
 
 module _ {P : Pattern} {n k : ℕ} {starts columns r index runs ustarts s₀ : List ℕ} (F : Findable P n k starts columns r ustarts runs index s₀) where
-  module _ {s₁ : List ℕ} (loaded : Loaded n (k + 1) (getD r k 0) columns starts s₀ s₁) (l₁ : length s₁ ≡ length s₀) where
+  module _ {s₁ : List ℕ} (loaded : Loaded n (k + 1) (getD r k 0) starts columns s₀ s₁) (l₁ : length s₁ ≡ length s₀) where
     marked-row : Holds n (k + 1) s₁ (P k)
-    marked-row = holds-same n (k + 1) s₁ (has (through s₀ n (rowOf starts columns (getD r k 0)))) (P k) (F .entries) (loaded .row (F .held .fresh))
+    marked-row = holds-same n (k + 1) s₁ (has (placed (orderOf n s₀) (rowOf starts columns (getD r k 0)))) (P k) (F .entries) (loaded .row (F .held .fresh))
 
-    pub close-parts : Parts n k s₁ (3 * n) index runs
-    close-parts = held-parts P n k index runs ustarts (F .held .store) (3 * n) s₁
-        (loaded-cuts P n k (k + 1) (3 * n) (listFrom n) (F .place) (base-at n) (omega arith) index runs ustarts s₀ s₁ s₁ (F .held) (loaded .same) marked-row) (omega (arith, F .place))
+    pub close-parts : Parts n k s₁ (3 * n) runs index
+    close-parts = held-parts P n k ustarts runs index (F .held .store) (3 * n) s₁
+        (loaded-cuts P n k (k + 1) (3 * n) (listFrom n) (F .place) (base-at n) (omega arith) ustarts runs index s₀ s₁ s₁ (F .held) (loaded .same) marked-row) (omega (arith, F .place))
 
     pub close-blocks : Blocks n (k + 1) s₁
     close-blocks = marked-row .blocks
 
-    module _ {s₃ : List ℕ} {below : ℕ} (closing : Closing n (k + 1) k (3 * n) index runs s₁ s₃ below) (l₃ : length s₃ ≡ length s₁) where
+    module _ {s₃ : List ℕ} {below : ℕ} (closing : Closing n (k + 1) k (3 * n) runs index s₁ s₃ below) (l₃ : length s₃ ≡ length s₁) where
       abbrev s₂ : List ℕ
       s₂ = closing .mid
 
       filled-row : Holds n (k + 1) s₂ (filled P k)
-      filled-row = closed-marks P n k (k + 1) (3 * n) (listFrom n) (F .place) (base-at n) (omega arith) index runs ustarts s₀ s₁ s₂ (F .held) (loaded .same) marked-row (closing .closed)
+      filled-row = closed-marks P n k (k + 1) (3 * n) (listFrom n) (F .place) (base-at n) (omega arith) ustarts runs index s₀ s₁ s₂ (F .held) (loaded .same) marked-row (closing .closed)
 
       listed : LowerListed P n k s₂ s₃ below
       listed = closing .lower P filled-row
@@ -63,13 +65,13 @@ module _ {P : Pattern} {n k : ℕ} {starts columns r index runs ustarts s₀ : L
       pub cut-members : take below (drop (listFrom n) s₃) ≡ members (k + 1) s₃ 0 k
       cut-members = lower-read P n k s₂ s₃ below listed fits (F .place) ∙ sym (lower-members P n (k + 1) k s₃ (F .place) kept-marks)
 
-      module _ {s₄ : List ℕ} (renewed : Renewed n (k + 1) k (3 * n) index runs ustarts s₃ s₄) (l₄ : length s₄ ≡ length s₃) where
+      module _ {s₄ : List ℕ} (renewed : Renewed n (k + 1) k (3 * n) ustarts runs index s₃ s₄) (l₄ : length s₄ ≡ length s₃) where
         -- a slot that no step writes
         same : (q : ℕ) → n ≤ q → (zFrom n ≤ q → cursorsFrom n ≤ q) → q < listFrom n → getD s₄ q 0 ≡ getD s₀ q 0
         same q a b c =
             renewed .kept q (λ e. omega (arith, b (omega arith), F .place))
             ∙ written q (λ e. absurd (omega arith))
-            ∙ closing .closed .same q (record { past = a; away = λ e. omega (arith, b e) }) ∙ loaded .same q (record { past = a; away = λ e. omega (arith, b e) })
+            ∙ closing .closed .same .slots q (λ e. a) (λ e. omega (arith, b e)) ∙ loaded .same .slots q (λ e. a) (λ e. omega (arith, b e))
 
         short : below ≤ n
         short = omega (arith, listed .lower, lower-le P k, F .place)
@@ -85,8 +87,8 @@ module _ {P : Pattern} {n k : ℕ} {starts columns r index runs ustarts s₀ : L
 
         pub found : LowerFound P n k below ustarts runs index s₀ s₄
         found = record {
-          next = place-turn P n k (k + 1) (3 * n) (listFrom n) (F .place) (base-at n) (omega arith) index runs ustarts s₀ s₁ s₂ (F .held) (loaded .same) marked-row (closing .closed) s₃ (listFrom n + below) written
-              s₄ index runs ustarts (F .store) renewed (k + 1 + 1) (omega arith);
+          next = place-turn P n k (k + 1) (3 * n) (listFrom n) (F .place) (base-at n) (omega arith) ustarts runs index s₀ s₁ s₂ (F .held) (loaded .same) marked-row (closing .closed) s₃ (listFrom n + below) written
+              s₄ ustarts runs index (F .store) renewed (k + 1 + 1) (omega arith);
           size = listed .lower;
           lower = lower-same ∙ lower-read P n k s₂ s₃ below listed fits (F .place);
           inverse = λ j h. same (n + j) (omega arith) (λ e. absurd (omega arith)) (omega arith);
@@ -95,12 +97,15 @@ module _ {P : Pattern} {n k : ℕ} {starts columns r index runs ustarts s₀ : L
 
 -- ---- between two rows
 
-through-is : (f : ℕ → ℕ) (n : ℕ) (s cols : List ℕ) → ((j : ℕ) → j < n → getD s (n + j) 0 ≡ f j) → Below n cols → through s n cols ≡ map f cols
-through-is f n s [] e b = refl
-through-is f n s (j ∷ cols) e b = rw (e j (b 0 (omega arith)), through-is f n s cols e (λ p h. b (suc p) (omega arith)))
+placed-is : (f : ℕ → ℕ) (n : ℕ) (s cols : List ℕ) → ((j : ℕ) → j < n → getD s (n + j) 0 ≡ f j) → Below n cols → placed (orderOf n s) cols ≡ map f cols
+unfolding placed
+placed-is f n s [] e b = refl
+placed-is f n s (j ∷ cols) e b =
+    let h = b 0 (omega arith) in
+    rw (← order-read n s j h, e j h, placed-is f n s cols e (λ p h. b (suc p) (omega arith)))
 
 -- the lists of the places up to k stand in the store
-placed-stored : (f : Form) (P : Pattern) (n k : ℕ) (starts runs index : List ℕ) (size : ℕ) → k < n → PlacedSide f Upper P n starts runs index size → Stored P n (k + 1) index runs starts
+placed-stored : (f : Form) (P : Pattern) (n k : ℕ) (starts runs index : List ℕ) (size : ℕ) → k < n → PlacedSide f Upper P n starts runs index size → Stored P n (k + 1) starts runs index
 placed-stored f P n k starts runs index size h S = record {
   list = λ j l. list-at f Upper P n starts runs index size S j (omega arith);
   read = λ j l. record {
@@ -112,7 +117,7 @@ placed-stored f P n k starts runs index size h S = record {
 }
 
 module _ {f : Form} {i : Input} {L : Lists} {k : ℕ} {w : Written} (G : Going f i L k w) (h : k < i .n)
-    (H : Held (stored i) (i .n) k (k + 1) (3 * i .n) (w .marks) (L .upper-index) (L .upper-runs) (L .upper-starts)) where
+    (H : Held (stored i) (i .n) k (k + 1) (3 * i .n) (w .marks) (L .upper-starts) (L .upper-runs) (L .upper-index)) where
   abbrev own : ℕ
   own = getD (i .r) k 0
 
@@ -122,6 +127,7 @@ module _ {f : Form} {i : Input} {L : Lists} {k : ℕ} {w : Written} (G : Going f
 
   -- what finding lower row k asks
   pub findable : Findable (stored i) (i .n) k (i .starts) (i .columns) (i .r) (L .upper-starts) (L .upper-runs) (L .upper-index) (w .marks)
+  unfolding stored
   findable =
       let g = G .given .settled .structured .readable in
       let b = order-below (i .r) (i .n) (g .row-order) k h in
@@ -137,8 +143,8 @@ module _ {f : Form} {i : Input} {L : Lists} {k : ℕ} {w : Written} (G : Going f
           inside = omega (arith, row .up, row .within);
         };
         columns-below = columns-in;
-        inverse = λ j l. rw (G .inverse j l) (place-hits (i .c) (i .n) (g .column-order) j l .0);
-        entries = λ j l. ap (λ (x : List ℕ). has x j) (through-is (ic (i .c) (i .n)) (i .n) (w .marks) (columnsAt i k) (G .inverse) columns-in) ∙ sym (stored-is i g k j l);
+        inverse = λ j l. rw (← order-read (i .n) (w .marks) j l, G .inverse j l) (place-hits (i .c) (i .n) (g .column-order) j l .0);
+        entries = λ j l. ap (λ (x : List ℕ). has x j) (placed-is (ic (i .c) (i .n)) (i .n) (w .marks) (columnsAt i k) (G .inverse) columns-in);
         held = H;
         store = placed-stored f (stored i) (i .n) k (L .upper-starts) (L .upper-runs) (L .upper-index) (length (w .upper)) h (G .given .upper-side);
       }

@@ -2,7 +2,7 @@
 use mathlib.Core.Path.{_≡_, refl, sym, ap, _∙_, subst}
 use mathlib.Core.Bool.{Bool, true}
 use mathlib.Core.List.{List, [], _∷_, _++_}
-use Prim.Native.Nat.{ℕ, _+_, _-_, _*_, _<_, _≤_}
+use Prim.Native.Nat.{ℕ, _+_, _*_, _<_, _≤_}
 use native.Mathlib.Omega.{arith}
 use lib.ListN.{length, getD, take, drop, length-drop}
 use lib.Seq.{sets, ext-getD, getD-take, getD-drop, length-take-le}
@@ -19,8 +19,8 @@ use Rattle.arithmetic.specs.Arith.{Row}
 use Rattle.outcome.specs.Placed.{PlacedSide, start-at, starts-long, size-at, values-at, run-inside, list-at}
 use Rattle.outcome.specs.Forms.{placedTo}
 use Rattle.outcome.specs.Solve.{system}
+use Rattle.lent.specs.Reading.{But}
 use Rattle.marks.specs.MarkLaws.{sets-below}
-use Rattle.marks.specs.Rows as found
 use Rattle.marks.specs.RenewLaws.{held-kept}
 use Rattle.marks.specs.ListLaws.{lower-le}
 use Rattle.numeric.specs.declared.Pivot.{Pivot}
@@ -211,17 +211,17 @@ kept-held {i = i} ByRow G h m below e em next g l x en K = K ∙ G .lower
 
 -- ---- keeping L writes the cursors alone
 
-held-stays : (i : Input) (L : Lists) (k : ℕ) (m x : List ℕ) → k < i .n → found.But (cursorsFrom (i .n)) (listFrom (i .n)) m x → Finding ByRow i L (k + 1) m → Finding ByRow i L (k + 1) x
+held-stays : (i : Input) (L : Lists) (k : ℕ) (m x : List ℕ) → k < i .n → But (cursorsFrom (i .n)) (listFrom (i .n)) m x → Finding ByRow i L (k + 1) m → Finding ByRow i L (k + 1) x
 held-stays i L k m x h same F =
-    held-kept (stored i) (i .n) (k + 1) (k + 1 + 1) (k + 1 + 1) (3 * i .n) m x (L .upper-index) (L .upper-runs) (L .upper-starts)
+    held-kept (stored i) (i .n) (k + 1) (k + 1 + 1) (k + 1 + 1) (3 * i .n) m x (L .upper-starts) (L .upper-runs) (L .upper-index)
     (λ j b. same (3 * i .n + j) (λ e. absurd (omega arith))) (λ j b. rw (same j (λ e. absurd (omega arith))) (F .fresh j b)) F
 
-finding-stays : (f : Form) (i : Input) (L : Lists) (k : ℕ) (m x : List ℕ) → k < i .n → found.But (cursorsFrom (i .n)) (listFrom (i .n)) m x → Finding f i L (k + 1) m → Finding f i L (k + 1) x
+finding-stays : (f : Form) (i : Input) (L : Lists) (k : ℕ) (m x : List ℕ) → k < i .n → But (cursorsFrom (i .n)) (listFrom (i .n)) m x → Finding f i L (k + 1) m → Finding f i L (k + 1) x
 finding-stays Plain i L k m x h same F = tt
 finding-stays Shared i L k m x h same F = held-stays i L k m x h same F
 finding-stays ByRow i L k m x h same F = held-stays i L k m x h same F
 
-lower-stays : (n below : ℕ) (m x : List ℕ) → listFrom n + below ≤ length m → length x ≡ length m → found.But (cursorsFrom n) (listFrom n) m x → lowerIn n below x ≡ lowerIn n below m
+lower-stays : (n below : ℕ) (m x : List ℕ) → listFrom n + below ≤ length m → length x ≡ length m → But (cursorsFrom n) (listFrom n) m x → lowerIn n below x ≡ lowerIn n below m
 lower-stays n below m x r ex same =
     let a : length (lowerIn n below x) ≡ below = length-take-le below (drop (listFrom n) x) (simp length-drop (omega arith)) in
     let b : length (lowerIn n below m) ≡ below = length-take-le below (drop (listFrom n) m) (simp length-drop (omega arith)) in
@@ -253,7 +253,7 @@ module _ {i : Input} {L : Lists} {k : ℕ} {w : Written} (f : Form) (G : Going f
     pub close-asked : LowerAt (i .n) below (length x) × Closable (i .n) k (length g) (lowerIn (i .n) below x) (L .upper-starts) (L .upper-runs) (L .upper-index) (length (w .d))
     close-asked = row-closable G h g lg (lowered-row G h (ex ∙ em) row-kept)
 
-    pub row-more : (u d v : List Float) → Sizes w (written l u d v x) → (t : RowSums) (p : Pivot) → p ≡ pivot.Kept t
+    pub row-more : (u d v : List Float) → Sizes w (written l u d v x) → (t : RowSums) (p : Pivot) → p ≡ pivot.Usable t
         → Reduced (system i) (G .rows) (i .n) k (L .upper-starts) (w .work) g (w .upper) u p
         → Shut (i .n) k (lowerIn (i .n) below x) (listAt (L .upper-starts) (L .upper-runs) (L .upper-index) k) g v (w .d) d t
         → Going f i L (k + 1) (written l u d v x)

@@ -2,7 +2,7 @@
 use mathlib.Core.Path.{_≡_, refl, sym, ap, _∙_}
 use mathlib.Core.Bool.{true, _&&_, _||_}
 use mathlib.Core.List.{List, [], _∷_, _++_, map}
-use Prim.Native.Nat.{ℕ, suc, _+_, _-_, _*_, _<_, _≤_}
+use Prim.Native.Nat.{ℕ, suc, _+_, _-_, _<_, _≤_}
 use native.Mathlib.Omega.{arith}
 use native.Mathlib.Decide.{decLt}
 use lib.ListN.{length, getD, take, drop, length-take, length-drop}
@@ -24,7 +24,7 @@ use Rattle.matrix.specs.OrderLaws.{place-hits}
 use Rattle.outcome.specs.Solve.{system}
 use Rattle.outcome.specs.Placed.{PlacedSide, starts-long, size-at, values-at, run-at, run-inside, list-at}
 use Rattle.questions.specs.Settled.{Under, Finite, placesAt}
-use Rattle.questions.specs.SettledLaws.{row-under, stored-is, places-under}
+use Rattle.questions.specs.SettledLaws.{row-under, places-under}
 use Rattle.marks.specs.FillLaws.{upper-below}
 use Rattle.lent.specs.Reading.{Below, ownAt, orderOf}
 use Rattle.numeric.specs.Stores.{Ascending, StoreShape, Reducible, placesOf}
@@ -175,11 +175,11 @@ module _ (i : Input) (k below : ℕ) (us ur ui marks : List ℕ) (upper work : �
         rw (getD-take (getD s (own + 1) 0 - getD s own 0) (drop (getD s own 0) (i .values)) p nan (omega arith), getD-drop) (R .settled .values (getD s own 0 + p) (omega arith))
 
     place-filled : (p : ℕ) → p < length (placesAt i k) → has (filledRow (system i) k) (getD (placesAt i k) p 0) ≡ true
-    unfolding system Under
+    unfolding system stored Under
     place-filled p g =
         let b = places-under i (R .settled .structured .readable) k p g in
         row-has (stored i) (i .n) k (getD (placesAt i k) p 0) b
-        (filled-stored (stored i) k (getD (placesAt i k) p 0) (stored-is i (R .settled .structured .readable) k (getD (placesAt i k) p 0) b ∙ has-at (placesAt i k) p g))
+        (filled-stored (stored i) k (getD (placesAt i k) p 0) (has-at (placesAt i k) p g))
 
     pub row-lent : RowLent (system i) k lower (placesOf (orderOf (i .n) marks) columns) values b
     unfolding system entries rightAt Finite

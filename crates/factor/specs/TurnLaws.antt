@@ -2,7 +2,7 @@
 use mathlib.Core.Path.{_≡_, refl, sym, ap, _∙_, subst}
 use mathlib.Core.Bool.{Bool, true, false, true≢false}
 use mathlib.Core.List.{List, [], _∷_, _++_}
-use Prim.Native.Nat.{ℕ, _+_, _-_, _*_, _<_}
+use Prim.Native.Nat.{ℕ, _+_, _<_}
 use native.Mathlib.Omega.{arith}
 use native.Mathlib.Decide.{decLt}
 use lib.ListN.{length, getD, take, drop, List·getD-append}
@@ -20,7 +20,7 @@ use Rattle.outcome.specs.Solve.{system, listed}
 use Rattle.outcome.proofs.Meaning.{listed-stops}
 use Rattle.marks.specs.ListLaws.{lower-le}
 use Rattle.numeric.specs.declared.Pivot.{Pivot}
-use Rattle.numeric.specs.declared.Pivot.the-variants.{Kept, Zero, Overflow}
+use Rattle.numeric.specs.declared.Pivot.the-variants.{Usable, Zero, Overflow}
 use Rattle.lent.specs.Reading.{ListIn, Below}
 use Rattle.numeric.specs.Stores.{Closable, gathered}
 use Rattle.numeric.specs.Rows.{Reduced, Shut, keptRow}
@@ -28,7 +28,7 @@ use Rattle.numeric.specs.PassLaws.{forward-length, held-more, held-zero, held-o
 use Rattle.factor.specs.declared.Factored.{Factored}
 use Rattle.factor.specs.declared.Factored.the-variants.{Solved}
 use Rattle.factor.specs.declared.Factored.the-variants as done
-use Rattle.factor.specs.Factoring.{FactoredAs, CameTo, isFault, Lists, Written, written, LowerPlaced, Factorable, LowerHeld, Inverse, Finding, Going, RowAt, lowerIn, LowerAt}
+use Rattle.factor.specs.Factoring.{FactoredAs, CameTo, isFault, Lists, Written, LowerPlaced, Factorable, LowerHeld, Inverse, Finding, Going, RowAt, lowerIn, LowerAt}
 use Rattle.factor.specs.SystemLaws.{lower-below, system-closed, placed-shape}
 use Rattle.base.specs.Scratch.{cursorsFrom}
 
@@ -149,7 +149,7 @@ module _ {f : Form} {i : Input} {L : Lists} {k : ℕ} {w : Written} (G : Going f
   )
 
   -- a row that is kept: its steps left g and x .upper, its closing x .work and x .d
-  module _ (x : Written) (s : Sizes w x) (lower : List ℕ) (el : lower ≡ lowerRow (stored i) k) (g : List Float) (lg : length g ≡ length (w .work)) (t : RowSums) (p : Pivot) (ep : p ≡ Kept t)
+  module _ (x : Written) (s : Sizes w x) (lower : List ℕ) (el : lower ≡ lowerRow (stored i) k) (g : List Float) (lg : length g ≡ length (w .work)) (t : RowSums) (p : Pivot) (ep : p ≡ Usable t)
       (R : Reduced (system i) (G .rows) (i .n) k (L .upper-starts) (w .work) g (w .upper) (x .upper) p)
       (Q : Shut (i .n) k lower (listAt (L .upper-starts) (L .upper-runs) (L .upper-index) k) g (x .work) (w .d) (x .d) t) where
     abbrev pub next : Row

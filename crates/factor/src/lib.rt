@@ -26,7 +26,6 @@ ghost use Rattle.factor.specs.Factoring.{FactoredAs, lists, written, Fac
 ghost use Rattle.base.specs.Scratch.{listFrom, zFrom};
 ghost use Rattle.fill.specs.Fill.{Pattern};
 ghost use Rattle.lent.specs.Reading.{ListIn};
-ghost use Rattle.base.specs.Limits.{maxRows};
 
 // Every row is done and z is found, or what the arithmetic meets first.
 pub enum Factored {
@@ -158,18 +157,17 @@ fn find_lower(
 {
     let stamp = k.0 + 1;
     let cuts = scratch::UPPER_CUTS * n;
-    marks::load_row_place(marks, n, stamp, k, columns, starts, r);
-    let below = marks::close_place(marks, n, stamp, k, cuts, upper_index, upper_runs);
+    marks::load_row_place(marks, n, stamp, k, starts, columns, r);
+    let below = marks::close_place(marks, n, stamp, k, cuts, upper_runs, upper_index);
     marks::renew_cuts(
         marks,
         n,
-        stamp,
         k,
         below,
         cuts,
-        upper_index,
-        upper_runs,
         upper_starts,
+        upper_runs,
+        upper_index,
     );
     below
 }
@@ -409,7 +407,7 @@ fn eliminate_row(
     let below = row.below;
     let p = row.pivot;
     match p {
-        Pivot::Kept(t) => {
+        Pivot::Usable(t) => {
             keep_at(form, n, k, lower_starts, lower_values, work, marks, below);
             close_at(
                 n,

@@ -1,6 +1,6 @@
 -- What is lent and only read: lists by their starts, numbers by the orders. And what of a buffer stays as it was. Definitions only.
 use mathlib.Core.Path.{_≡_}
-use mathlib.Core.List.{List}
+use mathlib.Core.List.{List, map}
 use Prim.Native.Nat.{ℕ, _+_, _-_, _<_, _≤_}
 use lib.ListN.{length, getD, take, drop}
 use Rattle.base.specs.Scratch.{inverseFrom}
@@ -34,6 +34,10 @@ placeAt inverse j = record { 0 = getD inverse (j .0) 0 }
 unfoldable pub orderOf : ℕ → List ℕ → List ℕ
 orderOf n s = take n (drop (inverseFrom n) s)
 
+-- own columns at their places
+unfoldable pub placed : List ℕ → List ℕ → List ℕ
+placed inverse columns = map (λ j. getD inverse j 0) columns
+
 -- ---- frames
 
 -- all slots are the same but those from a up to b and from c up to d
@@ -41,6 +45,6 @@ pub record Outside (a b c d : ℕ) (s₀ s : List ℕ) : Type 0 where
   pub size : length s ≡ length s₀
   pub slots : (q : ℕ) → (a ≤ q → b ≤ q) → (c ≤ q → d ≤ q) → getD s q 0 ≡ getD s₀ q 0
 
--- all slots are the same but those from lo up to hi
+-- the same of one range, for any lengths
 abbrev pub But : ℕ → ℕ → List ℕ → List ℕ → Type 0
-But lo hi s₀ s = Outside lo hi lo hi s₀ s
+But lo hi s₀ s = (q : ℕ) → (lo ≤ q → hi ≤ q) → getD s q 0 ≡ getD s₀ q 0

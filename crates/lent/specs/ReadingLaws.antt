@@ -1,15 +1,16 @@
 -- Laws of the parts that are read, and of frames.
 use mathlib.Core.Path.{_≡_, refl, sym, _∙_}
-use mathlib.Core.List.{List}
-use Prim.Native.Nat.{ℕ, _+_, _-_, _<_, _≤_}
+use mathlib.Core.List.{List, [], _∷_}
+use Prim.Native.Nat.{ℕ, zero, suc, _+_, _-_, _<_, _≤_}
 use native.Mathlib.Omega.{arith}
 use native.Mathlib.Decide.{ℕ-discrete}
-use lib.ListN.{length, getD, take, drop, set, length-set}
-use lib.Seq.{getD-set-other, getD-set-same, getD-take, getD-drop}
+use lib.ListN.{length, getD, take, drop, set, length-set, length-map, length-take, length-drop}
+use lib.Seq.{getD-set-other, getD-set-same, getD-take, getD-drop, ext-getD, length-take-le}
 use Rattle.base.specs.Lists.{listAt}
+use Rattle.base.specs.Scratch.{blocksFrom}
 use Rattle.base.specs.declared.OwnNumber.{OwnNumber}
 use Rattle.base.specs.declared.Place.{Place}
-use Rattle.lent.specs.Reading.{placeAt, orderOf, Outside}
+use Rattle.lent.specs.Reading.{ListIn, placeAt, orderOf, placed, Outside}
 
 -- ---- lists and orders
 
@@ -19,12 +20,31 @@ pub part-is : {A : Type 0} (starts runs : List ℕ) (store : List A) (i a lo hi 
 unfolding listAt
 part-is starts runs store i a lo hi ea el eh = let e : a + (hi - lo) - a ≡ hi - lo = omega arith in rw (e, ea, el, eh)
 
+pub list-length : {A : Type 0} (starts runs : List ℕ) (store : List A) (i : ℕ) → ListIn starts runs (length store) i
+    → length (listAt starts runs store i) ≡ getD starts (i + 1) 0 - getD starts i 0
+unfolding listAt
+list-length starts runs store i h = length-take-le _ (drop (getD runs i 0) store) (omega (arith, length-drop (getD runs i 0) store, h .inside))
+
+-- the list of the own row that the order gives
+pub own-in : {starts : List ℕ} {slots j : ℕ} {i : OwnNumber} → _≡_ {A = OwnNumber} i (record { 0 = j }) → ListIn starts starts slots j → ListIn starts starts slots (i .0)
+own-in e h = rw e h
+
 pub order-read : (n : ℕ) (s : List ℕ) (c : ℕ) → c < n → getD s (n + c) 0 ≡ getD (orderOf n s) c 0
 unfolding orderOf
 order-read n s c h = sym (getD-take n (drop n s) c 0 h ∙ getD-drop n s c 0)
 
 pub place-read : (n : ℕ) (s : List ℕ) (c : OwnNumber) (x : ℕ) → c .0 < n → x ≡ n + c .0 → _≡_ {A = Place} (record { 0 = getD s x 0 }) (placeAt (orderOf n s) c)
 place-read n s c x h e = rw (e, order-read n s (c .0) h)
+
+pub placed-length : (ic l : List ℕ) → length (placed ic l) ≡ length l
+unfolding placed
+placed-length ic l = length-map l (λ j. getD ic j 0)
+
+pub placed-at : (ic l : List ℕ) (q : ℕ) → q < length l → getD (placed ic l) q 0 ≡ getD ic (getD l q 0) 0
+unfolding placed
+placed-at ic [] q h = absurd (omega arith)
+placed-at ic (c ∷ l) zero h = refl
+placed-at ic (c ∷ l) (suc q) h = placed-at ic l q (omega arith)
 
 -- ---- frames
 
@@ -34,10 +54,6 @@ module _ {a b c d : ℕ} where
 
   pub then : {s u v : List ℕ} → Outside a b c d s u → Outside a b c d u v → Outside a b c d s v
   then h g = record { size = g .size ∙ h .size; slots = λ x y z. g .slots x y z ∙ h .slots x y z }
-
-  pub wider : {lo hi from to : ℕ} {s u : List ℕ}
-      → ((q : ℕ) → (a ≤ q → b ≤ q) → (c ≤ q → d ≤ q) → (lo ≤ q → hi ≤ q) × (from ≤ q → to ≤ q)) → Outside lo hi from to s u → Outside a b c d s u
-  wider w h = record { size = h .size; slots = λ x y z. h .slots x (w x y z .0) (w x y z .1) }
 
   -- a store to a slot inside
   pub stored : (s : List ℕ) (x v : ℕ) → ((y : ℕ) → (a ≤ y → b ≤ y) → (c ≤ y → d ≤ y) → y ≡ x → ⊥) → Outside a b c d s (set s x v)
@@ -53,3 +69,13 @@ module _ {a b c d : ℕ} where
       go : (y : ℕ) → (a ≤ y → b ≤ y) → (c ≤ y → d ≤ y) → Dec (y ≡ x) → getD (set u x v) y 0 ≡ getD (set s x v) y 0
       go y p q (yes e) = rw e (getD-set-same u x v 0 (omega (arith, k .size)) ∙ sym (getD-set-same s x v 0 h))
       go y p q (no e) = getD-set-other u x y v 0 e ∙ k .slots y p q ∙ sym (getD-set-other s x y v 0 e)
+
+  pub order-outside : (n : ℕ) {s u : List ℕ} → ((x : ℕ) → n ≤ x → x < blocksFrom n → (a ≤ x → b ≤ x) × (c ≤ x → d ≤ x)) → Outside a b c d s u → orderOf n u ≡ orderOf n s
+  unfolding orderOf
+  order-outside n {s} {u} h k =
+      let z = k .size in
+      ext-getD 0 (take n (drop n u)) (take n (drop n s)) (simp (length-take, length-drop, z))
+      (λ i l.
+      let a : i < n = omega (arith, simp length-take at l) in
+      let g = h (n + i) (omega arith) (omega arith) in
+      rw (getD-take n (drop n u) i 0 a, getD-take n (drop n s) i 0 a, getD-drop n u i 0, getD-drop n s i 0) (k .slots (n + i) (g .0) (g .1)))

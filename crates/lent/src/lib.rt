@@ -66,7 +66,7 @@ pub fn row_columns<'a>(starts: &[u32], columns: &'a [Index], i: OwnNumber) -> &'
     list_at(starts, starts, columns, i.0 as usize)
 }
 
-// Their values.
+// The values of an own row, as stored.
 pub fn row_values<'a>(starts: &[u32], values: &'a [f64], i: OwnNumber) -> &'a [f64]
     requires { ⌜ ListIn (now starts) (now starts) (length (now values)) (i .0) ⌝ }
     ensures { λ row. ⌜ now row ≡ rowOf (now (starts .entry)) (now (values .entry)) (i .0) ⌝ }

@@ -42,7 +42,7 @@ lent =
 pub arrow-done : ended (Done (counted 3 3 5))
     (sharedBuffers (0 ∷ 2 ∷ 3 ∷ 3 ∷ []) (0 ∷ 1 ∷ 2 ∷ []) (1 ∷ 2 ∷ []) (replicate 3 nought) (0 ∷ 2 ∷ 3 ∷ 3 ∷ []) (0 ∷ 1 ∷ 2 ∷ []) (1 ∷ 2 ∷ []) (replicate 3 nought) [] []
     (replicate 9 nought) (replicate 32 0)) ≡ structure Shared arrow lent
-unfolding arrow lent structure askShape askStructure askPattern askRows ask3 ask4 ask5 ask7 ask8 first badStart badColumn badIndex isOf emptyRow noEntry repeatRow repeats seenAt listAt askPlaces askPlace filled reach stored has fits indexNeed valueNeed placedTo placed after shared appendAll fresh meets overlap tailOr tails bestFrom countAbove firstAt agree startOf upperRow lowerRow asc upper counts sum count lowerColumn products table structured sidePlaced padded
+unfolding arrow lent structure askShape askStructure askPattern askRows ask3 ask4 ask5 ask7 ask8 first badStart badColumn badIndex isOf emptyRow noEntry repeatRow repeats seenAt listAt askPlaces askPlace filled reach stored ic has fits indexNeed valueNeed placedTo placed after shared appendAll fresh meets overlap tailOr tails bestFrom countAbove firstAt agree startOf upperRow lowerRow asc upper counts sum count lowerColumn products table structured sidePlaced padded
 arrow-done = refl
 
 pub arrow-lists : HandedShared arrow (0 ∷ 2 ∷ 3 ∷ 3 ∷ []) (0 ∷ 1 ∷ 2 ∷ []) (1 ∷ 2 ∷ []) (0 ∷ 2 ∷ 3 ∷ 3 ∷ []) (0 ∷ 1 ∷ 2 ∷ []) (1 ∷ 2 ∷ [])
@@ -50,7 +50,7 @@ arrow-lists = structure-shared arrow lent _ _ _ _ _ _ _ _ _ _ _ _ _ arrow-done
 
 -- T(1) is the tail of T(0)
 pub arrow-one : lookup Shared Upper (spot 1) 3 (sideLists (0 ∷ 2 ∷ 3 ∷ 3 ∷ []) (0 ∷ 1 ∷ 2 ∷ []) (1 ∷ 2 ∷ [])) (sideLists (0 ∷ 2 ∷ 3 ∷ 3 ∷ []) (0 ∷ 1 ∷ 2 ∷ []) (1 ∷ 2 ∷ [])) ≡ 2 ∷ []
-unfolding arrow upperRow asc upper filled reach stored has listAt
+unfolding arrow upperRow asc upper filled reach stored ic first isOf has listAt
 arrow-one = arrow-lists .upper 1 (omega arith) ∙ refl
 
 -- ---- rows (2, 4), (1, 4), b = (10, 9): the solve in the plain form
@@ -79,5 +79,5 @@ two-lists = solve-handed Plain refl two given (solve Plain two given .buffers) (
 
 -- lower row 1
 pub two-one : handed Plain Lower 2 1 (solve Plain two given .buffers) ≡ 0 ∷ []
-unfolding two lowerRow asc filled reach stored has listAt
+unfolding two lowerRow asc filled reach stored ic first isOf has listAt
 two-one = two-lists Lower 1 (omega arith) ∙ refl

@@ -2,12 +2,13 @@
 use mathlib.Core.Path.{_≡_, refl}
 use mathlib.Core.List.{List, [], _∷_}
 use mathlib.Core.Bool.{true}
-use Prim.Native.Nat.{ℕ, zero, suc, _*_}
+use Prim.Native.Nat.{ℕ, zero, suc}
 use native.Mathlib.Omega.{arith}
-use lib.ListN.{getD, take, drop}
+use lib.ListN.{getD}
 use Rattle.base.specs.Lists.{listAt, asc}
 use Rattle.fill.specs.Fill.{Pattern, reach, filled, upper, upperRow, lowerRow}
-use Rattle.marks.specs.Marks.{Room, Base, Fresh, chosen, members, ListIn, Parts}
+use Rattle.lent.specs.Reading.{ListIn}
+use Rattle.marks.specs.Marks.{Room, Base, Fresh, chosen, members, Parts, Walk}
 use Rattle.marks.specs.Rows.{CutAt, uncut, Held, Countable}
 use Rattle.marks.specs.FillLaws.{held-parts}
 use Rattle.marks.specs.ListLaws.{held-countable}
@@ -43,14 +44,14 @@ first-list : listAt starts runs index 0 ≡ upperRow full 2 0
 unfolding listAt upperRow asc upper filled reach
 first-list = refl
 
-first-read : ListIn index runs starts 0
+first-read : ListIn starts runs 1 0
 first-read = record { has-run = omega arith; has-start = omega arith; rise = omega arith; inside = omega arith }
 
 first-cut : CutAt full 2 1 0 (getD scratch 6 0)
 unfolding upperRow asc upper filled reach
 first-cut = uncut refl
 
-held : Held full 2 1 3 6 scratch index runs starts
+held : Held full 2 1 3 6 scratch starts runs index
 held = record {
   fresh = fresh;
   store = record {
@@ -60,16 +61,16 @@ held = record {
   cut = λ i l. let e : i ≡ 0 = omega arith in rw e first-cut;
 }
 
-parts : Parts 2 1 scratch 6 index runs
-parts = held-parts full 2 1 index runs starts (held .store) 6 scratch (held .cut) (omega arith)
+parts : Parts 2 1 scratch 6 runs index
+parts = held-parts full 2 1 starts runs index (held .store) 6 scratch (held .cut) (omega arith)
 
 countable : Countable (lowerRow full 1) starts
-countable = held-countable full 2 1 index runs starts (held .store) (omega arith) (lowerRow full 1) refl
+countable = held-countable full 2 1 starts runs index (held .store) (omega arith) (lowerRow full 1) refl
 
 -- the same place with member 0 marked and written to the list region: what renewing the cuts walks along
 abbrev listed : List ℕ
 listed = 3 ∷ 0 ∷ 0 ∷ 1 ∷ 3 ∷ 0 ∷ 1 ∷ 0 ∷ 0 ∷ 0 ∷ 0 ∷ 0 ∷ 0 ∷ 0 ∷ 0 ∷ 0 ∷ []
 
-walked : take 1 (drop (5 * 2) listed) ≡ members 3 listed 0 1
+walked : Walk 2 1 1 listed
 unfolding members chosen asc
-walked = refl
+walked = record { stamp = 3; list = refl }

@@ -1,7 +1,7 @@
 -- An ascending list cut behind one of its entries.
 use mathlib.Core.Path.{_≡_, refl, sym, ap, _∙_}
 use mathlib.Core.List.{List, [], _∷_}
-use mathlib.Core.Bool.{Bool, true, false, false≢true}
+use mathlib.Core.Bool.{Bool, true, false≢true}
 use mathlib.Core.Logic.{inl, inr}
 use Prim.Native.Nat.{ℕ, zero, suc, _<_}
 use native.Mathlib.Omega.{arith}
@@ -11,11 +11,8 @@ use borrow.Author.Tests.{eq-eqb, ne-eqb, eqb-true}
 use Rattle.base.specs.Lists.{asc, has, count, bit}
 use Rattle.base.specs.Tests.{or-cases, or-right}
 use Rattle.base.specs.AscLaws.{asc-rank, asc-ascends, asc-take, count-suc, count-lt, length-asc}
-use Rattle.marks.specs.Marks.{upto, unless}
-
-upto-cons : (p x : ℕ) (l : List ℕ) → upto p (x ∷ l) ≡ suc (unless (eqb x p) (upto p l))
-unfolding upto
-upto-cons p x l = refl
+use Rattle.marks.specs.Marks.{upto}
+use Rattle.marks.specs.CutLaws.{upto-cons}
 
 -- a list that has p first at index b
 upto-at : (p : ℕ) (l : List ℕ) (b : ℕ) → b < length l → getD l b 0 ≡ p → ((a : ℕ) → a < b → getD l a 0 ≡ p → ⊥) → upto p l ≡ suc b

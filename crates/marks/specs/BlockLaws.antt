@@ -50,7 +50,7 @@ members-fit t s from (suc d) =
 pub members-le : (t : ℕ) (s : List ℕ) (from e : ℕ) → from ≤ e → from + length (members t s from e) ≤ e
 members-le t s from e l = let q : from + (e - from) ≡ e = omega arith in omega (arith, rw q at (members-fit t s from (e - from)))
 
-pub members-one : (t : ℕ) (s : List ℕ) (j : ℕ) → getD s j 0 ≡ t → members t s j (j + 1) ≡ j ∷ []
+members-one : (t : ℕ) (s : List ℕ) (j : ℕ) → getD s j 0 ≡ t → members t s j (j + 1) ≡ j ∷ []
 members-one t s j m = rw (members-more t s j j (omega arith), members-none t s j, eq-eqb (getD s j 0) t m)
 
 -- ---- a loop that writes the members from `from` on behind slot at + had, where `had` were written before: those below j are written
@@ -71,7 +71,7 @@ filled-start t s from at had = record {
   written = rw (members-none t s from);
 }
 
-sets-append : (s : List ℕ) (at : ℕ) (l m : List ℕ) → sets s at (l ++ m) ≡ sets (sets s at l) (at + length l) m
+pub sets-append : (s : List ℕ) (at : ℕ) (l m : List ℕ) → sets s at (l ++ m) ≡ sets (sets s at l) (at + length l) m
 sets-append s at [] m = rw add-zero
 sets-append s at (y ∷ l) m =
     let e : at + suc (length l) ≡ suc at + length l = omega arith in

@@ -10,34 +10,22 @@ use lib.ListN.{length, getD, take, drop, set, length-set}
 use lib.Seq.{drop-cons, drop-length, getD-set-other}
 use lib.Dec.{eqb}
 use borrow.Author.Tests.{eq-eqb, ne-eqb}
-use Rattle.base.specs.Lists.{listAt}
-use Rattle.marks.specs.Marks.{pick, Free, Same, Base, partAt, upto, unless, cutOne, visited, newCuts}
+use Rattle.marks.specs.Marks.{pick, Unmarked, Base, partAt, upto, unless, cutOne, visited, newCuts}
 
--- ---- parts of a store
+-- ---- parts of the lists
 
--- a part from a to a + (hi - lo) is the list
-pub part-is : (index runs starts : List ℕ) (i a lo hi : ℕ) → a ≡ getD runs i 0 → lo ≡ getD starts i 0 → hi ≡ getD starts (i + 1) 0
-    → take (a + (hi - lo) - a) (drop a index) ≡ listAt starts runs index i
-unfolding listAt
-part-is index runs starts i a lo hi ea el eh = let e : a + (hi - lo) - a ≡ hi - lo = omega arith in rw (e, ea, el, eh)
-
-pub cut-is : (s : List ℕ) (cuts : ℕ) (index runs : List ℕ) (i a c : ℕ) → a ≡ getD runs i 0 → c ≡ getD s (cuts + i) 0
-    → take (a + c - a) (drop a index) ≡ partAt s cuts index runs i
+pub cut-is : (s : List ℕ) (cuts : ℕ) (runs index : List ℕ) (i a c : ℕ) → a ≡ getD runs i 0 → c ≡ getD s (cuts + i) 0
+    → take (a + c - a) (drop a index) ≡ partAt s cuts runs index i
 unfolding partAt
-cut-is s cuts index runs i a c ea ec = let e : a + c - a ≡ c = omega arith in rw (e, ea, ec)
+cut-is s cuts runs index i a c ea ec = let e : a + c - a ≡ c = omega arith in rw (e, ea, ec)
 
-pub cut-free : (n cuts i : ℕ) → Base n cuts → Free n (cuts + i)
-cut-free n cuts i b = let l = b .low in record { past = omega arith; away = λ q. omega arith }
-
--- marks leave the parts as they were
-module _ (n : ℕ) (s₀ s : List ℕ) (cuts : ℕ) (base : Base n cuts) (same : Same n s₀ s) (index runs : List ℕ) (i : ℕ) where
-  pub part-kept : partAt s cuts index runs i ≡ partAt s₀ cuts index runs i
-  unfolding partAt
-  part-kept = rw (same (cuts + i) (cut-free n cuts i base))
+-- marks leave the cuts as they were
+pub cut-unmarked : (n cuts i : ℕ) (s₀ s : List ℕ) → Base n cuts → Unmarked n s₀ s → getD s (cuts + i) 0 ≡ getD s₀ (cuts + i) 0
+cut-unmarked n cuts i s₀ s b h = let l = b .low in h .slots (cuts + i) (λ q. omega arith) (λ q. omega arith)
 
 -- ---- as far as place k
 
-upto-cons : (k x : ℕ) (l : List ℕ) → upto k (x ∷ l) ≡ suc (unless (eqb x k) (upto k l))
+pub upto-cons : (k x : ℕ) (l : List ℕ) → upto k (x ∷ l) ≡ suc (unless (eqb x k) (upto k l))
 unfolding upto
 upto-cons k x l = refl
 

@@ -4,7 +4,7 @@ use mathlib.Core.List.{List}
 use mathlib.Core.Bool.{Bool, true, false, _&&_, _||_, or-false, and-false, or-true}
 use Prim.Native.Nat.{ℕ, suc, _+_, _-_, _<_, _≤_}
 use native.Mathlib.Omega.{arith}
-use lib.ListN.{length, getD, take, drop, length-drop}
+use lib.ListN.{length, getD, take, drop}
 use lib.Seq.{take-all, take-take, length-take-le, getD-take}
 use lib.Dec.{leb, ltb}
 use borrow.Author.Tests.{lt-ltb, ltb-true, lt-leb, leb-false}
@@ -13,8 +13,10 @@ use Rattle.base.specs.Tests.{by-test, and-cases}
 use Rattle.base.specs.AscLaws.{has-asc, asc-at, length-asc}
 use Rattle.fill.specs.Fill.{Pattern, filled, upper, upperRow}
 use Rattle.fill.specs.Prune.{Pair, Cut, entire, short, pruned, pruned-filled}
-use Rattle.marks.specs.Marks.{Below, Above, Room, stamped, marked, Holds, Same, ListIn, partAt, Parts, through, upto, visited, unite}
-use Rattle.marks.specs.MarkLaws.{room-kept, stamped-length, holds-same, holds-stamped, holds-list, same-after, through-below}
+use Rattle.lent.specs.Reading.{Below, orderOf, placed}
+use Rattle.lent.specs.ReadingLaws.{list-length, same}
+use Rattle.marks.specs.Marks.{Above, Room, stamped, marked, Holds, Unmarked, Order, partAt, Parts, upto, visited, unite}
+use Rattle.marks.specs.MarkLaws.{room-kept, stamped-length, holds-same, holds-stamped, holds-list, unmarked-stamped, unmarked-after, below-placed}
 use Rattle.marks.specs.VisitLaws.{visited-keeps}
 use Rattle.marks.specs.CutLaws.{upto-le}
 use Rattle.marks.specs.Rows.{Stored, CutAt, uncut, behind, Cuts, Loaded, Closed}
@@ -31,7 +33,7 @@ module _ (P : Pattern) (n i : ℕ) where
   unfolding upperRow
   upper-below p h = asc-at (upper P i) n p (omega (arith, length-asc (upper P i) n)) .below
 
-  pub upper-above : Above i (upperRow P n i)
+  upper-above : Above i (upperRow P n i)
   unfolding upperRow upper
   upper-above p h =
       let a = asc-at (upper P i) n p (omega (arith, length-asc (upper P i) n)) in
@@ -42,11 +44,11 @@ module _ (P : Pattern) (n i : ℕ) where
   pair-upper p q = rw (lt-ltb i p (q .after), q .right)
 
   -- cut behind p, T(i) has its entries up to p
-  pub upper-cut : (p : ℕ) → p < n → Pair P i p → take (upto p (upperRow P n i)) (upperRow P n i) ≡ asc (upper P i) (suc p)
+  upper-cut : (p : ℕ) → p < n → Pair P i p → take (upto p (upperRow P n i)) (upperRow P n i) ≡ asc (upper P i) (suc p)
   unfolding upperRow
   upper-cut p l q = upto-part (upper P i) n p l (pair-upper p q)
 
-  pub cut-le : (k c : ℕ) → CutAt P n k i c → c ≤ length (upperRow P n i)
+  cut-le : (k c : ℕ) → CutAt P n k i c → c ≤ length (upperRow P n i)
   cut-le k c (uncut e) = omega arith
   cut-le k c (behind p a q e) = omega (arith, upto-le p (upperRow P n i))
 
@@ -114,47 +116,43 @@ module _ (P : Pattern) (n k : ℕ) (small : k ≤ n) (cut : ℕ → ℕ) (cuts :
       set = holds-same n t s (row i) (row (suc i)) (λ j q. row-out i j (sym (h .set .exact i (omega arith)) ∙ m)) (h .set);
     }
 
-    pub closed-fill : (s : List ℕ) → Room n s → Holds n t s (P k) → Holds n t (visited t (unite n t T) 0 k s) (filled P k)
+    closed-fill : (s : List ℕ) → Room n s → Holds n t s (P k) → Holds n t (visited t (unite n t T) 0 k s) (filled P k)
     closed-fill s r h =
         let e : 0 + k ≡ k = omega arith in
         let q = visited-keeps t (unite n t T) Step 0 k s step-in step-out (record { room = r; set = holds-same n t s (P k) (row 0) (λ j _. row-start j) h }) in
         holds-same n t _ (row (0 + k)) (filled P k) (λ j _. rw e (pruned-filled P (partOf n T) k cut-of j)) (q .set)
 
 -- only marks and block stamps change
-merge-same : (n t k : ℕ) (T : ℕ → List ℕ) → ((i : ℕ) → i < k → Below n (T i)) → (s : List ℕ) → Same n s (visited t (unite n t T) 0 k s)
+merge-unmarked : (n t k : ℕ) (T : ℕ → List ℕ) → ((i : ℕ) → i < k → Below n (T i)) → (s : List ℕ) → Unmarked n s (visited t (unite n t T) 0 k s)
 unfolding unite
-merge-same n t k T below s = visited-keeps t (unite n t T) (λ i u. Same n s u) 0 k s
-    (λ i _ l u w m. same-after n t s u (stamped n t u (T i)) (T i) refl (below i (omega arith)) w) (λ i _ l u w m. w) (λ q f. refl)
+merge-unmarked n t k T below s = visited-keeps t (unite n t T) (λ i u. Unmarked n s u) 0 k s
+    (λ i _ l u w m. unmarked-after n t s u (stamped n t u (T i)) (T i) refl (below i (omega arith)) w) (λ i _ l u w m. w) (same s)
 
 -- ---- the parts in the store
 
-length-listAt : (index runs starts : List ℕ) (i : ℕ) → ListIn index runs starts i → length (listAt starts runs index i) ≡ getD starts (i + 1) 0 - getD starts i 0
-unfolding listAt
-length-listAt index runs starts i h = length-take-le _ (drop (getD runs i 0) index) (omega (arith, length-drop (getD runs i 0) index, h .inside))
-
-module _ (P : Pattern) (n k : ℕ) (index runs starts : List ℕ) (store : Stored P n k index runs starts) where
+module _ (P : Pattern) (n k : ℕ) (starts runs index : List ℕ) (store : Stored P n k starts runs index) where
   pub upper-length : (i : ℕ) → i < k → length (upperRow P n i) ≡ getD starts (i + 1) 0 - getD starts i 0
-  upper-length i l = ap length (sym (store .list i l)) ∙ length-listAt index runs starts i (store .read i l)
+  upper-length i l = ap length (sym (store .list i l)) ∙ list-length starts runs index i (store .read i l)
 
   module _ (cuts : ℕ) (s : List ℕ) (cut : Cuts P n k cuts s) where
-    part-upper-is : (i : ℕ) → i < k → partAt s cuts index runs i ≡ take (getD s (cuts + i) 0) (upperRow P n i)
+    part-upper-is : (i : ℕ) → i < k → partAt s cuts runs index i ≡ take (getD s (cuts + i) 0) (upperRow P n i)
     unfolding partAt listAt
     part-upper-is i l =
         sym (ap (take (getD s (cuts + i) 0)) (sym (store .list i l)) ∙ take-take (getD s (cuts + i) 0) (getD starts (i + 1) 0 - getD starts i 0) (drop (getD runs i 0) index)
         (omega (arith, cut-le P n i k (getD s (cuts + i) 0) (cut i l), upper-length i l)))
 
-    part-below : (i : ℕ) → i < k → Below n (partAt s cuts index runs i)
+    part-below : (i : ℕ) → i < k → Below n (partAt s cuts runs index i)
     part-below i l = rw (part-upper-is i l) (λ p h.
         let b : p < getD s (cuts + i) 0 = omega (arith, length-take-le (getD s (cuts + i) 0) (upperRow P n i) (cut-le P n i k _ (cut i l))) in
         rw (getD-take (getD s (cuts + i) 0) (upperRow P n i) p 0 b) (upper-below P n i p (omega (arith, cut-le P n i k _ (cut i l)))))
 
-    part-above : (i : ℕ) → i < k → Above i (partAt s cuts index runs i)
+    part-above : (i : ℕ) → i < k → Above i (partAt s cuts runs index i)
     part-above i l = rw (part-upper-is i l) (λ p h.
         let b : p < getD s (cuts + i) 0 = omega (arith, length-take-le (getD s (cuts + i) 0) (upperRow P n i) (cut-le P n i k _ (cut i l))) in
         rw (getD-take (getD s (cuts + i) 0) (upperRow P n i) p 0 b) (upper-above P n i p (omega (arith, cut-le P n i k _ (cut i l)))))
 
     -- what closing place k asks for
-    pub held-parts : k ≤ n → Parts n k s cuts index runs
+    pub held-parts : k ≤ n → Parts n k s cuts runs index
     held-parts h = record {
       read = λ i l. let r = store .read i l in
           record { place = omega arith; has-run = r .has-run; inside = omega (arith, r .inside, cut-le P n i k _ (cut i l), upper-length i l) };
@@ -162,25 +160,22 @@ module _ (P : Pattern) (n k : ℕ) (index runs starts : List ℕ) (store : Store
       above = part-above;
     }
 
-    pub closed-held : (t : ℕ) → k ≤ n → Room n s → Holds n t s (P k) → Holds n t (visited t (unite n t (partAt s cuts index runs)) 0 k s) (filled P k)
-    closed-held t h r m = closed-fill P n k h (λ i. getD s (cuts + i) 0) cut (partAt s cuts index runs) part-upper-is t part-below s r m
+    closed-held : (t : ℕ) → k ≤ n → Room n s → Holds n t s (P k) → Holds n t (visited t (unite n t (partAt s cuts runs index)) 0 k s) (filled P k)
+    closed-held t h r m = closed-fill P n k h (λ i. getD s (cuts + i) 0) cut (partAt s cuts runs index) part-upper-is t part-below s r m
 
-pub closed-is : (n t k cuts : ℕ) (index runs s u : List ℕ) → k ≤ n → Room n s → Parts n k s cuts index runs
-    → u ≡ visited t (unite n t (partAt s cuts index runs)) 0 k s → Closed n t k cuts index runs s u
-closed-is n t k cuts index runs s u h r p e = rw e (record {
-  same = merge-same n t k (partAt s cuts index runs) (p .below) s;
-  fill = λ P starts store cut m. closed-held P n k index runs starts store cuts s cut t h r m;
+pub closed-is : (n t k cuts : ℕ) (runs index s u : List ℕ) → k ≤ n → Room n s → Parts n k s cuts runs index
+    → u ≡ visited t (unite n t (partAt s cuts runs index)) 0 k s → Closed n t k cuts runs index s u
+closed-is n t k cuts runs index s u h r p e = rw e (record {
+  same = merge-unmarked n t k (partAt s cuts runs index) (p .below) s;
+  fill = λ P starts store cut m. closed-held P n k starts runs index store cuts s cut t h r m;
 })
 
 -- ---- a row of M is loaded
 
-pub list-in-at : (index runs starts : List ℕ) (i j : ℕ) → i ≡ j → ListIn index runs starts j → ListIn index runs starts i
-list-in-at index runs starts i j e h = rw e h
-
-pub loaded-is : (n t i : ℕ) (columns starts s list u : List ℕ) → list ≡ rowOf starts columns i → Below n (rowOf starts columns i) → Room n s
-    → ((j : ℕ) → j < n → getD s (n + j) 0 < n) → u ≡ stamped n t s (through s n list) → Loaded n t i columns starts s u
-loaded-is n t i columns starts s list u e b r o eu =
-    let l = through s n (rowOf starts columns i) in
-    let w = through-below n s (rowOf starts columns i) o b in
-    let q : u ≡ stamped n t s l = eu ∙ ap (λ x. stamped n t s (through s n x)) e in
-    record { same = same-after n t s s u l q w (λ q f. refl); row = λ f. rw q (holds-list n t s l w r f) }
+pub loaded-is : (n t i : ℕ) (starts columns s list u : List ℕ) → list ≡ rowOf starts columns i → Below n (rowOf starts columns i) → Room n s
+    → Order n s → u ≡ stamped n t s (placed (orderOf n s) list) → Loaded n t i starts columns s u
+loaded-is n t i starts columns s list u e b r o eu =
+    let l = placed (orderOf n s) (rowOf starts columns i) in
+    let w = below-placed n s (rowOf starts columns i) o b in
+    let q : u ≡ stamped n t s l = eu ∙ ap (λ x. stamped n t s (placed (orderOf n s) x)) e in
+    record { same = rw q (unmarked-stamped n t s l w); row = λ f. rw q (holds-list n t s l w r f) }

@@ -1,13 +1,13 @@
 -- The lists of place k in scratch, and the count of products by the list starts.
 use mathlib.Core.Path.{_≡_, refl, sym, ap, _∙_}
-use mathlib.Core.List.{List, [], _∷_, _++_, map, append-assoc}
+use mathlib.Core.List.{List, _++_, map, append-assoc}
 use mathlib.Core.Bool.{Bool, false, _&&_}
 use Prim.Native.Nat.{ℕ, zero, suc, _+_, _-_, _*_, _<_, _≤_}
 use native.Mathlib.Omega.{arith}
 use native.Mathlib.Numerals.{add-one}
 use native.Mathlib.Decide.{decLt}
 use native.Mathlib.Nat.{zero-add, mul-le-mul}
-use lib.ListN.{length, getD, take, drop, set, length-append}
+use lib.ListN.{length, getD, take, drop, length-append}
 use lib.Seq.{sets, length-sets, sets-eq, drop-cons, drop-length, take-at, drop-at, length-take-le, drop-drop}
 use lib.Dec.{ltb}
 use borrow.Author.Tests.{le-ltb, le-leb}
@@ -15,44 +15,35 @@ use Rattle.base.specs.Lists.{count, total, sum, bit}
 use Rattle.base.specs.AscLaws.{asc-ext, asc-at, length-asc, count-le, total-asc, sum-ext, sum-mono, count-none, count-suc, bit-le}
 use Rattle.fill.specs.Fill.{Pattern, filled, upper, upperRow, lowerRow, products}
 use Rattle.fill.specs.ListLaws.{steps, products-steps, products-le}
+use Rattle.lent.specs.Reading.{But}
 use Rattle.marks.specs.Marks.{Room, Holds, chosen, members, visited, unite, partAt, Parts, Merged}
+use Rattle.marks.specs.BlockLaws.{sets-append}
 use Rattle.marks.specs.MarkLaws.{sets-below, sets-above, holds-kept, marks-sets}
-use Rattle.marks.specs.Rows.{Stored, LowerListed, Closing, UpperListed, Listed, But, rowSteps, lengthIn, Countable}
+use Rattle.marks.specs.Rows.{Stored, LowerListed, Closing, UpperListed, Listed, rowSteps, lengthIn, Countable}
 use Rattle.marks.specs.FillLaws.{upper-length, closed-is}
-use Rattle.base.specs.Scratch.{blocksFrom, listFrom}
+use Rattle.base.specs.Scratch.{listFrom}
 use Rattle.base.specs.Limits.{maxRows, maxProducts}
 
 -- ---- the members are the paper's lists
-
-pub members-le : (t : ℕ) (s : List ℕ) (e : ℕ) → length (members t s 0 e) ≤ e
-unfolding members
-members-le t s e = omega (arith, length-asc (chosen t s 0) e, count-le (chosen t s 0) e)
 
 module _ (P : Pattern) (n t k : ℕ) (s : List ℕ) (h : k < n) (m : Holds n t s (filled P k)) where
   pub lower-members : members t s 0 k ≡ lowerRow P k
   unfolding members chosen lowerRow
   lower-members = asc-ext _ (filled P k) k (λ j l. rw (le-leb 0 j (omega arith)) (m .exact j (omega arith)))
 
-  pub upper-members : members t s (k + 1) n ≡ upperRow P n k
+  upper-members : members t s (k + 1) n ≡ upperRow P n k
   unfolding members chosen upperRow upper
   upper-members = rw add-one (asc-ext _ (λ j. ltb k j && filled P k j) n (λ j l. ap (λ x. ltb k j && x) (m .exact j l)))
 
--- two lists one behind the other
-sets-append : (s : List ℕ) (at : ℕ) (a b : List ℕ) → sets (sets s at a) (at + length a) b ≡ sets s at (a ++ b)
-sets-append s at [] b = let e : at + 0 ≡ at = omega arith in rw e
-sets-append s at (x ∷ a) b =
-    let e : at + suc (length a) ≡ suc at + length a = omega arith in
-    rw e (sets-append (set s at x) (suc at) a b)
-
 -- place k is closed, and the members below it are written down
-pub closing-is : (n t k cuts : ℕ) (index runs s u : List ℕ) (below : ℕ) → k < n → Room n s → Parts n k s cuts index runs → length u ≡ length s
-    → Merged n t k (partAt s cuts index runs) s u below → Closing n t k cuts index runs s u below
-closing-is n t k cuts index runs s u below h r p e m =
-    let mid = visited t (unite n t (partAt s cuts index runs)) 0 k s in
+pub closing-is : (n t k cuts : ℕ) (runs index s u : List ℕ) (below : ℕ) → k < n → Room n s → Parts n k s cuts runs index → length u ≡ length s
+    → Merged n t k (partAt s cuts runs index) s u below → Closing n t k cuts runs index s u below
+closing-is n t k cuts runs index s u below h r p e m =
+    let mid = visited t (unite n t (partAt s cuts runs index)) 0 k s in
     record {
       mid = mid;
       size = sym (length-sets mid (listFrom n) (members t mid 0 k)) ∙ ap length (sym (m .slots)) ∙ e;
-      closed = closed-is n t k cuts index runs s mid (omega arith) r p refl;
+      closed = closed-is n t k cuts runs index s mid (omega arith) r p refl;
       lower = λ P w. let a = lower-members P n t k mid h w in record { lower = m .size ∙ ap length a; slots = m .slots ∙ ap (sets mid (listFrom n)) a };
     }
 
@@ -71,7 +62,7 @@ module _ (P : Pattern) (n t k : ℕ) (s u : List ℕ) (below : ℕ) (l : LowerLi
   listed-both v above w = record {
     lower = l .lower;
     upper = w .upper;
-    slots = w .slots ∙ rw (l .slots, l .lower) (sets-append s (listFrom n) (lowerRow P k) (upperRow P n k));
+    slots = w .slots ∙ rw (l .slots, l .lower) (sym (sets-append s (listFrom n) (lowerRow P k) (upperRow P n k)));
   }
 
 -- ---- how long they are
@@ -175,13 +166,13 @@ added-more list starts p r i d h ei ed b a = record {
 pub added-end : (list starts : List ℕ) (p r : ℕ) → length list ≤ p → Added list starts p r → r ≡ total (map (lengthIn starts) list)
 added-end list starts p r h a = omega (arith, a .left, total-none (lengthIn starts) list p (omega (arith, a .within)))
 
-module _ (P : Pattern) (n k : ℕ) (index runs starts : List ℕ) (store : Stored P n k index runs starts) where
+module _ (P : Pattern) (n k : ℕ) (starts runs index : List ℕ) (store : Stored P n k starts runs index) where
   -- by the list starts
   pub row-products-is : total (map (lengthIn starts) (lowerRow P k)) ≡ rowSteps P n k
   unfolding lowerRow rowSteps
   row-products-is =
       total-asc (lengthIn starts) (filled P k) k
-      ∙ sum-ext k _ _ (λ i l. ap (λ x. bit (filled P k i) * x) (sym (upper-length P n k index runs starts store i l)))
+      ∙ sum-ext k _ _ (λ i l. ap (λ x. bit (filled P k i) * x) (sym (upper-length P n k starts runs index store i l)))
       ∙ sym (total-asc (λ i. length (upperRow P n i)) (filled P k) k)
 
   lower-at : (p : ℕ) → p < length (lowerRow P k) → getD (lowerRow P k) p 0 < k

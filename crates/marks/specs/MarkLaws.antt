@@ -1,24 +1,26 @@
 -- Laws of the marks: what a list of places leaves, and the members as a list.
-use mathlib.Core.Path.{_≡_, refl, sym, _∙_}
-use mathlib.Core.List.{List, [], _∷_, _++_, map}
+use mathlib.Core.Path.{_≡_, refl, sym, ap, _∙_}
+use mathlib.Core.List.{List, [], _∷_, _++_}
 use mathlib.Core.Bool.{Bool, true, false, _&&_, _||_, or-assoc, or-false, or-true}
 use Prim.Native.Nat.{ℕ, zero, suc, _+_, _-_, _<_, _≤_, _/_}
 use native.Mathlib.Omega.{arith}
 use native.Mathlib.Numerals.{add-one}
 use native.Mathlib.Nat.{add-zero}
 use native.Mathlib.Decide.{ℕ-discrete}
-use lib.ListN.{length, getD, drop, set, length-set, length-map}
+use lib.ListN.{length, getD, drop, set, length-set}
 use lib.Seq.{drop-cons, drop-length, getD-set-other, getD-set-same, sets}
 use lib.Dec.{eqb, leb}
 use borrow.Author.Tests.{eq-eqb, ne-eqb, lt-leb}
 use Rattle.base.specs.Lists.{asc, has}
 use Rattle.base.specs.AscLaws.{asc-no, asc-none}
-use Rattle.marks.specs.Marks.{Below, Room, markAt, stamped, Blocks, Fresh, Holds, Free, Same, chosen, members, through}
+use Rattle.lent.specs.Reading.{Below, orderOf, placed, Outside}
+use Rattle.lent.specs.ReadingLaws.{placed-length, placed-at, same, then, stored, both, order-outside}
+use Rattle.marks.specs.Marks.{Room, markAt, stamped, Blocks, Fresh, Holds, Unmarked, Order, chosen, members}
 use Rattle.base.specs.Scratch.{blocksFrom, upperCuts}
 
 -- ---- one mark
 
-pub markAt-length : (n t : ℕ) (s : List ℕ) (j : ℕ) → length (markAt n t s j) ≡ length s
+markAt-length : (n t : ℕ) (s : List ℕ) (j : ℕ) → length (markAt n t s j) ≡ length s
 markAt-length n t s j = length-set (set s j t) (blocksFrom n + j / 64) t ∙ length-set s j t
 
 pub room-kept : (n : ℕ) (s u : List ℕ) → length u ≡ length s → Room n s → Room n u
@@ -33,10 +35,9 @@ mark-other n t s j i h d = getD-set-other (set s j t) (blocksFrom n + j / 64) i 
 mark-here : (n t : ℕ) (s : List ℕ) (j : ℕ) → j < n → Room n s → getD (markAt n t s j) j 0 ≡ t
 mark-here n t s j h r = getD-set-other (set s j t) (blocksFrom n + j / 64) j t 0 (omega arith) ∙ getD-set-same s j t 0 (omega arith)
 
-mark-free : (n t : ℕ) (s : List ℕ) (j q : ℕ) → j < n → Free n q → getD (markAt n t s j) q 0 ≡ getD s q 0
-mark-free n t s j q h f =
-    getD-set-other (set s j t) (blocksFrom n + j / 64) q t 0 (λ e. let a = f .away (omega arith) in omega arith)
-    ∙ getD-set-other s j q t 0 (λ e. let a = f .past in omega arith)
+pub unmarked-mark : (n t : ℕ) (s : List ℕ) (j : ℕ) → j < n → Unmarked n s (markAt n t s j)
+unmarked-mark n t s j h =
+    then (stored s j t (λ y p q e. omega (arith, p (omega arith)))) (stored (set s j t) (blocksFrom n + j / 64) t (λ y p q e. omega (arith, q (omega arith))))
 
 -- a stamped block stays so
 mark-block : (n t : ℕ) (s : List ℕ) (j b : ℕ) → j < n → Room n s → blocksFrom n ≤ b → getD s b 0 ≡ t → getD (markAt n t s j) b 0 ≡ t
@@ -88,7 +89,7 @@ holds-stamped n t s (x ∷ l) p b r h =
     (holds-stamped n t (markAt n t s x) l (λ j. p j || eqb x j) (below-tail n x l b) (room-mark n t s x r) (holds-mark n t s x p (b 0 (omega arith)) r h))
 
 -- no mark is as late as a fresh stamp
-pub holds-none : (n t : ℕ) (s : List ℕ) → Fresh n t s → Holds n t s (λ j. false)
+holds-none : (n t : ℕ) (s : List ℕ) → Fresh n t s → Holds n t s (λ j. false)
 holds-none n t s f = record {
   blocks = λ j l e. absurd (omega (arith, f j l));
   exact = λ j l. ne-eqb (getD s j 0) t (λ e. omega (arith, f j l));
@@ -99,10 +100,25 @@ holds-none n t s f = record {
 pub holds-list : (n t : ℕ) (s l : List ℕ) → Below n l → Room n s → Fresh n t s → Holds n t (stamped n t s l) (has l)
 holds-list n t s l b r f = holds-stamped n t s l (λ j. false) b r (holds-none n t s f)
 
-same-stamped : (n t : ℕ) (s₀ s l : List ℕ) → Below n l → Same n s₀ s → Same n s₀ (stamped n t s l)
+-- what every mark below n keeps, stamping a list keeps
+stamped-keeps : (P : List ℕ → Type 0) (n t : ℕ) → ((u : List ℕ) (j : ℕ) → j < n → P u → P (markAt n t u j))
+    → (s l : List ℕ) → Below n l → P s → P (stamped n t s l)
 unfolding stamped
-same-stamped n t s₀ s [] b h = h
-same-stamped n t s₀ s (x ∷ l) b h = same-stamped n t s₀ (markAt n t s x) l (below-tail n x l b) (λ q f. mark-free n t s x q (b 0 (omega arith)) f ∙ h q f)
+stamped-keeps P n t k s [] b h = h
+stamped-keeps P n t k s (j ∷ l) b h = stamped-keeps P n t k (markAt n t s j) l (below-tail n j l b) (k s j (b 0 (omega arith)) h)
+
+pub unmarked-stamped : (n t : ℕ) (s l : List ℕ) → Below n l → Unmarked n s (stamped n t s l)
+unmarked-stamped n t s l b = stamped-keeps (Unmarked n s) n t (λ u j h k. then k (unmarked-mark n t u j h)) s l b (same s)
+
+-- the same stamps in both
+pub both-stamped : (n t : ℕ) {a b c d : ℕ} (s u l : List ℕ) → Room n s → Below n l → Outside a b c d s u → Outside a b c d (stamped n t s l) (stamped n t u l)
+unfolding stamped
+both-stamped n t s u [] r h k = k
+both-stamped n t s u (j ∷ l) r h k =
+    let g : j < n = h 0 (omega arith) in
+    let f = r .long in
+    both-stamped n t (markAt n t s j) (markAt n t u j) l (room-mark n t s j r) (below-tail n j l h)
+    (both (set s j t) (set u j t) (blocksFrom n + j / 64) t (simp length-set (omega arith)) (both s u j t (omega arith) k))
 
 blocks-stamped : (n t : ℕ) (s l : List ℕ) → Below n l → Room n s → Blocks n t s → Blocks n t (stamped n t s l)
 unfolding stamped
@@ -112,8 +128,8 @@ blocks-stamped n t s (j ∷ l) b r h = blocks-stamped n t (markAt n t s j) l (be
 pub blocks-after : (n t : ℕ) (s u l : List ℕ) → u ≡ stamped n t s l → Below n l → Room n s → Blocks n t s → Blocks n t u
 blocks-after n t s u l e b r h = rw e (blocks-stamped n t s l b r h)
 
-pub same-after : (n t : ℕ) (s₀ s u l : List ℕ) → u ≡ stamped n t s l → Below n l → Same n s₀ s → Same n s₀ u
-same-after n t s₀ s u l e b h = rw e (same-stamped n t s₀ s l b h)
+pub unmarked-after : (n t : ℕ) (s₀ s u l : List ℕ) → u ≡ stamped n t s l → Below n l → Unmarked n s₀ s → Unmarked n s₀ u
+unmarked-after n t s₀ s u l e b h = rw e (then h (unmarked-stamped n t s l b))
 
 -- ---- one turn of a loop over the list
 
@@ -129,28 +145,40 @@ pub stamped-end : (n t : ℕ) (s l : List ℕ) (p : ℕ) → length l ≡ p → 
 unfolding stamped
 stamped-end n t s l p h = rw (← h, drop-length)
 
-getD-map : (f : ℕ → ℕ) (l : List ℕ) (p : ℕ) → p < length l → getD (map f l) p 0 ≡ f (getD l p 0)
-getD-map f [] p h = absurd (omega arith)
-getD-map f (x ∷ l) zero h = refl
-getD-map f (x ∷ l) (suc p) h = getD-map f l p (omega arith)
+-- ---- a row of M at its places
 
-pub through-length : (s : List ℕ) (n : ℕ) (cols : List ℕ) → length (through s n cols) ≡ length cols
-through-length s n cols = length-map cols (λ c. getD s (n + c) 0)
+pub order-unmarked : (n : ℕ) {s u : List ℕ} → Unmarked n s u → orderOf n u ≡ orderOf n s
+order-unmarked n k = order-outside n (λ x a b. ((λ h. omega arith), (λ h. omega arith))) k
 
--- the place that was read is the one at entry, and below n
-pub through-at : (n : ℕ) (s₀ s cols : List ℕ) (p j : ℕ) → p < length cols → Below n cols → Same n s₀ s → j ≡ getD s (n + getD cols p 0) 0
-    → j ≡ getD (through s₀ n cols) p 0
-through-at n s₀ s cols p j h b k e =
-    let l = b p h in
-    e ∙ k (n + getD cols p 0) (record { past = omega arith; away = λ q. omega arith }) ∙ sym (getD-map (λ c. getD s₀ (n + c) 0) cols p h)
+pub below-placed : (n : ℕ) (s cols : List ℕ) → Order n s → Below n cols → Below n (placed (orderOf n s) cols)
+below-placed n s cols o b p h =
+    let l = placed-length (orderOf n s) cols in
+    omega (arith, placed-at (orderOf n s) cols p (omega arith), o (getD cols p 0) (b p (omega arith)))
 
-pub through-below : (n : ℕ) (s cols : List ℕ) → ((j : ℕ) → j < n → getD s (n + j) 0 < n) → Below n cols → Below n (through s n cols)
-through-below n s cols o b p h =
-    let l : p < length cols = omega (arith, through-length s n cols) in
-    rw (getD-map (λ c. getD s (n + c) 0) cols p l) (o (getD cols p 0) (b p l))
+-- the place of entry q of a row, while the order stands
+pub entry-read : (n q j : ℕ) (s₀ s cols : List ℕ) → q < length cols → orderOf n s ≡ orderOf n s₀ → j ≡ getD (placed (orderOf n s) cols) q 0
+    → (q < length (placed (orderOf n s₀) cols)) × (j ≡ getD (placed (orderOf n s₀) cols) q 0)
+entry-read n q j s₀ s cols h o e = (omega (arith, placed-length (orderOf n s₀) cols), e ∙ ap (λ v. getD (placed v cols) q 0) o)
 
-pub same-mark : (n t : ℕ) (s₀ s u : List ℕ) (j : ℕ) → j < n → u ≡ markAt n t s j → Same n s₀ s → Same n s₀ u
-same-mark n t s₀ s u j h e k q f = rw e (mark-free n t s j q h f ∙ k q f)
+pub entry-below : (n q j : ℕ) (s cols : List ℕ) → Order n s → Below n cols → q < length (placed (orderOf n s) cols) → j ≡ getD (placed (orderOf n s) cols) q 0 → j < n
+entry-below n q j s cols o b h e = omega (arith, e, below-placed n s cols o b q h)
+
+-- what is left to stamp of it
+pub record Load (n t q : ℕ) (xs s₀ s : List ℕ) : Type 0 where
+  pub kept : Unmarked n s₀ s
+  pub left : stamped n t s (drop q xs) ≡ stamped n t s₀ xs
+
+pub load-start : (n t : ℕ) (xs s : List ℕ) → Load n t 0 xs s s
+load-start n t xs s = record { kept = same s; left = refl }
+
+pub load-more : {n t q j : ℕ} {xs s₀ s u : List ℕ} → q < length xs → j < n → j ≡ getD xs q 0 → u ≡ markAt n t s j → Load n t q xs s₀ s → Load n t (q + 1) xs s₀ u
+load-more {n} {t} {q} {j} {xs} {s₀} {s} {u} h b ej eu c = record {
+  kept = then (c .kept) (rw eu (unmarked-mark n t s j b));
+  left = stamped-turn n t s u xs q j h ej eu ∙ c .left;
+}
+
+pub load-end : {n t q : ℕ} {xs s₀ s : List ℕ} → length xs ≡ q → Load n t q xs s₀ s → s ≡ stamped n t s₀ xs
+load-end {n} {t} {q} {xs} {s₀} {s} e c = sym (stamped-end n t s xs q e) ∙ c .left
 
 -- ---- the members as a list
 

@@ -1,20 +1,17 @@
 -- A set of places below n, kept as marks: place j is a member where slot j holds the stamp t of the row or column at work.
 -- Scratch has eight regions of n slots: marks, the inverse column order, block stamps, cuts of the upper and of the lower lists,
 -- a list, nodes. Slot 2n + b holds t where block b, the 64 places from 64 b on, may have a member. Definitions only.
-use mathlib.Core.List.{List, [], _∷_, map}
+use mathlib.Core.List.{List, [], _∷_}
 use mathlib.Core.Bool.{Bool, true, false, _&&_}
 use mathlib.Core.Path.{_≡_}
-use Prim.Native.Nat.{ℕ, zero, suc, _+_, _-_, _*_, _<_, _≤_, _/_}
+use Prim.Native.Nat.{ℕ, zero, suc, _+_, _<_, _≤_, _/_}
 use lib.ListN.{length, getD, take, drop, set}
 use lib.Seq.{sets}
 use lib.Dec.{eqb, leb}
 use Rattle.base.specs.Lists.{asc}
+use Rattle.lent.specs.Reading.{Below, orderOf, Outside}
 use Rattle.base.specs.Scratch.{blocksFrom, upperCuts, lowerCuts, listFrom, regionsEnd}
 use Rattle.base.specs.Limits.{maxRows}
-
--- each entry of the list l is below n
-abbrev pub Below : ℕ → List ℕ → Type 0
-Below n l = (p : ℕ) → p < length l → getD l p 0 < n
 
 -- each entry of the list l is above i
 abbrev pub Above : ℕ → List ℕ → Type 0
@@ -60,14 +57,9 @@ pub record Holds (n t : ℕ) (s : List ℕ) (p : ℕ → Bool) : Type 0 where
   pub exact : (j : ℕ) → j < n → marked t s j ≡ p j
   pub last : Fresh n (suc t) s
 
--- slot q is neither a mark nor a block stamp
-pub record Free (n q : ℕ) : Type 0 where
-  pub past : n ≤ q
-  pub away : blocksFrom n ≤ q → upperCuts n ≤ q
-
--- all slots but marks and block stamps are as they were
-abbrev pub Same : ℕ → List ℕ → List ℕ → Type 0
-Same n s₀ s = (q : ℕ) → Free n q → getD s q 0 ≡ getD s₀ q 0
+-- only marks and block stamps are written
+abbrev pub Unmarked : ℕ → List ℕ → List ℕ → Type 0
+Unmarked n s₀ s = Outside 0 n (blocksFrom n) (upperCuts n) s₀ s
 
 -- place j is a member, and at or above `from`
 unfoldable pub chosen : ℕ → List ℕ → ℕ → ℕ → Bool
@@ -77,9 +69,9 @@ chosen t s from j = leb from j && marked t s j
 unfoldable pub members : ℕ → List ℕ → ℕ → ℕ → List ℕ
 members t s from end = asc (chosen t s from) end
 
--- the columns of a row at their places: the inverse order stands in s from slot n on
-abbrev pub through : List ℕ → ℕ → List ℕ → List ℕ
-through s n cols = map (λ c. getD s (n + c) 0) cols
+-- the places of the inverse order are below n
+abbrev pub Order : ℕ → List ℕ → Type 0
+Order n s = (c : ℕ) → c < n → getD (orderOf n s) c 0 < n
 
 -- ---- the members in turn
 
@@ -104,13 +96,6 @@ pub record Merged (n t k : ℕ) (T : ℕ → List ℕ) (s₀ s : List ℕ) (r : 
 
 -- ---- lists in a store, and their cuts
 
--- list i of a store can be read: its starts do not fall and its run is inside the store
-pub record ListIn (index runs starts : List ℕ) (i : ℕ) : Type 0 where
-  pub has-run : i < length runs
-  pub has-start : i + 1 < length starts
-  pub rise : getD starts i 0 ≤ getD starts (i + 1) 0
-  pub inside : getD runs i 0 + (getD starts (i + 1) 0 - getD starts i 0) ≤ length index
-
 -- where a side's cuts stand: in one of the two regions behind the block stamps
 pub record Base (n cuts : ℕ) : Type 0 where
   pub low : upperCuts n ≤ cuts
@@ -118,19 +103,24 @@ pub record Base (n cuts : ℕ) : Type 0 where
 
 -- the entries of list i that a later place merges, its first ones: slot cuts + i says how many
 unfoldable pub partAt : List ℕ → ℕ → List ℕ → List ℕ → ℕ → List ℕ
-partAt s cuts index runs i = take (getD s (cuts + i) 0) (drop (getD runs i 0) index)
+partAt s cuts runs index i = take (getD s (cuts + i) 0) (drop (getD runs i 0) index)
 
 -- that part of list i can be read
-pub record PartIn (n : ℕ) (s : List ℕ) (cuts : ℕ) (index runs : List ℕ) (i : ℕ) : Type 0 where
+pub record PartIn (n : ℕ) (s : List ℕ) (cuts : ℕ) (runs index : List ℕ) (i : ℕ) : Type 0 where
   pub place : i < n
   pub has-run : i < length runs
   pub inside : getD runs i 0 + getD s (cuts + i) 0 ≤ length index
 
 -- the parts of the first k lists can be read, and hold places below n and above their own
-pub record Parts (n k : ℕ) (s : List ℕ) (cuts : ℕ) (index runs : List ℕ) : Type 0 where
-  pub read : (i : ℕ) → i < k → PartIn n s cuts index runs i
-  pub below : (i : ℕ) → i < k → Below n (partAt s cuts index runs i)
-  pub above : (i : ℕ) → i < k → Above i (partAt s cuts index runs i)
+pub record Parts (n k : ℕ) (s : List ℕ) (cuts : ℕ) (runs index : List ℕ) : Type 0 where
+  pub read : (i : ℕ) → i < k → PartIn n s cuts runs index i
+  pub below : (i : ℕ) → i < k → Below n (partAt s cuts runs index i)
+  pub above : (i : ℕ) → i < k → Above i (partAt s cuts runs index i)
+
+-- the list region holds the places below k with some stamp, `below` of them
+pub record Walk (n k below : ℕ) (s : List ℕ) : Type 0 where
+  pub stamp : ℕ
+  pub list : take below (drop (listFrom n) s) ≡ members stamp s 0 k
 
 -- no more, or what is left
 abbrev pub unless : Bool → ℕ → ℕ

@@ -1,7 +1,7 @@
 -- Laws of a merge that lists the members it visits.
 use mathlib.Core.Path.{_≡_, refl, sym, ap, _∙_}
 use mathlib.Core.List.{List, [], _∷_, _++_}
-use Prim.Native.Nat.{ℕ, zero, suc, _+_, _-_, _*_, _<_, _≤_, _/_}
+use Prim.Native.Nat.{ℕ, zero, suc, _+_, _-_, _<_, _≤_, _/_}
 use native.Mathlib.Omega.{arith}
 use native.Mathlib.Numerals.{add-one}
 use native.Mathlib.Nat.{add-zero, zero-add}
@@ -9,8 +9,10 @@ use lib.ListN.{length, getD, set, length-set, length-append}
 use lib.Seq.{getD-set-other, set-comm, sets}
 use borrow.Author.Tests.{eq-eqb, ne-eqb, le-leb}
 use Rattle.base.specs.AscLaws.{asc-yes, asc-no}
-use Rattle.marks.specs.Marks.{Below, Above, Room, markAt, stamped, pick, marked, Blocks, Bare, chosen, members, visited, unite, Merged, Base, partAt, Parts}
-use Rattle.marks.specs.MarkLaws.{mark-other, room-kept, stamped-length, blocks-after, same-after, not-chosen, members-none, sets-snoc, sets-below, blocks-same}
+use Rattle.lent.specs.Reading.{Below}
+use Rattle.lent.specs.ReadingLaws.{same}
+use Rattle.marks.specs.Marks.{Above, Room, markAt, stamped, pick, marked, Blocks, Bare, chosen, members, visited, unite, Merged, Base, partAt, Parts}
+use Rattle.marks.specs.MarkLaws.{mark-other, room-kept, stamped-length, blocks-after, unmarked-after, not-chosen, members-none, sets-snoc, sets-below, blocks-same}
 use Rattle.marks.specs.BlockLaws.{members-same}
 use Rattle.base.specs.Scratch.{blocksFrom, upperCuts, listFrom}
 
@@ -69,23 +71,23 @@ members-miss t s i h = asc-no (chosen t s 0) i (not-chosen t s 0 i h)
 abbrev pub Cuts : ℕ → List ℕ → List ℕ → Type 0
 Cuts n s₀ s = (q : ℕ) → upperCuts n ≤ q → q < listFrom n → getD s q 0 ≡ getD s₀ q 0
 
-pub cuts-set : (n : ℕ) (s : List ℕ) (c x : ℕ) → Cuts n s (set s (listFrom n + c) x)
+cuts-set : (n : ℕ) (s : List ℕ) (c x : ℕ) → Cuts n s (set s (listFrom n + c) x)
 cuts-set n s c x q a b = getD-set-other s (listFrom n + c) q x 0 (omega arith)
 
-pub cuts-turn : (n t : ℕ) (s₀ s u l : List ℕ) (c x : ℕ) → u ≡ stamped n t (set s (listFrom n + c) x) l → Below n l → Cuts n s₀ s → Cuts n s₀ u
+cuts-turn : (n t : ℕ) (s₀ s u l : List ℕ) (c x : ℕ) → u ≡ stamped n t (set s (listFrom n + c) x) l → Below n l → Cuts n s₀ s → Cuts n s₀ u
 cuts-turn n t s₀ s u l c x e b h q lo hi =
-    same-after n t (set s (listFrom n + c) x) (set s (listFrom n + c) x) u l e b (λ r f. refl) q (record { past = omega arith; away = λ _. lo })
+    unmarked-after n t (set s (listFrom n + c) x) (set s (listFrom n + c) x) u l e b (same (set s (listFrom n + c) x)) .slots q (λ _. omega arith) (λ _. lo)
     ∙ cuts-set n s c x q lo hi ∙ h q lo hi
 
-module _ (n k cuts : ℕ) (index runs s₀ s : List ℕ) (base : Base n cuts) (small : k ≤ n) (kept : Cuts n s₀ s) where
+module _ (n k cuts : ℕ) (runs index s₀ s : List ℕ) (base : Base n cuts) (small : k ≤ n) (kept : Cuts n s₀ s) where
   cut-same : (i : ℕ) → i < k → getD s (cuts + i) 0 ≡ getD s₀ (cuts + i) 0
   cut-same i h = let a = base .low in let b = base .high in kept (cuts + i) (omega arith) (omega arith)
 
-  pub part-same : (i : ℕ) → i < k → partAt s cuts index runs i ≡ partAt s₀ cuts index runs i
+  part-same : (i : ℕ) → i < k → partAt s cuts runs index i ≡ partAt s₀ cuts runs index i
   unfolding partAt
   part-same i h = rw (cut-same i h)
 
-  pub parts-kept : (m : ℕ) → k ≤ m → Parts n m s₀ cuts index runs → Parts n k s cuts index runs
+  pub parts-kept : (m : ℕ) → k ≤ m → Parts n m s₀ cuts runs index → Parts n k s cuts runs index
   parts-kept m l p = record {
     read = λ i h. let r = p .read i (omega arith) in record { place = r .place; has-run = r .has-run; inside = rw (cut-same i h) (r .inside) };
     below = λ i h. rw (part-same i h) (p .below i (omega arith));
@@ -108,7 +110,7 @@ pub record Going (n t : ℕ) (T : ℕ → List ℕ) (s₀ s : List ℕ) (i c : �
 
 -- a merge that has come with scratch s to place i and c members goes on to scratch u, place e and r members
 abbrev pub GoesOn : ℕ → ℕ → ℕ → List ℕ → List ℕ → List ℕ → ℕ → ℕ → List ℕ → ℕ → ℕ → Type 0
-GoesOn n t cuts index runs s i c u e r = (s₀ : List ℕ) → Going n t (partAt s₀ cuts index runs) s₀ s i c → Going n t (partAt s₀ cuts index runs) s₀ u e r
+GoesOn n t cuts runs index s i c u e r = (s₀ : List ℕ) → Going n t (partAt s₀ cuts runs index) s₀ s i c → Going n t (partAt s₀ cuts runs index) s₀ u e r
 
 pub going-start : (n t : ℕ) (T : ℕ → List ℕ) (s : List ℕ) → Blocks n t s → Going n t T s s 0 0
 unfolding visited
@@ -130,7 +132,7 @@ module _ (n t : ℕ) (T : ℕ → List ℕ) (s₀ s : List ℕ) (i c : ℕ) (h :
   plain-at : getD s i 0 ≡ getD (g .plain) i 0
   plain-at = rw (g .slots) (sets-below (g .plain) (listFrom n) (members t (g .plain) 0 i) i (omega arith))
 
-  pub going-miss : (getD s i 0 ≡ t → ⊥) → Going n t T s₀ s (i + 1) c
+  going-miss : (getD s i 0 ≡ t → ⊥) → Going n t T s₀ s (i + 1) c
   going-miss m =
       let d : getD (g .plain) i 0 ≡ t → ⊥ = λ e. m (plain-at ∙ e) in
       let e = members-miss t (g .plain) i d in
@@ -162,7 +164,7 @@ module _ (n t : ℕ) (T : ℕ → List ℕ) (s₀ s : List ℕ) (i c : ℕ) (h :
         members-same t (stamped n t (g .plain) l) (g .plain) 0 (i + 1) (λ j k. stamped-low n t (g .plain) l i j h a (omega arith))
         ∙ members-hit t (g .plain) i (sym plain-at ∙ m)
 
-    pub going-hit : Above i l → l ≡ T i → getD s i 0 ≡ t → Going n t T s₀ u (i + 1) (c + 1)
+    going-hit : Above i l → l ≡ T i → getD s i 0 ≡ t → Going n t T s₀ u (i + 1) (c + 1)
     unfolding unite
     going-hit a q m =
         let w = hit-members a m in
@@ -195,46 +197,46 @@ going-past n t T s₀ s i c e r h b g =
 -- ---- the loop over a block
 
 -- It began with scratch s₀, place from and had members, and has come with scratch s to place i, below e, and c members.
-pub record Along (n t cuts : ℕ) (index runs s₀ : List ℕ) (from had e : ℕ) (s : List ℕ) (i c : ℕ) : Type 0 where
+pub record Along (n t cuts : ℕ) (runs index s₀ : List ℕ) (from had e : ℕ) (s : List ℕ) (i c : ℕ) : Type 0 where
   pub within : c ≤ i
   pub most : i ≤ e
   pub long : length s ≡ length s₀
   pub room : Room n s
-  pub parts : Parts n e s cuts index runs
-  pub goes : GoesOn n t cuts index runs s₀ from had s i c
+  pub parts : Parts n e s cuts runs index
+  pub goes : GoesOn n t cuts runs index s₀ from had s i c
 
-module _ (n t cuts : ℕ) (index runs s₀ : List ℕ) (from had e : ℕ) (small : e ≤ n) (s : List ℕ) (i c : ℕ) (h : i < e) (g : Along n t cuts index runs s₀ from had e s i c) where
-  pub along-miss : (u : List ℕ) (d : ℕ) → u ≡ s → d ≡ c → (getD s i 0 ≡ t → ⊥) → Along n t cuts index runs s₀ from had e u (i + 1) d
+module _ (n t cuts : ℕ) (runs index s₀ : List ℕ) (from had e : ℕ) (small : e ≤ n) (s : List ℕ) (i c : ℕ) (h : i < e) (g : Along n t cuts runs index s₀ from had e s i c) where
+  pub along-miss : (u : List ℕ) (d : ℕ) → u ≡ s → d ≡ c → (getD s i 0 ≡ t → ⊥) → Along n t cuts runs index s₀ from had e u (i + 1) d
   along-miss u d q r m = rw (q, r) (record {
     within = omega (arith, g .within);
     most = omega arith;
     long = g .long;
     room = g .room;
     parts = g .parts;
-    goes = λ z y. going-miss n t (partAt z cuts index runs) z s i c (omega arith) (g .goes z y) m;
+    goes = λ z y. going-miss n t (partAt z cuts runs index) z s i c (omega arith) (g .goes z y) m;
   })
 
   module _ (base : Base n cuts) where
-    pub listed-parts : Parts n e (set s (listFrom n + c) i) cuts index runs
-    listed-parts = parts-kept n e cuts index runs s (set s (listFrom n + c) i) base small (cuts-set n s c i) e (omega arith) (g .parts)
+    pub listed-parts : Parts n e (set s (listFrom n + c) i) cuts runs index
+    listed-parts = parts-kept n e cuts runs index s (set s (listFrom n + c) i) base small (cuts-set n s c i) e (omega arith) (g .parts)
 
-    pub along-hit : (u : List ℕ) (d : ℕ) → u ≡ stamped n t (set s (listFrom n + c) i) (partAt (set s (listFrom n + c) i) cuts index runs i) → d ≡ c + 1 → getD s i 0 ≡ t
-        → Along n t cuts index runs s₀ from had e u (i + 1) d
+    pub along-hit : (u : List ℕ) (d : ℕ) → u ≡ stamped n t (set s (listFrom n + c) i) (partAt (set s (listFrom n + c) i) cuts runs index i) → d ≡ c + 1 → getD s i 0 ≡ t
+        → Along n t cuts runs index s₀ from had e u (i + 1) d
     along-hit u d q r m =
         let p = listed-parts in
-        let k : length u ≡ length s = rw q (stamped-length n t (set s (listFrom n + c) i) (partAt (set s (listFrom n + c) i) cuts index runs i) ∙ length-set s (listFrom n + c) i) in
+        let k : length u ≡ length s = rw q (stamped-length n t (set s (listFrom n + c) i) (partAt (set s (listFrom n + c) i) cuts runs index i) ∙ length-set s (listFrom n + c) i) in
         rw r (record {
           within = omega (arith, g .within);
           most = omega arith;
           long = k ∙ g .long;
           room = room-kept n s u k (g .room);
-          parts = parts-kept n e cuts index runs s u base small (cuts-turn n t s s u (partAt (set s (listFrom n + c) i) cuts index runs i) c i q (p .below i h) (λ x lo hi. refl)) e (omega arith) (g .parts);
+          parts = parts-kept n e cuts runs index s u base small (cuts-turn n t s s u (partAt (set s (listFrom n + c) i) cuts runs index i) c i q (p .below i h) (λ x lo hi. refl)) e (omega arith) (g .parts);
           goes = λ z y.
               let o = g .goes z y in
-              let x = part-same n e cuts index runs z (set s (listFrom n + c) i) base small (λ v lo hi. cuts-set n s c i v lo hi ∙ o .cuts v lo hi) i h in
-              going-hit n t (partAt z cuts index runs) z s i c (omega arith) o (g .room) (partAt (set s (listFrom n + c) i) cuts index runs i) u (p .below i h) q (p .above i h) x m;
+              let x = part-same n e cuts runs index z (set s (listFrom n + c) i) base small (λ v lo hi. cuts-set n s c i v lo hi ∙ o .cuts v lo hi) i h in
+              going-hit n t (partAt z cuts runs index) z s i c (omega arith) o (g .room) (partAt (set s (listFrom n + c) i) cuts runs index i) u (p .below i h) q (p .above i h) x m;
         })
 
-pub along-end : (n t cuts : ℕ) (index runs s₀ : List ℕ) (from had e : ℕ) (s : List ℕ) (i c : ℕ) → e ≤ i → Along n t cuts index runs s₀ from had e s i c
-    → GoesOn n t cuts index runs s₀ from had s e c
-along-end n t cuts index runs s₀ from had e s i c h g z y = let q : i ≡ e = omega (arith, g .most) in rw q at (g .goes z y)
+pub along-end : (n t cuts : ℕ) (runs index s₀ : List ℕ) (from had e : ℕ) (s : List ℕ) (i c : ℕ) → e ≤ i → Along n t cuts runs index s₀ from had e s i c
+    → GoesOn n t cuts runs index s₀ from had s e c
+along-end n t cuts runs index s₀ from had e s i c h g z y = let q : i ≡ e = omega (arith, g .most) in rw q at (g .goes z y)

@@ -1,7 +1,7 @@
 -- The cuts from place to place.
 use mathlib.Core.Path.{_≡_, refl, sym, ap, _∙_}
 use mathlib.Core.List.{List}
-use mathlib.Core.Bool.{Bool, true, false, false≢true}
+use mathlib.Core.Bool.{Bool, true, false≢true}
 use Prim.Native.Nat.{ℕ, suc, _+_, _-_, _<_, _≤_}
 use native.Mathlib.Omega.{arith}
 use native.Mathlib.Decide.{ℕ-discrete}
@@ -11,10 +11,11 @@ use lib.Dec.{eqb, ltb}
 use Rattle.base.specs.Lists.{has, listAt}
 use Rattle.base.specs.Tests.{by-test, and-cases}
 use Rattle.fill.specs.Fill.{Pattern, filled, upper, upperRow}
-use Rattle.marks.specs.Marks.{Room, marked, Fresh, Holds, Same, Base, upto, cutOne, visited, newCuts}
+use Rattle.lent.specs.Reading.{But}
+use Rattle.marks.specs.Marks.{Room, marked, Fresh, Holds, Unmarked, Base, upto, cutOne, visited, newCuts}
 use Rattle.marks.specs.VisitLaws.{visited-keeps}
-use Rattle.marks.specs.CutLaws.{cut-other, cut-length, cut-free}
-use Rattle.marks.specs.Rows.{Stored, CutAt, uncut, behind, Cuts, Held, But, Renewed}
+use Rattle.marks.specs.CutLaws.{cut-other, cut-length, cut-unmarked}
+use Rattle.marks.specs.Rows.{Stored, CutAt, uncut, behind, Cuts, Held, Renewed}
 use Rattle.marks.specs.AscCuts.{upto-none}
 use Rattle.marks.specs.FillLaws.{has-upper, upper-length}
 
@@ -24,25 +25,25 @@ pub cuts-kept : (P : Pattern) (n k cuts : ℕ) (s u : List ℕ) → ((i : ℕ) �
 cuts-kept P n k cuts s u e h i l = rw (e i l) (h i l)
 
 -- marks keep them
-pub cuts-same : (P : Pattern) (n k cuts : ℕ) (s u : List ℕ) → Base n cuts → Same n s u → Cuts P n k cuts s → Cuts P n k cuts u
-cuts-same P n k cuts s u b e h = cuts-kept P n k cuts s u (λ i l. e (cuts + i) (cut-free n cuts i b)) h
+pub cuts-same : (P : Pattern) (n k cuts : ℕ) (s u : List ℕ) → Base n cuts → Unmarked n s u → Cuts P n k cuts s → Cuts P n k cuts u
+cuts-same P n k cuts s u b e h = cuts-kept P n k cuts s u (λ i l. cut-unmarked n cuts i s u b e) h
 
 -- what is written elsewhere keeps them
 pub cuts-but : (P : Pattern) (n k cuts lo hi : ℕ) (s u : List ℕ) → ((i : ℕ) → i < k → lo ≤ cuts + i → hi ≤ cuts + i) → But lo hi s u → Cuts P n k cuts s → Cuts P n k cuts u
 cuts-but P n k cuts lo hi s u a e h = cuts-kept P n k cuts s u (λ i l. e (cuts + i) (a i l)) h
 
 -- every later stamp is fresh
-pub holds-fresh : (n t later : ℕ) (s : List ℕ) (p : ℕ → Bool) → t < later → Holds n t s p → Fresh n later s
+holds-fresh : (n t later : ℕ) (s : List ℕ) (p : ℕ → Bool) → t < later → Holds n t s p → Fresh n later s
 holds-fresh n t later s p l h j q = omega (arith, h .last j q)
 
 -- what another side writes keeps what a place finds
-pub held-kept : (P : Pattern) (n k t later cuts : ℕ) (s u index runs starts : List ℕ) → ((i : ℕ) → i < k → getD u (cuts + i) 0 ≡ getD s (cuts + i) 0) → Fresh n later u
-    → Held P n k t cuts s index runs starts → Held P n k later cuts u index runs starts
-held-kept P n k t later cuts s u index runs starts e f h = record { fresh = f; store = h .store; cut = cuts-kept P n k cuts s u e (h .cut) }
+pub held-kept : (P : Pattern) (n k t later cuts : ℕ) (s u starts runs index : List ℕ) → ((i : ℕ) → i < k → getD u (cuts + i) 0 ≡ getD s (cuts + i) 0) → Fresh n later u
+    → Held P n k t cuts s starts runs index → Held P n k later cuts u starts runs index
+held-kept P n k t later cuts s u starts runs index e f h = record { fresh = f; store = h .store; cut = cuts-kept P n k cuts s u e (h .cut) }
 
 -- before place 0
-pub held-start : (P : Pattern) (n t cuts : ℕ) (s index runs starts : List ℕ) → Fresh n t s → Held P n 0 t cuts s index runs starts
-held-start P n t cuts s index runs starts f = record {
+pub held-start : (P : Pattern) (n t cuts : ℕ) (s starts runs index : List ℕ) → Fresh n t s → Held P n 0 t cuts s starts runs index
+held-start P n t cuts s starts runs index f = record {
   fresh = f;
   store = record { list = λ i l. absurd (omega arith); read = λ i l. absurd (omega arith) };
   cut = λ i l. absurd (omega arith);
@@ -50,8 +51,8 @@ held-start P n t cuts s index runs starts f = record {
 
 -- ---- after place k
 
-module _ (P : Pattern) (n t k cuts : ℕ) (h : k < n) (base : Base n cuts) (s index runs starts : List ℕ) (room : Room n s)
-    (marks : Holds n t s (filled P k)) (store : Stored P n (k + 1) index runs starts) (cut : Cuts P n k cuts s) where
+module _ (P : Pattern) (n t k cuts : ℕ) (h : k < n) (base : Base n cuts) (s starts runs index : List ℕ) (room : Room n s)
+    (marks : Holds n t s (filled P k)) (store : Stored P n (k + 1) starts runs index) (cut : Cuts P n k cuts s) where
   abbrev T : ℕ → List ℕ
   T = listAt starts runs index
 
@@ -116,14 +117,14 @@ new-kept t cuts k T c s q w =
     ∙ visited-keeps t (cutOne cuts k T) (λ i u. getD u q 0 ≡ getD s q 0) 0 k s
     (λ i a b u e m. cut-other cuts k T i u q (λ y. let z = w (omega arith) in omega arith) ∙ e) (λ i a b u e m. e) refl
 
-pub renewed-is : (n t k cuts : ℕ) (index runs starts s u : List ℕ) → k < n → Base n cuts → Room n s
-    → u ≡ newCuts t cuts k (listAt starts runs index) (getD starts (k + 1) 0 - getD starts k 0) s → Renewed n t k cuts index runs starts s u
-renewed-is n t k cuts index runs starts s u h b r e = rw e (record {
+pub renewed-is : (n t k cuts : ℕ) (starts runs index s u : List ℕ) → k < n → Base n cuts → Room n s
+    → u ≡ newCuts t cuts k (listAt starts runs index) (getD starts (k + 1) 0 - getD starts k 0) s → Renewed n t k cuts starts runs index s u
+renewed-is n t k cuts starts runs index s u h b r e = rw e (record {
   kept = new-kept t cuts k (listAt starts runs index) (getD starts (k + 1) 0 - getD starts k 0) s;
   held = λ P m store cut later l. record {
     fresh = λ j q. let w = b .low in
         rw (new-kept t cuts k (listAt starts runs index) (getD starts (k + 1) 0 - getD starts k 0) s j (λ y. absurd (omega arith))) (holds-fresh n t later s (filled P k) l m j q);
     store = store;
-    cut = cuts-next P n t k cuts h b s index runs starts r m store cut _ (sym (upper-length P n (k + 1) index runs starts store k (omega arith)));
+    cut = cuts-next P n t k cuts h b s starts runs index r m store cut _ (sym (upper-length P n (k + 1) starts runs index store k (omega arith)));
   };
 })

@@ -2,20 +2,21 @@
 -- M' with rows and columns exchanged for the lower one. Definitions only.
 use mathlib.Core.Path.{_≡_}
 use mathlib.Core.List.{List, _++_, map}
-use Prim.Native.Nat.{ℕ, _+_, _-_, _*_, _<_, _≤_}
+use Prim.Native.Nat.{ℕ, _+_, _-_, _<_, _≤_}
 use lib.ListN.{length, getD}
 use lib.Seq.{sets}
 use Rattle.base.specs.Lists.{listAt, rowOf, has, total}
 use Rattle.fill.specs.Fill.{Pattern, filled, upperRow, lowerRow}
 use Rattle.fill.specs.Prune.{Pair}
-use Rattle.marks.specs.Marks.{Fresh, Holds, Same, ListIn, upto, through}
+use Rattle.lent.specs.Reading.{ListIn, orderOf, placed, But}
+use Rattle.marks.specs.Marks.{Fresh, Holds, Unmarked, upto}
 use Rattle.base.specs.Scratch.{listFrom}
 use Rattle.base.specs.Limits.{maxRows}
 
 -- the lists of the first k places stand in the store
-pub record Stored (P : Pattern) (n k : ℕ) (index runs starts : List ℕ) : Type 0 where
+pub record Stored (P : Pattern) (n k : ℕ) (starts runs index : List ℕ) : Type 0 where
   pub list : (i : ℕ) → i < k → listAt starts runs index i ≡ upperRow P n i
-  pub read : (i : ℕ) → i < k → ListIn index runs starts i
+  pub read : (i : ℕ) → i < k → ListIn starts runs (length index) i
 
 -- of list i, place k merges the first c entries: all, or those up to a place p below k with (i, p) and (p, i) filled
 pub data CutAt (P : Pattern) (n k i c : ℕ) : Type 0 where
@@ -27,24 +28,20 @@ abbrev pub Cuts : Pattern → ℕ → ℕ → ℕ → List ℕ → Type 0
 Cuts P n k cuts s = (i : ℕ) → i < k → CutAt P n k i (getD s (cuts + i) 0)
 
 -- what place k finds: no mark with its stamp, the lists of the places before it in the store, and their cuts
-pub record Held (P : Pattern) (n k t cuts : ℕ) (s index runs starts : List ℕ) : Type 0 where
+pub record Held (P : Pattern) (n k t cuts : ℕ) (s starts runs index : List ℕ) : Type 0 where
   pub fresh : Fresh n t s
-  pub store : Stored P n k index runs starts
+  pub store : Stored P n k starts runs index
   pub cut : Cuts P n k cuts s
 
--- all slots but those from lo up to hi are as they were
-abbrev pub But : ℕ → ℕ → List ℕ → List ℕ → Type 0
-But lo hi s₀ s = (q : ℕ) → (lo ≤ q → hi ≤ q) → getD s q 0 ≡ getD s₀ q 0
-
 -- own row i of M is added at its places
-pub record Loaded (n t i : ℕ) (columns starts s₀ s : List ℕ) : Type 0 where
-  pub same : Same n s₀ s
-  pub row : Fresh n t s₀ → Holds n t s (has (through s₀ n (rowOf starts columns i)))
+pub record Loaded (n t i : ℕ) (starts columns s₀ s : List ℕ) : Type 0 where
+  pub same : Unmarked n s₀ s
+  pub row : Fresh n t s₀ → Holds n t s (has (placed (orderOf n s₀) (rowOf starts columns i)))
 
 -- the entries of place k are closed over the lists before it: the marks are row k of the fill
-pub record Closed (n t k cuts : ℕ) (index runs s₀ s : List ℕ) : Type 0 where
-  pub same : Same n s₀ s
-  pub fill : (P : Pattern) (starts : List ℕ) → Stored P n k index runs starts → Cuts P n k cuts s₀ → Holds n t s₀ (P k) → Holds n t s (filled P k)
+pub record Closed (n t k cuts : ℕ) (runs index s₀ s : List ℕ) : Type 0 where
+  pub same : Unmarked n s₀ s
+  pub fill : (P : Pattern) (starts : List ℕ) → Stored P n k starts runs index → Cuts P n k cuts s₀ → Holds n t s₀ (P k) → Holds n t s (filled P k)
 
 -- lower row k, so long, is written to the list region of scratch
 pub record LowerListed (P : Pattern) (n k : ℕ) (s₀ s : List ℕ) (below : ℕ) : Type 0 where
@@ -52,10 +49,10 @@ pub record LowerListed (P : Pattern) (n k : ℕ) (s₀ s : List ℕ) (below : �
   pub slots : s ≡ sets s₀ (listFrom n) (lowerRow P k)
 
 -- both: mid is scratch before the list is written
-pub record Closing (n t k cuts : ℕ) (index runs s₀ s : List ℕ) (below : ℕ) : Type 0 where
+pub record Closing (n t k cuts : ℕ) (runs index s₀ s : List ℕ) (below : ℕ) : Type 0 where
   pub mid : List ℕ
   pub size : length mid ≡ length s₀
-  pub closed : Closed n t k cuts index runs s₀ mid
+  pub closed : Closed n t k cuts runs index s₀ mid
   pub lower : (P : Pattern) → Holds n t mid (filled P k) → LowerListed P n k mid s below
 
 -- T(k), so long, is written behind lower row k
@@ -70,10 +67,10 @@ pub record Listed (P : Pattern) (n k at : ℕ) (s₀ s : List ℕ) (below above 
   pub slots : s ≡ sets s₀ at (lowerRow P k ++ upperRow P n k)
 
 -- T(k) is in the store and the cuts are those of place k + 1: any later stamp may be next
-pub record Renewed (n t k cuts : ℕ) (index runs starts s₀ s : List ℕ) : Type 0 where
+pub record Renewed (n t k cuts : ℕ) (starts runs index s₀ s : List ℕ) : Type 0 where
   pub kept : But cuts (cuts + k + 1) s₀ s
-  pub held : (P : Pattern) → Holds n t s₀ (filled P k) → Stored P n (k + 1) index runs starts → Cuts P n k cuts s₀
-      → (later : ℕ) → t < later → Held P n (k + 1) later cuts s index runs starts
+  pub held : (P : Pattern) → Holds n t s₀ (filled P k) → Stored P n (k + 1) starts runs index → Cuts P n k cuts s₀
+      → (later : ℕ) → t < later → Held P n (k + 1) later cuts s starts runs index
 
 -- the products of row k: for each i of lower row k, the length of T(i)
 unfoldable pub rowSteps : Pattern → ℕ → ℕ → ℕ

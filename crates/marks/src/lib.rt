@@ -5,8 +5,9 @@ ghost use Prim.Native.Nat.{ℕ, _+_, _-_, _*_, _/_, _≤_, _<_};
 ghost use lib.ListN.{length, getD, take, drop, set};
 ghost use lib.Seq.{sets};
 ghost use Rattle.base.specs.Lists.{listAt, rowOf, total};
+ghost use Rattle.lent.specs.Reading.{ListIn, Below, orderOf, placed};
 ghost use Rattle.fill.specs.Fill.{Pattern, filled};
-ghost use Rattle.marks.specs.Marks.{Below, Room, markAt, stamped, Blocks, Bare, Holds, marked, members, through, visited, Merged, ListIn, Base, partAt, PartIn, Parts, upto, cutOne, newCuts};
+ghost use Rattle.marks.specs.Marks.{Room, Order, markAt, stamped, Blocks, Bare, Holds, marked, members, visited, Merged, Base, partAt, PartIn, Parts, Walk, upto, cutOne};
 ghost use Rattle.marks.specs.MergeLaws.{GoesOn};
 ghost use Rattle.marks.specs.Rows.{Loaded, Closing, UpperListed, Renewed, lengthIn, Countable};
 ghost use Rattle.base.specs.Scratch.{blocksFrom, upperCuts, listFrom};
@@ -16,37 +17,25 @@ use base::OwnNumber;
 use base::Place;
 use base::scratch;
 
-fn wide16(x: Index) -> usize
-    ensures { λ r. ⌜ r ≡ x ⌝ }
-{
-    x as usize
-}
-
-pub fn wide32(x: u32) -> usize
-    ensures { λ r. ⌜ (r ≡ x) × (r < 4294967296) ⌝ }
-{
-    x as usize
-}
-
 // Adds place j to the set.
-pub fn mark(s: &mut [u32], n: usize, stamp: u32, j: usize)
-    requires { ⌜ (j < n) × Room n (now s) ⌝ }
-    ensures { λ r. ⌜ now (s .exit) ≡ markAt n stamp (now (s .entry)) j ⌝ }
+pub fn mark(marks: &mut [u32], n: usize, stamp: u32, j: usize)
+    requires { ⌜ (j < n) × Room n (now marks) ⌝ }
+    ensures { λ r. ⌜ now (marks .exit) ≡ markAt n stamp (now (marks .entry)) j ⌝ }
 {
-    s[j] = stamp;
-    s[scratch::BLOCKS * n + j / 64] = stamp;
+    marks[j] = stamp;
+    marks[scratch::BLOCKS * n + j / 64] = stamp;
 }
 
 // Unites the set with a list of places.
-pub fn merge_list(s: &mut [u32], n: usize, stamp: u32, list: &[Index])
+fn merge_list(marks: &mut [u32], n: usize, stamp: u32, list: &[Index])
     requires { ⌜ Below n (now list) ⌝ }
-    requires { ⌜ Room n (now s) ⌝ }
-    ensures { λ r. ⌜ now (s .exit) ≡ stamped n stamp (now (s .entry)) (now (list .entry)) ⌝ }
+    requires { ⌜ Room n (now marks) ⌝ }
+    ensures { λ r. ⌜ now (marks .exit) ≡ stamped n stamp (now (marks .entry)) (now (list .entry)) ⌝ }
 {
     let mut p = 0;
     while p < list.len() {
-        let j = wide16(list[p]);
-        mark(s, n, stamp, j);
+        let j = base::wide(list[p]);
+        mark(marks, n, stamp, j);
         p += 1;
     }
 }
@@ -64,14 +53,14 @@ fn block_end(j: usize, end: usize) -> usize
 }
 
 // Where the next stamped block behind that of j begins, or `end` if that is before. The block of j is not stamped.
-fn next_block(s: &[u32], n: usize, stamp: u32, j: usize, end: usize) -> usize
-    requires { ⌜ (j < end) × (end ≤ n) × Room n (now s) ⌝ }
-    requires { ⌜ (getD (now s) (blocksFrom n + j / 64) 0 ≡ stamp → ⊥) ⌝ }
-    ensures { λ r. ⌜ Bare n stamp (now (s .entry)) j end r ⌝ }
+fn next_block(marks: &[u32], n: usize, stamp: u32, j: usize, end: usize) -> usize
+    requires { ⌜ (j < end) × (end ≤ n) × Room n (now marks) ⌝ }
+    requires { ⌜ (getD (now marks) (blocksFrom n + j / 64) 0 ≡ stamp → ⊥) ⌝ }
+    ensures { λ r. ⌜ Bare n stamp (now (marks .entry)) j end r ⌝ }
 {
     let mut b = j / 64 + 1;
     while b * 64 < end {
-        if s[scratch::BLOCKS * n + b] == stamp {
+        if marks[scratch::BLOCKS * n + b] == stamp {
             return b * 64;
         }
         b += 1;
@@ -80,15 +69,22 @@ fn next_block(s: &[u32], n: usize, stamp: u32, j: usize, end: usize) -> usize
 }
 
 // Writes the members of one block, from `from` up to `end`, behind the `had` written before, and answers how many are written then.
-fn gather_block(s: &mut [u32], stamp: u32, from: usize, end: usize, at: usize, had: usize) -> usize
-    requires { ⌜ (from ≤ end) × (end ≤ at) × (end ≤ maxRows) × (at + had + (end - from) ≤ length (now s)) ⌝ }
-    ensures { λ r. ⌜ (r ≡ had + length (members stamp (now (s .entry)) from end)) × (now (s .exit) ≡ sets (now (s .entry)) (at + had) (members stamp (now (s .entry)) from end)) ⌝ }
+fn gather_block(
+    marks: &mut [u32],
+    stamp: u32,
+    from: usize,
+    end: usize,
+    at: usize,
+    had: usize,
+) -> usize
+    requires { ⌜ (from ≤ end) × (end ≤ at) × (end ≤ maxRows) × (at + had + (end - from) ≤ length (now marks)) ⌝ }
+    ensures { λ r. ⌜ (r ≡ had + length (members stamp (now (marks .entry)) from end)) × (now (marks .exit) ≡ sets (now (marks .entry)) (at + had) (members stamp (now (marks .entry)) from end)) ⌝ }
 {
     let mut count = had;
     let mut q = from;
     while q < end {
-        if s[q] == stamp {
-            s[at + count] = q as u32;
+        if marks[q] == stamp {
+            marks[at + count] = q as u32;
             count += 1;
         }
         q += 1;
@@ -97,127 +93,108 @@ fn gather_block(s: &mut [u32], stamp: u32, from: usize, end: usize, at: usize, h
 }
 
 // Writes the members from `from` up to `end`, ascending, from slot `at` on and answers how many they are.
-pub fn gather(s: &mut [u32], n: usize, stamp: u32, from: usize, end: usize, at: usize) -> usize
-    requires { ⌜ (from ≤ end) × (end ≤ n) × Room n (now s) ⌝ }
-    requires { ⌜ (upperCuts n ≤ at) × (at + (end - from) ≤ length (now s)) ⌝ }
-    requires { ⌜ Blocks n stamp (now s) ⌝ }
-    ensures { λ r. ⌜ (r ≡ length (members stamp (now (s .entry)) from end)) × (now (s .exit) ≡ sets (now (s .entry)) at (members stamp (now (s .entry)) from end)) ⌝ }
+fn gather(marks: &mut [u32], n: usize, stamp: u32, from: usize, end: usize, at: usize) -> usize
+    requires { ⌜ (from ≤ end) × (end ≤ n) × Room n (now marks) ⌝ }
+    requires { ⌜ (upperCuts n ≤ at) × (at + (end - from) ≤ length (now marks)) ⌝ }
+    requires { ⌜ Blocks n stamp (now marks) ⌝ }
+    ensures { λ r. ⌜ (r ≡ length (members stamp (now (marks .entry)) from end)) × (now (marks .exit) ≡ sets (now (marks .entry)) at (members stamp (now (marks .entry)) from end)) ⌝ }
 {
     let mut count = 0;
     let mut j = from;
     while j < end {
-        if s[scratch::BLOCKS * n + j / 64] == stamp {
+        if marks[scratch::BLOCKS * n + j / 64] == stamp {
             let stop = block_end(j, end);
-            count = gather_block(s, stamp, j, stop, at, count);
+            count = gather_block(marks, stamp, j, stop, at, count);
             j = stop;
         } else {
-            j = next_block(s, n, stamp, j, end);
+            j = next_block(marks, n, stamp, j, end);
         }
     }
     count
 }
 
-pub fn own_number(c: Index) -> OwnNumber
-    ensures { λ r. ⌜ r .0 ≡ c ⌝ }
+// The place of entry q of a row.
+pub fn entry_place(marks: &[u32], n: usize, cols: &[Index], q: usize) -> usize
+    requires { ⌜ (q < length (now cols)) × (getD (now cols) q 0 < n) × Room n (now marks) ⌝ }
+    ensures { λ j. ⌜ j ≡ getD (placed (orderOf n (now (marks .entry))) (now (cols .entry))) q 0 ⌝ }
 {
-    OwnNumber(c as u32)
-}
-
-// The place of an own column: the inverse column order stands in slots n to 2n.
-pub fn place_of(s: &[u32], n: usize, c: OwnNumber) -> Place
-    requires { ⌜ (c .0 < n) × Room n (now s) ⌝ }
-    ensures { λ r. ⌜ r .0 ≡ getD (now (s .entry)) (n + c .0) 0 ⌝ }
-{
-    let j = wide32(c.0);
-    Place(s[n + j])
+    let c = OwnNumber(base::number(cols[q]));
+    let p = lent::place_of(n, marks, c);
+    p.0 as usize
 }
 
 // Adds the columns of a row of M at their places.
-pub fn load_row(s: &mut [u32], n: usize, stamp: u32, columns: &[Index])
-    requires { ⌜ Below n (now columns) ⌝ }
-    requires { ⌜ Room n (now s) ⌝ }
-    requires { ⌜ ((j : ℕ) → j < n → getD (now s) (n + j) 0 < n) ⌝ }
-    ensures { λ r. ⌜ now (s .exit) ≡ stamped n stamp (now (s .entry)) (through (now (s .entry)) n (now (columns .entry))) ⌝ }
+pub fn load_row(marks: &mut [u32], n: usize, stamp: u32, cols: &[Index])
+    requires { ⌜ Below n (now cols) ⌝ }
+    requires { ⌜ Room n (now marks) ⌝ }
+    requires { ⌜ Order n (now marks) ⌝ }
+    ensures { λ r. ⌜ now (marks .exit) ≡ stamped n stamp (now (marks .entry)) (placed (orderOf n (now (marks .entry))) (now (cols .entry))) ⌝ }
 {
-    let mut p = 0;
-    while p < columns.len() {
-        let c = own_number(columns[p]);
-        let j = place_of(s, n, c);
-        mark(s, n, stamp, wide32(j.0));
-        p += 1;
+    let mut q = 0;
+    while q < cols.len() {
+        let j = entry_place(marks, n, cols, q);
+        mark(marks, n, stamp, j);
+        q += 1;
     }
-}
-
-// List i of a store, as a part of it.
-pub fn list_part<'a>(index: &'a [Index], runs: &[u32], starts: &[u32], i: usize) -> &'a [Index]
-    requires { ⌜ ListIn (now index) (now runs) (now starts) i ⌝ }
-    ensures { λ r. ⌜ now r ≡ listAt (now (starts .entry)) (now (runs .entry)) (now (index .entry)) i ⌝ }
-{
-    let a = wide32(runs[i]);
-    let lo = wide32(starts[i]);
-    let hi = wide32(starts[i + 1]);
-    let e = a + (hi - lo);
-    &index[a..e]
 }
 
 // The entries of list i that a later place merges.
 fn cut_part<'a>(
-    s: &[u32],
-    n: usize,
+    marks: &[u32],
     cuts: usize,
-    index: &'a [Index],
     runs: &[u32],
+    index: &'a [Index],
     i: usize,
 ) -> &'a [Index]
-    requires { ⌜ Room n (now s) × Base n cuts × PartIn n (now s) cuts (now index) (now runs) i ⌝ }
-    ensures { λ r. ⌜ now r ≡ partAt (now (s .entry)) cuts (now (index .entry)) (now (runs .entry)) i ⌝ }
+    requires { ⌜ (cuts + i < length (now marks)) × (i < length (now runs)) × (getD (now runs) i 0 + getD (now marks) (cuts + i) 0 ≤ length (now index)) ⌝ }
+    ensures { λ r. ⌜ now r ≡ partAt (now (marks .entry)) cuts (now (runs .entry)) (now (index .entry)) i ⌝ }
 {
-    let a = wide32(runs[i]);
-    let e = a + wide32(s[cuts + i]);
+    let a = base::slot(runs[i]);
+    let e = a + base::slot(marks[cuts + i]);
     &index[a..e]
 }
 
 // Unites the set with list i of a store, as far as its cut.
 fn merge_run(
-    s: &mut [u32],
+    marks: &mut [u32],
     n: usize,
     stamp: u32,
     i: usize,
     cuts: usize,
-    index: &[Index],
     runs: &[u32],
+    index: &[Index],
 )
-    requires { ⌜ Room n (now s) × Base n cuts × PartIn n (now s) cuts (now index) (now runs) i ⌝ }
-    requires { ⌜ Below n (partAt (now s) cuts (now index) (now runs) i) ⌝ }
-    ensures { λ r. ⌜ now (s .exit) ≡ stamped n stamp (now (s .entry)) (partAt (now (s .entry)) cuts (now (index .entry)) (now (runs .entry)) i) ⌝ }
+    requires { ⌜ Room n (now marks) × Base n cuts × PartIn n (now marks) cuts (now runs) (now index) i ⌝ }
+    requires { ⌜ Below n (partAt (now marks) cuts (now runs) (now index) i) ⌝ }
+    ensures { λ r. ⌜ now (marks .exit) ≡ stamped n stamp (now (marks .entry)) (partAt (now (marks .entry)) cuts (now (runs .entry)) (now (index .entry)) i) ⌝ }
 {
-    let list = cut_part(s, n, cuts, index, runs, i);
-    merge_list(s, n, stamp, list);
+    let list = cut_part(marks, cuts, runs, index, i);
+    merge_list(marks, n, stamp, list);
 }
 
 // The members from `from` up to `end`: each is written behind the `had` before, and the set is united with its list as far as its cut.
 fn merge_block(
-    s: &mut [u32],
+    marks: &mut [u32],
     n: usize,
     stamp: u32,
     from: usize,
     end: usize,
     had: usize,
     cuts: usize,
-    index: &[Index],
     runs: &[u32],
+    index: &[Index],
 ) -> usize
-    requires { ⌜ Parts n end (now s) cuts (now index) (now runs) ⌝ }
-    requires { ⌜ (had ≤ from) × (from ≤ end) × (end ≤ n) × Base n cuts × Room n (now s) ⌝ }
-    ensures { λ r. ⌜ GoesOn n stamp cuts (now (index .entry)) (now (runs .entry)) (now (s .entry)) from had (now (s .exit)) end r ⌝ }
+    requires { ⌜ Parts n end (now marks) cuts (now runs) (now index) ⌝ }
+    requires { ⌜ (had ≤ from) × (from ≤ end) × (end ≤ n) × Base n cuts × Room n (now marks) ⌝ }
+    ensures { λ r. ⌜ GoesOn n stamp cuts (now (runs .entry)) (now (index .entry)) (now (marks .entry)) from had (now (marks .exit)) end r ⌝ }
 {
     let mut count = had;
     let mut i = from;
     while i < end {
-        if s[i] == stamp {
-            s[scratch::LIST * n + count] = i as u32;
+        if marks[i] == stamp {
+            marks[scratch::LIST * n + count] = i as u32;
             count += 1;
-            merge_run(s, n, stamp, i, cuts, index, runs);
+            merge_run(marks, n, stamp, i, cuts, runs, index);
         }
         i += 1;
     }
@@ -225,30 +202,30 @@ fn merge_block(
 }
 
 // Unites the set with the list of each member below k, as far as its cut, in ascending order.
-// Writes these members from slot 5n on and answers how many they are.
-pub fn merge_lower(
-    s: &mut [u32],
+// Writes these members to the list region and answers how many they are.
+fn merge_lower(
+    marks: &mut [u32],
     n: usize,
     stamp: u32,
     k: usize,
     cuts: usize,
-    index: &[Index],
     runs: &[u32],
+    index: &[Index],
 ) -> usize
-    requires { ⌜ Parts n k (now s) cuts (now index) (now runs) ⌝ }
-    requires { ⌜ (k ≤ n) × Base n cuts × Room n (now s) ⌝ }
-    requires { ⌜ Blocks n stamp (now s) ⌝ }
-    ensures { λ r. ⌜ Merged n stamp k (partAt (now (s .entry)) cuts (now (index .entry)) (now (runs .entry))) (now (s .entry)) (now (s .exit)) r ⌝ }
+    requires { ⌜ Parts n k (now marks) cuts (now runs) (now index) ⌝ }
+    requires { ⌜ (k ≤ n) × Base n cuts × Room n (now marks) ⌝ }
+    requires { ⌜ Blocks n stamp (now marks) ⌝ }
+    ensures { λ r. ⌜ Merged n stamp k (partAt (now (marks .entry)) cuts (now (runs .entry)) (now (index .entry))) (now (marks .entry)) (now (marks .exit)) r ⌝ }
 {
     let mut count = 0;
     let mut i = 0;
     while i < k {
-        if s[scratch::BLOCKS * n + i / 64] == stamp {
+        if marks[scratch::BLOCKS * n + i / 64] == stamp {
             let stop = block_end(i, k);
-            count = merge_block(s, n, stamp, i, stop, count, cuts, index, runs);
+            count = merge_block(marks, n, stamp, i, stop, count, cuts, runs, index);
             i = stop;
         } else {
-            i = next_block(s, n, stamp, i, k);
+            i = next_block(marks, n, stamp, i, k);
         }
     }
     count
@@ -260,7 +237,7 @@ fn reach_of(list: &[Index], k: usize) -> usize
 {
     let mut p = 0;
     while p < list.len() {
-        if wide16(list[p]) == k {
+        if base::wide(list[p]) == k {
             return p + 1;
         }
         p += 1;
@@ -270,172 +247,141 @@ fn reach_of(list: &[Index], k: usize) -> usize
 
 // Place k meets list i: if it is not yet cut and has k, it is cut behind k.
 fn cut_list(
-    s: &mut [u32],
-    n: usize,
+    marks: &mut [u32],
     k: usize,
     i: usize,
     cuts: usize,
-    index: &[Index],
-    runs: &[u32],
     starts: &[u32],
+    runs: &[u32],
+    index: &[Index],
 )
-    requires { ⌜ (i < n) × Base n cuts × Room n (now s) × ListIn (now index) (now runs) (now starts) i ⌝ }
-    ensures { λ r. ⌜ now (s .exit) ≡ cutOne cuts k (listAt (now (starts .entry)) (now (runs .entry)) (now (index .entry))) i (now (s .entry)) ⌝ }
+    requires { ⌜ (cuts + i < length (now marks)) × ListIn (now starts) (now runs) (length (now index)) i ⌝ }
+    ensures { λ r. ⌜ now (marks .exit) ≡ cutOne cuts k (listAt (now (starts .entry)) (now (runs .entry)) (now (index .entry))) i (now (marks .entry)) ⌝ }
 {
-    let list = list_part(index, runs, starts, i);
+    let list = lent::list_at(starts, runs, index, i);
     let at = cuts + i;
-    if wide32(s[at]) == list.len() {
+    if base::slot(marks[at]) == list.len() {
         let c = reach_of(list, k);
-        s[at] = c as u32;
+        marks[at] = c as u32;
     }
 }
 
 // Cuts the lists of the members below k that have k; these members, `below` of them, stand in the list region.
 fn close_cuts(
-    s: &mut [u32],
+    marks: &mut [u32],
     n: usize,
-    stamp: u32,
     k: usize,
     below: usize,
     cuts: usize,
-    index: &[Index],
-    runs: &[u32],
     starts: &[u32],
+    runs: &[u32],
+    index: &[Index],
 )
-    requires { ⌜ ((i : ℕ) → i < k → ListIn (now index) (now runs) (now starts) i) ⌝ }
-    requires { ⌜ (k < n) × Base n cuts × Room n (now s) ⌝ }
-    requires { ⌜ take below (drop (listFrom n) (now s)) ≡ members stamp (now s) 0 k ⌝ }
-    ensures { λ r. ⌜ now (s .exit) ≡ visited stamp (cutOne cuts k (listAt (now (starts .entry)) (now (runs .entry)) (now (index .entry)))) 0 k (now (s .entry)) ⌝ }
+    requires { ⌜ ((i : ℕ) → i < k → ListIn (now starts) (now runs) (length (now index)) i) ⌝ }
+    requires { ⌜ (k < n) × Base n cuts × Room n (now marks) ⌝ }
+    requires { ⌜ Walk n k below (now marks) ⌝ }
+    ensures { λ r. ⌜ ((stamp : ℕ) → take below (drop (listFrom n) (now (marks .entry))) ≡ members stamp (now (marks .entry)) 0 k
+        → now (marks .exit) ≡ visited stamp (cutOne cuts k (listAt (now (starts .entry)) (now (runs .entry)) (now (index .entry)))) 0 k (now (marks .entry))) ⌝ }
 {
     let mut p = 0;
     while p < below {
-        let i = wide32(s[scratch::LIST * n + p]);
-        cut_list(s, n, k, i, cuts, index, runs, starts);
+        let i = base::slot(marks[scratch::LIST * n + p]);
+        cut_list(marks, k, i, cuts, starts, runs, index);
         p += 1;
     }
 }
 
 // List k is not cut: the slot of its cut holds its length.
-fn open_cut(s: &mut [u32], n: usize, k: usize, cuts: usize, starts: &[u32])
-    requires { ⌜ (k < n) × Base n cuts × Room n (now s) × (k + 1 < length (now starts)) × (getD (now starts) k 0 ≤ getD (now starts) (k + 1) 0) ⌝ }
-    ensures { λ r. ⌜ now (s .exit) ≡ set (now (s .entry)) (cuts + k) (getD (now (starts .entry)) (k + 1) 0 - getD (now (starts .entry)) k 0) ⌝ }
+fn open_cut(marks: &mut [u32], k: usize, cuts: usize, starts: &[u32])
+    requires { ⌜ (cuts + k < length (now marks)) × (k + 1 < length (now starts)) × (getD (now starts) k 0 ≤ getD (now starts) (k + 1) 0) ⌝ }
+    ensures { λ r. ⌜ now (marks .exit) ≡ set (now (marks .entry)) (cuts + k) (getD (now (starts .entry)) (k + 1) 0 - getD (now (starts .entry)) k 0) ⌝ }
 {
-    s[cuts + k] = starts[k + 1] - starts[k];
-}
-
-// The cuts after place k, whose marks stand in s and whose list is in the store; the members below k, `below` of them, stand in the list region.
-pub fn next_cuts(
-    s: &mut [u32],
-    n: usize,
-    stamp: u32,
-    k: usize,
-    below: usize,
-    cuts: usize,
-    index: &[Index],
-    runs: &[u32],
-    starts: &[u32],
-)
-    requires { ⌜ ((i : ℕ) → i < k + 1 → ListIn (now index) (now runs) (now starts) i) ⌝ }
-    requires { ⌜ (k < n) × Base n cuts × Room n (now s) ⌝ }
-    requires { ⌜ take below (drop (listFrom n) (now s)) ≡ members stamp (now s) 0 k ⌝ }
-    ensures { λ r. ⌜ now (s .exit) ≡ newCuts stamp cuts k (listAt (now (starts .entry)) (now (runs .entry)) (now (index .entry))) (getD (now (starts .entry)) (k + 1) 0 - getD (now (starts .entry)) k 0) (now (s .entry)) ⌝ }
-{
-    close_cuts(s, n, stamp, k, below, cuts, index, runs, starts);
-    open_cut(s, n, k, cuts, starts);
+    marks[cuts + k] = starts[k + 1] - starts[k];
 }
 
 // ---- one place of one side
 
-// "place k takes own row r(k)"
-pub fn own_row(order: &[Index], k: Place) -> OwnNumber
-    requires { ⌜ k .0 < length (now order) ⌝ }
-    ensures { λ r. ⌜ (r .0 ≡ getD (now (order .entry)) (k .0) 0) ⌝ }
-{
-    let i = k.0 as usize;
-    own_number(order[i])
-}
-
 // Adds the entries of row k of M' to the marks.
 pub fn load_row_place(
-    s: &mut [u32],
+    marks: &mut [u32],
     n: usize,
     stamp: u32,
     k: Place,
-    columns: &[Index],
     starts: &[u32],
-    order: &[Index],
+    columns: &[Index],
+    r: &[Index],
 )
-    requires { ⌜ (k .0 < length (now order)) × Room n (now s) ⌝ }
-    requires { ⌜ ListIn (now columns) (now starts) (now starts) (getD (now order) (k .0) 0) ⌝ }
-    requires { ⌜ Below n (rowOf (now starts) (now columns) (getD (now order) (k .0) 0)) ⌝ }
-    requires { ⌜ ((j : ℕ) → j < n → getD (now s) (n + j) 0 < n) ⌝ }
-    ensures { λ r. ⌜ Loaded n stamp (getD (now (order .entry)) (k .0) 0) (now (columns .entry)) (now (starts .entry)) (now (s .entry)) (now (s .exit)) ⌝ }
+    requires { ⌜ (k .0 < length (now r)) × Room n (now marks) ⌝ }
+    requires { ⌜ ListIn (now starts) (now starts) (length (now columns)) (getD (now r) (k .0) 0) ⌝ }
+    requires { ⌜ Below n (rowOf (now starts) (now columns) (getD (now r) (k .0) 0)) ⌝ }
+    requires { ⌜ Order n (now marks) ⌝ }
+    ensures { λ _. ⌜ Loaded n stamp (getD (now (r .entry)) (k .0) 0) (now (starts .entry)) (now (columns .entry)) (now (marks .entry)) (now (marks .exit)) ⌝ }
 {
-    let row = own_row(order, k);
-    let i = row.0 as usize;
-    let list = list_part(columns, starts, starts, i);
-    load_row(s, n, stamp, list);
+    let i = lent::own_row(r, k);
+    let cols = lent::row_columns(starts, columns, i);
+    load_row(marks, n, stamp, cols);
 }
 
 // Unites the entries of place k, already marked, with the lists of the members below k: the marks are then row k of the fill,
 // and lower row k stands in the list region. Answers how long that is.
 pub fn close_place(
-    s: &mut [u32],
+    marks: &mut [u32],
     n: usize,
     stamp: u32,
     k: Place,
     cuts: usize,
-    index: &[Index],
     runs: &[u32],
+    index: &[Index],
 ) -> usize
-    requires { ⌜ Parts n (k .0) (now s) cuts (now index) (now runs) ⌝ }
-    requires { ⌜ (k .0 < n) × Base n cuts × Room n (now s) ⌝ }
-    requires { ⌜ Blocks n stamp (now s) ⌝ }
-    ensures { λ below. ⌜ Closing n stamp (k .0) cuts (now (index .entry)) (now (runs .entry)) (now (s .entry)) (now (s .exit)) below ⌝ }
+    requires { ⌜ Parts n (k .0) (now marks) cuts (now runs) (now index) ⌝ }
+    requires { ⌜ (k .0 < n) × Base n cuts × Room n (now marks) ⌝ }
+    requires { ⌜ Blocks n stamp (now marks) ⌝ }
+    ensures { λ below. ⌜ Closing n stamp (k .0) cuts (now (runs .entry)) (now (index .entry)) (now (marks .entry)) (now (marks .exit)) below ⌝ }
 {
     let end = k.0 as usize;
-    merge_lower(s, n, stamp, end, cuts, index, runs)
+    merge_lower(marks, n, stamp, end, cuts, runs, index)
 }
 
 // Whether (k, k) is filled, by the marks of place k.
-pub fn has_diagonal(s: &[u32], stamp: u32, k: Place) -> bool
-    requires { ⌜ k .0 < length (now s) ⌝ }
-    ensures { λ r. ⌜ r ≡ marked stamp (now (s .entry)) (k .0) ⌝ }
-    ensures { λ r. ⌜ ((n : ℕ) (P : Pattern) → k .0 < n → Holds n stamp (now (s .entry)) (filled P (k .0)) → r ≡ filled P (k .0) (k .0)) ⌝ }
+pub fn has_diagonal(marks: &[u32], stamp: u32, k: Place) -> bool
+    requires { ⌜ k .0 < length (now marks) ⌝ }
+    ensures { λ r. ⌜ r ≡ marked stamp (now (marks .entry)) (k .0) ⌝ }
+    ensures { λ r. ⌜ ((n : ℕ) (P : Pattern) → k .0 < n → Holds n stamp (now (marks .entry)) (filled P (k .0)) → r ≡ filled P (k .0) (k .0)) ⌝ }
 {
     let i = k.0 as usize;
-    s[i] == stamp
+    marks[i] == stamp
 }
 
 // Writes T(k) behind lower row k, which has `below` entries.
-pub fn list_upper(s: &mut [u32], n: usize, stamp: u32, k: Place, below: usize) -> usize
-    requires { ⌜ (k .0 < n) × (below ≤ k .0) × Room n (now s) ⌝ }
-    requires { ⌜ Blocks n stamp (now s) ⌝ }
-    ensures { λ above. ⌜ ((P : Pattern) → Holds n stamp (now (s .entry)) (filled P (k .0)) → UpperListed P n (k .0) below (now (s .entry)) (now (s .exit)) above) ⌝ }
+pub fn list_upper(marks: &mut [u32], n: usize, stamp: u32, k: Place, below: usize) -> usize
+    requires { ⌜ (k .0 < n) × (below ≤ k .0) × Room n (now marks) ⌝ }
+    requires { ⌜ Blocks n stamp (now marks) ⌝ }
+    ensures { λ above. ⌜ ((P : Pattern) → Holds n stamp (now (marks .entry)) (filled P (k .0)) → UpperListed P n (k .0) below (now (marks .entry)) (now (marks .exit)) above) ⌝ }
 {
     let i = k.0 as usize;
-    gather(s, n, stamp, i + 1, n, scratch::LIST * n + below)
+    gather(marks, n, stamp, i + 1, n, scratch::LIST * n + below)
 }
 
-// The cuts for place k + 1, once T(k) is in the store. Lower row k, with `below` entries, stands in the list region.
+// The cuts for place k + 1, once T(k) is in the store. The members below k, `below` of them, stand in the list region.
 pub fn renew_cuts(
-    s: &mut [u32],
+    marks: &mut [u32],
     n: usize,
-    stamp: u32,
     k: Place,
     below: usize,
     cuts: usize,
-    index: &[Index],
-    runs: &[u32],
     starts: &[u32],
+    runs: &[u32],
+    index: &[Index],
 )
-    requires { ⌜ ((i : ℕ) → i < k .0 + 1 → ListIn (now index) (now runs) (now starts) i) ⌝ }
-    requires { ⌜ (k .0 < n) × Base n cuts × Room n (now s) ⌝ }
-    requires { ⌜ take below (drop (listFrom n) (now s)) ≡ members stamp (now s) 0 (k .0) ⌝ }
-    ensures { λ r. ⌜ Renewed n stamp (k .0) cuts (now (index .entry)) (now (runs .entry)) (now (starts .entry)) (now (s .entry)) (now (s .exit)) ⌝ }
+    requires { ⌜ ((i : ℕ) → i < k .0 + 1 → ListIn (now starts) (now runs) (length (now index)) i) ⌝ }
+    requires { ⌜ (k .0 < n) × Base n cuts × Room n (now marks) ⌝ }
+    requires { ⌜ Walk n (k .0) below (now marks) ⌝ }
+    ensures { λ r. ⌜ ((stamp : ℕ) → take below (drop (listFrom n) (now (marks .entry))) ≡ members stamp (now (marks .entry)) 0 (k .0)
+        → Renewed n stamp (k .0) cuts (now (starts .entry)) (now (runs .entry)) (now (index .entry)) (now (marks .entry)) (now (marks .exit))) ⌝ }
 {
     let i = k.0 as usize;
-    next_cuts(s, n, stamp, i, below, cuts, index, runs, starts);
+    close_cuts(marks, n, i, below, cuts, starts, runs, index);
+    open_cut(marks, i, cuts, starts);
 }
 
 // How long list i is.
@@ -443,8 +389,8 @@ fn entries_of(starts: &[u32], i: usize) -> u64
     requires { ⌜ (i + 1 < length (now starts)) × (getD (now starts) i 0 ≤ getD (now starts) (i + 1) 0) ⌝ }
     ensures { λ r. ⌜ (r ≡ lengthIn (now (starts .entry)) i) × (r < 4294967296) ⌝ }
 {
-    let lo = wide32(starts[i]);
-    let hi = wide32(starts[i + 1]);
+    let lo = base::slot(starts[i]);
+    let hi = base::slot(starts[i + 1]);
     (hi - lo) as u64
 }
 
@@ -456,7 +402,7 @@ pub fn row_products(list: &[u32], starts: &[u32]) -> u64
     let mut sum: u64 = 0;
     let mut p = 0;
     while p < list.len() {
-        let i = wide32(list[p]);
+        let i = base::slot(list[p]);
         sum += entries_of(starts, i);
         p += 1;
     }

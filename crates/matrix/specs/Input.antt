@@ -10,8 +10,6 @@ use Rattle.base.specs.Lists.{has, table, rowOf, pairs}
 use Rattle.base.specs.First.{first}
 use Rattle.base.specs.declared.Found.{Found}
 use Rattle.base.specs.declared.Found.the-variants.{At, Nothing}
-use Rattle.base.specs.declared.OwnNumber.{OwnNumber}
-use Rattle.base.specs.declared.Place.{Place}
 
 -- a matrix, its orders and a right side
 pub record Input : Type 0 where
@@ -27,14 +25,6 @@ pub record Input : Type 0 where
 abbrev pub inputOf : ℕ → List ℕ → List ℕ → List Float → List ℕ → List ℕ → List Float → Input
 inputOf n s j v r c b = record { n = n; starts = s; columns = j; values = v; r = r; c = c; b = b }
 
--- "Row order r: place k takes own row r(k)": an own number from a place, by an order
-abbrev pub ownAt : List ℕ → Place → OwnNumber
-ownAt order k = record { 0 = getD order (k .0) 0 }
-
--- a place from an own number, by the inverse of an order
-abbrev pub placeAt : List ℕ → OwnNumber → Place
-placeAt inverse j = record { 0 = getD inverse (j .0) 0 }
-
 -- the order has v at index j
 unfoldable pub isOf : List ℕ → ℕ → ℕ → Bool
 isOf o v j = eqb (getD o j 0) v
@@ -48,14 +38,17 @@ indexOf Nothing = 0
 unfoldable pub ic : List ℕ → ℕ → ℕ → ℕ
 ic o n j = indexOf (first (isOf o j) n)
 
--- "M' is M with entry (k, ic(j)) where M has (r(k), j)": M' has (k, p) where M has (r(k), c(p))
+-- "M' is M with entry (k, ic(j)) where M has (r(k), j)": the places of row k's entries, in stored order
+abbrev pub places : Input → ℕ → List ℕ
+places i k = map (ic (i .c) (i .n)) (rowOf (i .starts) (i .columns) (getD (i .r) k 0))
+
+-- M' has (k, p)
 unfoldable pub stored : Input → Pattern
-stored i k p = has (rowOf (i .starts) (i .columns) (getD (i .r) k 0)) (getD (i .c) p 0)
+stored i k p = has (places i k) p
 
 -- row k of M' in stored order: place and value of each entry
 unfoldable pub entries : Input → ℕ → List (ℕ × Float)
-entries i k =
-    pairs (map (ic (i .c) (i .n)) (rowOf (i .starts) (i .columns) (getD (i .r) k 0))) (rowOf (i .starts) (i .values) (getD (i .r) k 0))
+entries i k = pairs (places i k) (rowOf (i .starts) (i .values) (getD (i .r) k 0))
 
 -- b(r(k))
 unfoldable pub rightAt : Input → ℕ → Float

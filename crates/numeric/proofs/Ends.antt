@@ -1,11 +1,11 @@
 -- Step 3 by the tests that the code makes: t is the answer of the row's test.
-use mathlib.Core.Path.{_≡_, refl, sym, ap, _∙_}
-use mathlib.Core.Bool.{Bool, true, false, cond, _&&_}
-use mathlib.Core.List.{List, [], _∷_, _++_, append-assoc}
-use Prim.Native.Nat.{ℕ, suc, _+_, _≤_}
+use mathlib.Core.Path.{_≡_, sym, ap, _∙_}
+use mathlib.Core.Bool.{Bool, true, false, _&&_}
+use mathlib.Core.List.{List, [], _∷_}
+use Prim.Native.Nat.{ℕ, _+_, _≤_}
 use native.Mathlib.Omega.{arith}
-use lib.ListN.{length, getD, take, drop}
-use lib.Seq.{sets, sets-eq, length-take-le, take-at, drop-at}
+use lib.ListN.{length, getD}
+use lib.Seq.{sets}
 use lib.Ieee.{Float, nan, binary64, mul, div}
 use lib.Ieee.Scale.{finite}
 use Rattle.base.specs.declared.RowSums.{RowSums}
@@ -13,15 +13,15 @@ use Rattle.arithmetic.specs.Arith.{Out, ok, met, overflow, zeroPivot, vanishes,
 use Rattle.arithmetic.specs.Stopping.{at, finish, scaled}
 use Rattle.arithmetic.specs.RowEnd.{finiteOn, finiteAll, products, rowEnd}
 use Rattle.arithmetic.specs.Sticky.{scaled-at}
-use Rattle.numeric.specs.Stores.{work, numbered, Finished}
+use Rattle.numeric.specs.Stores.{work, Finished}
 use Rattle.numeric.specs.StoreLaws.{sets-part, products-length}
 use Rattle.numeric.specs.declared.Pivot.{Pivot}
-use Rattle.numeric.specs.declared.Pivot.the-variants.{Kept, Zero, Overflow}
+use Rattle.numeric.specs.declared.Pivot.the-variants.{Usable, Zero, Overflow}
 
-pub zero-not : (s : RowSums) → Zero ≡ Kept s → ⊥
+pub zero-not : (s : RowSums) → Zero ≡ Usable s → ⊥
 zero-not s e = let z : _≡_ {A = ℕ} 0 1 = cc in omega arith
 
-pub overflow-not : (s : RowSums) → Overflow ≡ Kept s → ⊥
+pub overflow-not : (s : RowSums) → Overflow ≡ Usable s → ⊥
 overflow-not s e = let z : _≡_ {A = ℕ} 0 1 = cc in omega arith
 
 refused : {k : ℕ} {above : List ℕ} {from : ℕ} {w u v : List Float} {s : Float} → ((l : List Float) → rowEnd k [] above (work l w s) ≡ met (overflow k)) → Finished k above from w u v s Overflow
@@ -52,7 +52,7 @@ module _ {k : ℕ} {above : List ℕ} {from : ℕ} {w u v : List Float} {s : Flo
           end-u fu = refused (λ l. rw (sym et ∙ q, z, sym eb ∙ fd, sym ey ∙ fy, scaled-at k (div binary64 one (getD w k nan)) w above, sym ea ∙ fu))
 
           pub end-kept : from + length above ≤ length u → (a ≡ true → v ≡ sets u from (products (div binary64 one (getD w k nan)) w above)) → a ≡ true
-              → Finished k above from w u v s (Kept (record { sum = s; reciprocal = div binary64 one (getD w k nan); y = mul binary64 s (div binary64 one (getD w k nan)) }))
+              → Finished k above from w u v s (Usable (record { sum = s; reciprocal = div binary64 one (getD w k nan); y = mul binary64 s (div binary64 one (getD w k nan)) }))
           unfolding finish
           end-kept room st fu = record {
             answer = λ l. rw (st fu, sets-part u (products (div binary64 one (getD w k nan)) w above) from (length above) (products-length (div binary64 one (getD w k nan)) w above) room)
@@ -60,11 +60,11 @@ module _ {k : ℕ} {above : List ℕ} {from : ℕ} {w u v : List Float} {s : Flo
             stored = λ r e. rw (← same r e) (st fu);
           }
             where
-              same : (r : RowSums) → Kept (record { sum = s; reciprocal = div binary64 one (getD w k nan); y = mul binary64 s (div binary64 one (getD w k nan)) }) ≡ Kept r
+              same : (r : RowSums) → Usable (record { sum = s; reciprocal = div binary64 one (getD w k nan); y = mul binary64 s (div binary64 one (getD w k nan)) }) ≡ Usable r
                   → div binary64 one (getD w k nan) ≡ r .reciprocal
               same r e = ap (λ (x : Pivot). field x) e
                 where
                   field : Pivot → Float
-                  field (Kept r) = r .reciprocal
+                  field (Usable r) = r .reciprocal
                   field Zero = nan
                   field Overflow = nan

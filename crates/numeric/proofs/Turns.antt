@@ -1,6 +1,6 @@
 -- A turn of each loop, as a law of the definition that the loop computes: the rest of the list, from the value after the turn, gives what it gave before.
 use mathlib.Core.Path.{_≡_, refl, sym, ap, _∙_}
-use mathlib.Core.Bool.{true, false, _&&_}
+use mathlib.Core.Bool.{true, false}
 use mathlib.Core.List.{List, [], _∷_, _++_}
 use Prim.Native.Nat.{ℕ, suc, _+_, _-_, _*_, _<_, _≤_}
 use native.Mathlib.Nat.{add-assoc}
@@ -62,7 +62,7 @@ stepped n i f starts runs upper u row js us last ej eu e le room =
     record { kept = drop-at last (drop n f) n ln; working = rw (take-at last (drop n f) n ln, ← ej, ← eu) e; sums = refl }
 
 -- the loop before turn p: f₀ and s₀ as it began, f and s as they are, l the multipliers so far
-pub record Going (n : ℕ) (lower : List ℕ) (G : Given) (f₀ : List Float) (s₀ : RowSums) (f : List Float) (s : RowSums) (p : ℕ) : Type 0 where
+pub record Eliminating (n : ℕ) (lower : List ℕ) (G : Given) (f₀ : List Float) (s₀ : RowSums) (f : List Float) (s : RowSums) (p : ℕ) : Type 0 where
   pub l : List Float
   pub upto : p ≤ length lower
   pub same-f : length f ≡ length f₀
@@ -82,12 +82,12 @@ step-turn n lower starts runs upper u f₀ f g l s r p h hi ek S =
     let es : r .sum ≡ sub binary64 (s .sum) (mul binary64 (getD f i nan) (getD f (n + i) nan)) = ap (λ (z : RowSums). z .sum) (S .sums) in
     rw (add-one, drop-cons lower p 0, step-any G i (drop (suc p) lower) (work l (take n f) (s .sum)) (take n g) (rw em (S .working)), em, ey, es)
 
-pub going-more : (n : ℕ) (lower starts runs upper : List ℕ) (u f₀ f g : List Float) (s₀ s r : RowSums) (p : ℕ) → p < length lower
+pub eliminating-more : (n : ℕ) (lower starts runs upper : List ℕ) (u f₀ f g : List Float) (s₀ s r : RowSums) (p : ℕ) → p < length lower
     → Below n lower → length g ≡ length f
-    → Going n lower (storeGiven n f₀ starts runs upper u) f₀ s₀ f s p
+    → Eliminating n lower (storeGiven n f₀ starts runs upper u) f₀ s₀ f s p
     → Stepped n (getD lower p 0) (storeGiven n f starts runs upper u) f g s r
-    → Going n lower (storeGiven n f₀ starts runs upper u) f₀ s₀ g r (p + 1)
-going-more n lower starts runs upper u f₀ f g s₀ s r p h b lg I S =
+    → Eliminating n lower (storeGiven n f₀ starts runs upper u) f₀ s₀ g r (p + 1)
+eliminating-more n lower starts runs upper u f₀ f g s₀ s r p h b lg I S =
     record {
       l = I .l ++ (getD f (getD lower p 0) nan ∷ []);
       upto = omega arith;

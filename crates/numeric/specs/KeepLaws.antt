@@ -1,25 +1,24 @@
 -- Keeping what a row leaves: one more list behind the others, and L by columns with a cursor a column.
-use mathlib.Core.Path.{_≡_, refl, sym, ap, _∙_, subst}
-use mathlib.Core.Bool.{Bool, true, false, cond, true≢false, _||_}
-use mathlib.Core.Logic.{⊎-elim}
-use mathlib.Core.List.{List, [], _∷_, _++_, append-nil, append-assoc, List·Memᴰ·head, List·Memᴰ·tail}
+use mathlib.Core.Path.{_≡_, refl, sym, ap, _∙_}
+use mathlib.Core.Bool.{true, false, cond, _||_}
+use mathlib.Core.List.{List, [], _∷_, _++_, append-nil}
 use Prim.Native.Nat.{ℕ, zero, suc, _+_, _-_, _<_, _≤_}
 use native.Mathlib.Numerals.{add-one}
 use native.Mathlib.Omega.{arith}
 use native.Mathlib.Decide.{decLt, ℕ-discrete}
-use lib.ListN.{length, getD, set, take, drop, replicate, length-append, length-set, length-drop, length-replicate, List·getD-append}
-use lib.Seq.{sets, getD-at, getD-set-same, getD-set-other, take-suc-set, take-set-le, drop-set-lt, drop-set-add, drop-drop}
+use lib.ListN.{length, getD, set, take, drop, replicate, length-append, length-set, length-drop, List·getD-append}
+use lib.Seq.{sets, getD-at, getD-set-same, getD-set-other, take-suc-set, take-set-le, drop-set-lt, drop-set-add}
 use lib.Dec.{eqb}
-use lib.Ieee.{Float, nan, binary64, sub, mul}
+use lib.Ieee.{Float, nan}
 use borrow.Author.Tests.{eqb-true, eq-eqb, ne-eqb}
-use Rattle.base.specs.Lists.{has, count, bit, nought, rowOf, listAt}
+use Rattle.base.specs.Lists.{has, count, bit, nought, listAt}
 use Rattle.base.specs.Tests.{by-test, or-right}
-use Rattle.base.specs.AscLaws.{count-suc, count-zero, count-mono, count-lt}
+use Rattle.base.specs.AscLaws.{count-suc, count-zero, count-mono}
 use Rattle.arithmetic.specs.Arith.{System, Row, none}
-use Rattle.numeric.specs.Stores.{Ascending, gathered, Columns, columns, keepColumns}
+use Rattle.numeric.specs.Stores.{Ascending, gathered, columns, keepColumns}
 use Rattle.numeric.specs.Rows.{Closed, Stacked, lOf, only, beside, columnOf, InColumns, Fitting}
 use Rattle.numeric.specs.StoreLaws.{Rising, rises-to, stacked-more, drop-replicate}
-use Rattle.numeric.specs.RowLaws.{asc-head, asc-tail, has-at, mem-has}
+use Rattle.numeric.specs.RowLaws.{asc-head, asc-tail, mem-has}
 
 -- one more row's list of a kind: u, or L by rows
 pub stacked-row : (part : Row → List Float) (rows : List Row) (next : Row) (k : ℕ) (starts : List ℕ) (v us : List Float) → length rows ≡ k → Rising starts (k + 1)

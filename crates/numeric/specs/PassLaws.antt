@@ -1,22 +1,17 @@
 -- The rows put together: from what a row's steps leave to the stores before the next row, to the first fault, and with the back steps to the solution.
 use mathlib.Core.Path.{_≡_, refl, sym, ap, _∙_, subst}
-use mathlib.Core.Bool.{Bool, true, false, cond}
-use mathlib.Core.Logic.{⊎-elim}
-use mathlib.Core.List.{List, [], _∷_, _++_, append-nil, append-assoc, map, map-append, List·Memᴰ}
-use Prim.Native.Nat.{ℕ, zero, suc, _+_, _-_, _*_, _<_, _≤_}
+use mathlib.Core.Bool.{true}
+use mathlib.Core.List.{List, [], _∷_, _++_, map-append}
+use Prim.Native.Nat.{ℕ, zero, suc, _+_, _-_, _*_, _<_}
 use native.Mathlib.Numerals.{add-one}
-use native.Mathlib.Nat.{add-zero}
 use native.Mathlib.Omega.{arith}
 use native.Mathlib.Decide.{decLt}
-use lib.ListN.{length, getD, set, take, drop, replicate, length-take, length-drop, length-set, length-append, length-map, length-replicate, getD-replicate, replicate-append-replicate, List·getD-append}
-use lib.Seq.{sets, length-sets, length-take-le, take-at, drop-at, getD-take, getD-drop, getD-at, drop-drop, take-suc-set, take-set-le, drop-set-add, drop-set-lt, ext-getD, getD-set-same}
-use lib.Dec.{eqb}
+use lib.ListN.{length, getD, set, take, drop, replicate, length-drop, length-set, length-append, length-replicate, getD-replicate, replicate-append-replicate, List·getD-append}
+use lib.Seq.{length-sets, length-take-le, take-at, drop-at, getD-take, getD-drop, getD-at, take-suc-set, take-set-le, drop-set-add, drop-set-lt, ext-getD, getD-set-same}
 use lib.Ieee.{Float, nan, binary64, mul, div}
 use lib.Ieee.Scale.{finite}
-use borrow.Author.Tests.{eqb-true}
 use Rattle.base.specs.Lists.{listAt, rowOf, has, pairs, nought}
-use Rattle.base.specs.Tests.{by-test, or-cases, or-false}
-use Rattle.base.specs.AscLaws.{has-append}
+use Rattle.base.specs.Tests.{by-test}
 use Rattle.base.specs.TableLaws.{getD-map-lt}
 use Rattle.base.specs.declared.RowSums.{RowSums}
 use Rattle.lent.specs.Reading.{Below}
@@ -25,11 +20,11 @@ use Rattle.arithmetic.specs.Stopping.{_>>=_, any, at, pivot, load, start, steps
 use Rattle.arithmetic.specs.RowEnd.{products}
 use Rattle.arithmetic.specs.Factors.{bind-ok, ok-inj}
 use Rattle.numeric.specs.declared.Pivot.{Pivot}
-use Rattle.numeric.specs.declared.Pivot.the-variants.{Kept, Zero, Overflow}
-use Rattle.numeric.specs.Stores.{StoreShape, storeGiven, work, Eliminated, Finished, numbered, numberedBack, gathered, zeroed}
+use Rattle.numeric.specs.declared.Pivot.the-variants.{Usable, Zero, Overflow}
+use Rattle.numeric.specs.Stores.{StoreShape, storeGiven, work, Eliminated, Finished, numberedBack, gathered, zeroed}
 use Rattle.numeric.specs.declared.Back.{Back}
 use Rattle.numeric.specs.declared.Back.the-variants.{Complete, Stopped}
-use Rattle.numeric.specs.Rows.{filledRow, Closed, RowLent, Stacked, uOf, RowsHeld, Outside, Reduced, Shut, keptRow}
+use Rattle.numeric.specs.Rows.{filledRow, Closed, RowLent, Stacked, uOf, RowsHeld, Reduced, Shut, keptRow}
 use Rattle.numeric.specs.StoreLaws.{list-length, sets-part, products-length, stacked-none, zeroed-drop, zeroed-length, zeroed-stays, zeroed-has}
 use Rattle.numeric.specs.KeepLaws.{stacked-row}
 use Rattle.numeric.specs.RowLaws.{Same, bind-same, has-at, filled-cases, row-is, row-outside}
@@ -131,7 +126,7 @@ module _ (S : System) (rows : List Row) (n k : ℕ) (f : List Float) (starts run
   -- ---- the stores before row k + 1
 
   module _ (C : Closed S k) (T : StoreShape n starts runs upper (length u)) (lower : List ℕ) (el : S .lower k ≡ lower) (g h′ v d e : List Float) (lg : length g ≡ length f) (t : RowSums)
-      (R : Reduced S rows n k starts f g u v (Kept t)) (Q : Shut n k lower (listAt starts runs upper k) g h′ d e t) where
+      (R : Reduced S rows n k starts f g u v (Usable t)) (Q : Shut n k lower (listAt starts runs upper k) g h′ d e t) where
     abbrev next : Row
     next = keptRow (gathered (S .lower k) (take n g)) (rowOf starts v k) t
 

@@ -1,9 +1,9 @@
 -- Another right side where L is kept by columns: column i is subtracted from every sum below it, which leaves each row the operations that the paper lists
 -- for it, in its order.
 use mathlib.Core.Path.{_≡_, refl, sym, ap, _∙_}
-use mathlib.Core.Bool.{Bool, true, false, cond, not, true≢false}
-use mathlib.Core.List.{List, [], _∷_, _++_, append-nil, List·Memᴰ, List·Memᴰ·head, List·Memᴰ·tail}
-use Prim.Native.Nat.{ℕ, zero, suc, _+_, _*_, _<_, _≤_}
+use mathlib.Core.Bool.{Bool, true, false, cond}
+use mathlib.Core.List.{List, [], _∷_, _++_, append-nil}
+use Prim.Native.Nat.{ℕ, zero, suc, _+_, _*_, _<_}
 use native.Mathlib.Nat.{mul-comm}
 use native.Mathlib.Numerals.{add-one}
 use native.Mathlib.Omega.{arith}
@@ -11,18 +11,17 @@ use native.Mathlib.Decide.{ℕ-discrete}
 use lib.ListN.{length, getD, set, length-set, length-append}
 use lib.Seq.{getD-set-same, getD-set-other}
 use lib.Dec.{eqb}
-use lib.Ieee.{Float, nan, inf, fin, Format, binary64, mul, sub, unlike, round, up, down}
-use borrow.Author.Tests.{eqb-true, eq-eqb, ne-eqb}
-use Rattle.base.specs.Lists.{has, asc, keep, count}
+use lib.Ieee.{Float, nan, inf, fin, Format, binary64, mul, sub, unlike, up, down}
+use borrow.Author.Tests.{eq-eqb, ne-eqb}
+use Rattle.base.specs.Lists.{has, asc, keep}
 use Rattle.base.specs.Tests.{by-test, or-right}
-use Rattle.base.specs.AscLaws.{length-asc, has-asc, count-suc, count-zero}
 use Rattle.lent.specs.Reading.{Below}
 use Rattle.arithmetic.specs.Arith.{Out, ok}
 use Rattle.arithmetic.specs.Stopping.{_>>=_, any, less, subtract, rest}
 use Rattle.arithmetic.specs.Sticky.{ok-inj}
 use Rattle.numeric.specs.Stores.{Ascending}
 use Rattle.numeric.specs.Rows.{only, beside}
-use Rattle.numeric.specs.RowLaws.{asc-head, asc-tail, mem-has, has-mem}
+use Rattle.numeric.specs.RowLaws.{asc-head, asc-tail, mem-has}
 
 -- L(j, i) along those i below k whose column has row j, ascending
 unfoldable pub across : (ℕ → List ℕ) → (ℕ → List Float) → ℕ → ℕ → List Float

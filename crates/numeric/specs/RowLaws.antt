@@ -1,29 +1,28 @@
 -- Row k from what its steps leave: the multipliers are read off the working row, one test of the row tells 12 and 13, and the rest of the row is +0.
-use mathlib.Core.Path.{_≡_, refl, sym, ap, _∙_, subst}
-use mathlib.Core.Bool.{Bool, true, false, _&&_, true≢false}
-use mathlib.Core.Logic.{_⊎_, inl, inr, ⊎-elim}
-use mathlib.Core.List.{List, [], _∷_, _++_, append-nil, append-assoc, map, List·Memᴰ, List·Memᴰ·head, List·Memᴰ·tail, List·Memᴰ·not-nil, List·Memᴰ·cases-cons}
-use Prim.Native.Nat.{ℕ, zero, suc, _+_, _-_, _<_, _≤_}
-use native.Mathlib.Nat.{not-suc-le-zero, le-of-suc-le-suc, zero-lt-suc}
+use mathlib.Core.Path.{_≡_, refl, sym, _∙_}
+use mathlib.Core.Bool.{Bool, true, false, true≢false}
+use mathlib.Core.Logic.{⊎-elim}
+use mathlib.Core.List.{List, [], _∷_, _++_, append-nil, append-assoc, List·Memᴰ, List·Memᴰ·head, List·Memᴰ·tail, List·Memᴰ·not-nil, List·Memᴰ·cases-cons}
+use Prim.Native.Nat.{ℕ, zero, suc, _<_}
+use native.Mathlib.Nat.{not-suc-le-zero, le-of-suc-le-suc}
 use native.Mathlib.Omega.{arith}
 use native.Mathlib.Decide.{ℕ-discrete}
-use lib.ListN.{length, getD, set, take, drop, replicate, length-set, length-replicate, getD-replicate, length-append}
-use lib.Seq.{getD-set-same, getD-set-other, set-out, length-take-le, drop-at, take-at, getD-drop, getD-take}
+use lib.ListN.{length, getD, set, replicate, length-set, length-replicate, getD-replicate}
+use lib.Seq.{getD-set-same, getD-set-other, set-out}
 use lib.Dec.{eqb}
-use lib.Ieee.{Float, nan, binary64, sub, mul}
+use lib.Ieee.{Float, nan, binary64}
 use lib.Ieee.Scale.{finite}
-use borrow.Author.Tests.{eqb-true, eq-eqb, ne-eqb}
-use Rattle.base.specs.Lists.{has, pairs, nought, rowOf, listAt}
-use Rattle.base.specs.Tests.{by-test, or-cases, or-false, or-right}
+use borrow.Author.Tests.{eqb-true, eq-eqb}
+use Rattle.base.specs.Lists.{has, pairs, nought}
+use Rattle.base.specs.Tests.{by-test, or-cases, or-right}
 use Rattle.base.specs.AscLaws.{has-append}
 use Rattle.base.specs.declared.RowSums.{RowSums}
 use Rattle.arithmetic.specs.Arith.{Out, ok, met, System, Row, none, Given, given, Work}
 use Rattle.arithmetic.specs.Stopping.{_>>=_, Check, any, at, load, start, row, subtract, stepAt, steps, rest, finish}
 use Rattle.arithmetic.specs.RowEnd.{finiteOn, rowEnd, quiet}
 use Rattle.arithmetic.specs.Sticky.{ok-inj, subtract-any, after, step-any, row-at, sub-left, sub-right, mul-left}
-use Rattle.numeric.specs.declared.Pivot.{Pivot}
-use Rattle.numeric.specs.Stores.{Ascending, gathered, storeGiven, work, numbered, Eliminated}
-use Rattle.numeric.specs.Rows.{filledRow, Closed, RowLent, Outside}
+use Rattle.numeric.specs.Stores.{Ascending, gathered, work}
+use Rattle.numeric.specs.Rows.{filledRow, Closed, RowLent}
 
 -- ---- membership
 

@@ -2,7 +2,7 @@
 use mathlib.Core.Path.{_≡_}
 use mathlib.Core.Bool.{Bool, true, false, cond}
 use mathlib.Core.List.{List, [], _∷_, _++_, map}
-use Prim.Native.Nat.{ℕ, zero, suc, _+_, _-_, _<_, _≤_}
+use Prim.Native.Nat.{ℕ, zero, suc, _+_, _-_, _<_}
 use lib.ListN.{length, getD, take, drop, set, replicate}
 use lib.Seq.{sets}
 use lib.Dec.{eqb}
@@ -14,7 +14,7 @@ use Rattle.arithmetic.specs.Arith.{Out, ok, System, Row, none}
 use Rattle.arithmetic.specs.Stopping.{row, forward}
 use Rattle.numeric.specs.Stores.{Ascending, numbered, gathered, zeroed}
 use Rattle.numeric.specs.declared.Pivot.{Pivot}
-use Rattle.numeric.specs.declared.Pivot.the-variants.{Kept}
+use Rattle.numeric.specs.declared.Pivot.the-variants.{Usable}
 use Rattle.base.specs.Scratch.{zFrom}
 
 -- the filled places of row k
@@ -60,15 +60,15 @@ pub record RowsHeld (S : System) (rows : List Row) (n k : ℕ) (f : List Float) 
   pub zs : drop (zFrom n) f ≡ replicate n nought
 
 -- the working row holds +0 but at the filled places of row k
-abbrev pub Outside : System → ℕ → ℕ → List Float → Type 0
-Outside S n k g = (j : ℕ) → j < n → has (filledRow S k) j ≡ false → getD g j nan ≡ nought
+abbrev pub ZeroOutside : System → ℕ → ℕ → List Float → Type 0
+ZeroOutside S n k g = (j : ℕ) → j < n → has (filledRow S k) j ≡ false → getD g j nan ≡ nought
 
 -- what steps 1 to 3 leave: the row's answer, with its multipliers in the working row and its u in their slots; nothing else is written
 pub record Reduced (S : System) (rows : List Row) (n k : ℕ) (starts : List ℕ) (f g u v : List Float) (r : Pivot) : Type 0 where
   pub answer : numbered k (gathered (S .lower k) (take n g)) (rowOf starts v k) r ≡ row S rows k
   pub kept : drop n g ≡ drop n f
-  pub stored : (t : RowSums) → r ≡ Kept t → v ≡ sets u (getD starts k 0) (rowOf starts v k)
-  pub outside : Outside S n k g
+  pub stored : (t : RowSums) → r ≡ Usable t → v ≡ sets u (getD starts k 0) (rowOf starts v k)
+  pub outside : ZeroOutside S n k g
 
 -- row k's y and reciprocal in their slots, and +0 at the filled places of the working row
 pub record Shut (n k : ℕ) (lower above : List ℕ) (f g d e : List Float) (t : RowSums) : Type 0 where

@@ -1,17 +1,17 @@
 -- Laws of stores: where a list stands, what a store of values leaves, lists one after another, and clearing.
 use mathlib.Core.Path.{_≡_, refl, sym, ap, _∙_}
-use mathlib.Core.Bool.{true, false, true≢false}
+use mathlib.Core.Bool.{true, true≢false}
 use mathlib.Core.Logic.{⊎-elim}
-use mathlib.Core.List.{List, [], _∷_, _++_, append-nil, append-assoc}
+use mathlib.Core.List.{List, [], _∷_, _++_, append-assoc}
 use Prim.Native.Nat.{ℕ, zero, suc, _+_, _-_, _<_, _≤_}
 use native.Mathlib.Nat.{add-zero, le-refl, le-trans}
 use native.Mathlib.Numerals.{add-one}
 use native.Mathlib.Omega.{arith}
 use native.Mathlib.Decide.{decLt, ℕ-discrete}
-use lib.ListN.{length, getD, set, take, drop, replicate, length-take, length-drop, length-set, length-replicate, length-append, take-append-drop, drop-of-length-le}
-use lib.Seq.{sets, sets-eq, length-sets, length-take-le, take-at, drop-at, take-append-le, drop-append-le, take-add, take-all, drop-drop, take-set-lt, drop-set-lt, getD-set-same, getD-set-other, set-out}
+use lib.ListN.{length, getD, set, take, drop, replicate, length-take, length-drop, length-set, length-append, take-append-drop}
+use lib.Seq.{sets, sets-eq, length-sets, length-take-le, take-at, drop-at, take-append-le, drop-append-le, take-add, drop-drop, drop-set-lt, getD-set-same, getD-set-other, set-out}
 use lib.Dec.{eqb}
-use lib.Ieee.{Float, nan, binary64, mul}
+use lib.Ieee.{Float, nan}
 use borrow.Author.Tests.{eqb-true}
 use Rattle.base.specs.Lists.{listAt, rowOf, has, joined, padded, nought}
 use Rattle.base.specs.Tests.{or-cases}

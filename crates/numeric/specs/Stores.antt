@@ -1,7 +1,7 @@
 -- What the steps' contracts say of slices: where lists stand, and what each step leaves. Definitions only.
 use mathlib.Core.Path.{_≡_}
 use mathlib.Core.List.{List, [], _∷_, map}
-use Prim.Native.Nat.{ℕ, _+_, _-_, _*_, _<_, _≤_}
+use Prim.Native.Nat.{ℕ, _+_, _*_, _<_, _≤_}
 use lib.ListN.{length, getD, take, drop, set}
 use lib.Seq.{sets}
 use lib.Ieee.{Float, nan, binary64, sub, mul}
@@ -14,7 +14,7 @@ use Rattle.arithmetic.specs.Arith.{Out, ok, met, zeroPivot, overflow, Row, Give
 use Rattle.arithmetic.specs.Stopping.{any, subtract, steps}
 use Rattle.arithmetic.specs.RowEnd.{products, rowEnd}
 use Rattle.numeric.specs.declared.Pivot.{Pivot}
-use Rattle.numeric.specs.declared.Pivot.the-variants.{Kept, Zero, Overflow}
+use Rattle.numeric.specs.declared.Pivot.the-variants.{Usable, Zero, Overflow}
 use Rattle.numeric.specs.declared.Back.{Back}
 use Rattle.numeric.specs.declared.Back.the-variants.{Complete, Stopped}
 
@@ -63,14 +63,14 @@ pub record Eliminated (n : ℕ) (lower : List ℕ) (G : Given) (f g : List Float
 
 -- questions 12 and 13 for each of a row's answers, and what is kept of the row: l and u are its multipliers and its u
 abbrev pub numbered : ℕ → List Float → List Float → Pivot → Out Row
-numbered k l u (Kept s) = ok (record { l = l; d = s .reciprocal; y = s .y; u = u })
+numbered k l u (Usable s) = ok (record { l = l; d = s .reciprocal; y = s .y; u = u })
 numbered k l u Zero = met (zeroPivot k)
 numbered k l u Overflow = met (overflow k)
 
 -- what step 3 leaves: its answer, with the u that stand in their slots, and in a row that is kept nothing else is written
 pub record Finished (k : ℕ) (above : List ℕ) (from : ℕ) (w u v : List Float) (s : Float) (r : Pivot) : Type 0 where
   pub answer : (l : List Float) → numbered k l (take (length above) (drop from v)) r ≡ rowEnd k [] above (work l w s)
-  pub stored : (t : RowSums) → r ≡ Kept t → v ≡ sets u from (products (t .reciprocal) w above)
+  pub stored : (t : RowSums) → r ≡ Usable t → v ≡ sets u from (products (t .reciprocal) w above)
 
 -- w at the listed places
 abbrev pub gathered : List ℕ → List Float → List Float

@@ -1,5 +1,5 @@
 // The arithmetic of the elimination, row by row, and the back steps. The scratch f has the working row w in its first n slots, y in the next n
-// and z in the last n. T(i) is list i of an upper store (index, run starts, list starts), its u stand in a value store from list start i on.
+// and z in the last n. T(i) is list i of an upper store (list starts, run starts, index), its u stand in a value store from list start i on.
 // Lower row k is lent, so that no step knows where it is kept.
 use base::Index;
 use base::OwnNumber;
@@ -8,11 +8,11 @@ use base::is_finite;
 use base::scratch;
 ghost use mathlib.Core.Path.{_≡_};
 ghost use mathlib.Core.Bool.{true, _&&_};
-ghost use mathlib.Core.List.{List, [], _∷_, _++_};
+ghost use mathlib.Core.List.{List, _∷_};
 ghost use Prim.Native.Nat.{ℕ, _+_, _-_, _*_, _<_, _≤_};
-ghost use lib.ListN.{length, getD, take, drop, set};
+ghost use lib.ListN.{length, getD, take, drop};
 ghost use lib.Seq.{sets};
-ghost use lib.Ieee.{Float, nan};
+ghost use lib.Ieee.{nan};
 ghost use lib.Ieee.Scale.{finite};
 ghost use Rattle.base.specs.Lists.{listAt, rowOf, pairs};
 ghost use Rattle.arithmetic.specs.Arith.{ok, System, Row};
@@ -154,9 +154,9 @@ fn scale(w: &[f64], columns: &[Index], u: &mut [f64], from: usize, d: f64) -> bo
     true
 }
 
-// What a row comes to.
+// What a row comes to: its sums where the pivot can be divided by and every result is finite.
 pub enum Pivot {
-    Kept(RowSums),
+    Usable(RowSums),
     Zero,
     Overflow,
 }
@@ -184,7 +184,7 @@ pub fn finish_row(
             let y = sum * d;
             if is_finite(y) {
                 if scale(w, above, u, from, d) {
-                    return Pivot::Kept(RowSums {
+                    return Pivot::Usable(RowSums {
                         sum,
                         reciprocal: d,
                         y,

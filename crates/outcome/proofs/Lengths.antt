@@ -24,8 +24,8 @@ use Rattle.fill.specs.Fill.{Pattern, flip, upperRow, lowerRow, upper}
 use Rattle.base.specs.Lists.{nought, table, padded, joined}
 use Rattle.base.specs.TableLaws.{length-table}
 use Rattle.placement.specs.Placing.{Way, after, placed, startOf}
-use Rattle.arithmetic.specs.Arith.{Fault, Out, ok, met, System, Row, none, Result}
-use Rattle.outcome.proofs.Meaning.{listed-stops}
+use Rattle.arithmetic.specs.Arith.{Fault, Out, ok, met, System, Row, none, Result, wholeRun}
+use Rattle.arithmetic.specs.Meets.{judged-value}
 use Rattle.base.specs.declared.Refusal.{Refusal}
 use Rattle.base.specs.declared.Refusal.the-variants.{Rows, Lengths}
 use Rattle.base.specs.declared.Asked.{Asked}
@@ -37,7 +37,7 @@ use Rattle.base.specs.declared.Side.{Side}
 use Rattle.outcome.specs.Forms.{listsOf, wayOf, rowsOf, placedTo, indexNeed, valueNeed}
 use Rattle.matrix.specs.Questions.{askSolve}
 use Rattle.outcome.proofs.Places.{places-pass}
-use Rattle.arithmetic.specs.Factors.{Long, LongTo, solved-length}
+use Rattle.arithmetic.specs.Factors.{Long, LongTo, whole-length}
 use lib.Ieee.{Float}
 use borrow.Author.Tests.{eqb-true, leb-true}
 
@@ -141,8 +141,8 @@ kept-same f i z a u v d x h =
     (length-table (λ k. getD (a .rows) k none .d) (i .n) ∙ sym d) (length-table _ (i .n) ∙ sym x))
 
 long-listed : (i : Input) (a : Result) → listed i ≡ ok a → LongTo (system i) (i .n) (a .rows)
-unfolding system
-long-listed i a e = solved-length (system i) a (sym (listed-stops i) ∙ e)
+unfolding listed system
+long-listed i a e = rw (← judged-value (wholeRun (system i)) a e) (whole-length (system i))
 
 own-length : (i : Input) (z : List Float) → length (ownOrder (i .c) (i .n) z) ≡ i .n
 unfolding ownOrder

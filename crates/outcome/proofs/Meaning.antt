@@ -18,7 +18,6 @@ use Rattle.matrix.specs.Questions.{IsOrder, badColumn}
 use Rattle.matrix.specs.OrderLaws.{order-below, place-of, place-hits}
 use Rattle.matrix.specs.Input.{ic, Input, stored, ownOrder}
 use Rattle.base.specs.declared.Found.the-variants.{Nothing}
-use Rattle.arithmetic.specs.Arith.{Out, Result}
 use Rattle.arithmetic.specs.Stopping.{solved}
 use Rattle.arithmetic.specs.StoppingLaws.{solved-is}
 use Rattle.outcome.specs.Solve.{system, listed}
@@ -51,9 +50,9 @@ row-below n a s j h t l =
     let c = rw (length-take, length-drop) at b in
     rw (getD-take (getD s (a + 1) 0 - getD s a 0) (drop (getD s a 0) j) t 0 (omega arith), getD-drop) (leb-false n (getD j (getD s a 0 + t) 0) (first-none (badColumn j n) (length j) h (getD s a 0 + t) (omega arith)))
 
--- M' has (k, p) exactly if p is ic(j) of a column j of own row r(k)
+-- M' has (k, p) exactly where M has (r(k), c(p))
 pub stored-is : (i : Input) (k p : ℕ) → IsOrder (i .c) (i .n) → first (badColumn (i .columns) (i .n)) (length (i .columns)) ≡ Nothing → p < i .n
-    → has (map (ic (i .c) (i .n)) (rowOf (i .starts) (i .columns) (getD (i .r) k 0))) p ≡ stored i k p
+    → stored i k p ≡ has (rowOf (i .starts) (i .columns) (getD (i .r) k 0)) (getD (i .c) p 0)
 unfolding stored
 stored-is i k p o h l =
     has-map (ic (i .c) (i .n)) (getD (i .c) p 0) p (rowOf (i .starts) (i .columns) (getD (i .r) k 0)) (place-of (i .c) (i .n) o p l)

@@ -39,6 +39,15 @@ agree [] ys = true
 agree (x ∷ xs) [] = true
 agree (x ∷ xs) (y ∷ ys) = cond (eqb x y) (agree xs ys) false
 
+-- the used part of the index store, the run starts so far, and the last run's start
+pub record State : Type 0 where
+  pub slots : List ℕ
+  pub runs : List ℕ
+  pub last : ℕ
+
+abbrev pub runOf : State → ℕ → ℕ
+runOf s i = getD (s .runs) i 0
+
 -- where a list's run starts, and how many of its entries stand there already; the others are appended
 pub record Plan : Type 0 where
   pub start : ℕ
@@ -53,50 +62,36 @@ unfoldable pub fresh : List ℕ → List ℕ → Plan
 fresh slots list = appendAll slots
 
 -- where the first entry of the list stands in the last run, or the end of the used part
-unfoldable pub meets : List ℕ → ℕ → List ℕ → ℕ
-meets slots last list = last + firstAt (getD list 0 0) (drop last slots)
+unfoldable pub meets : State → List ℕ → ℕ
+meets s list = s .last + firstAt (getD list 0 0) (drop (s .last) (s .slots))
 
 -- step 3. The last run is always the end of the used part, from last on: it is empty before anything is written.
-unfoldable pub overlap : List ℕ → ℕ → List ℕ → Plan
-overlap slots last list =
-    cond (ltb (meets slots last list) (length slots))
-    (cond (agree (drop (meets slots last list) slots) list)
-    (record { start = meets slots last list; have = min (length list) (length slots - meets slots last list) })
-    (fresh slots list))
-    (fresh slots list)
+unfoldable pub overlap : State → List ℕ → Plan
+overlap s list =
+    cond (ltb (meets s list) (length (s .slots)))
+    (cond (agree (drop (meets s list) (s .slots)) list)
+    (record { start = meets s list; have = min (length list) (length (s .slots) - meets s list) })
+    (fresh (s .slots) list))
+    (fresh (s .slots) list)
 
--- step 2, then step 3: T's lists, the run starts, the used part, the last run's start, the place, its row and its list
-unfoldable pub tailOr : (ℕ → List ℕ) → (ℕ → ℕ) → Tail → List ℕ → ℕ → List ℕ → Plan
-tailOr T run b slots last list =
+-- step 2, then step 3
+unfoldable pub tailOr : (ℕ → List ℕ) → State → Tail → List ℕ → Plan
+tailOr T s b list =
     cond (eqb (b .most) (length list))
-    (record { start = run (b .at) + (length (T (b .at)) - b .most); have = length list })
-    (overlap slots last list)
+    (record { start = runOf s (b .at) + (length (T (b .at)) - b .most); have = length list })
+    (overlap s list)
+
+-- how a list is placed: T's lists, the state, the place, its row and its list
+abbrev pub Way : Type 0
+Way = (ℕ → List ℕ) → State → ℕ → List ℕ → List ℕ → Plan
 
 -- steps 1 to 3
-unfoldable pub shared : (ℕ → List ℕ) → (ℕ → ℕ) → List ℕ → ℕ → ℕ → List ℕ → List ℕ → Plan
-shared T run slots last k row list =
-    cond (eqb (length list) 0)
-    (record { start = length slots; have = 0 })
-    (tailOr T run (best (tails T k) row) slots last list)
+unfoldable pub shared : Way
+shared T s k row list = cond (eqb (length list) 0) (appendAll (s .slots)) (tailOr T s (best (tails T k) row) list)
 
 -- the plain form's way: one after another
-unfoldable pub plain : (ℕ → List ℕ) → (ℕ → ℕ) → List ℕ → ℕ → ℕ → List ℕ → List ℕ → Plan
-plain T run slots last k row list = appendAll slots
-
-abbrev pub Way : Type 0
-Way = (ℕ → List ℕ) → (ℕ → ℕ) → List ℕ → ℕ → ℕ → List ℕ → List ℕ → Plan
-
--- the used part of the index store, the run starts so far, and the last run's start
-pub record State : Type 0 where
-  pub slots : List ℕ
-  pub runs : List ℕ
-  pub last : ℕ
-
-abbrev pub runAt : List ℕ → ℕ → ℕ
-runAt runs i = getD runs i 0
-
-abbrev pub runOf : State → ℕ → ℕ
-runOf s = runAt (s .runs)
+unfoldable pub plain : Way
+plain T s k row list = appendAll (s .slots)
 
 -- the last run changes exactly if something is appended
 unfoldable pub after : State → List ℕ → Plan → State
@@ -110,7 +105,7 @@ after s list p =
 module _ (way : Way) (T R : ℕ → List ℕ) where
   -- the plan for place k in a state
   abbrev pub planAt : State → ℕ → Plan
-  planAt s k = way T (runOf s) (s .slots) (s .last) k (R k) (T k)
+  planAt s k = way T s k (R k) (T k)
 
   -- the state after the lists of places 0 to k - 1
   unfoldable pub placed : ℕ → State

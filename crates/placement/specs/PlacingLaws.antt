@@ -63,23 +63,23 @@ fresh-sound : (slots list : List ℕ) → Sound slots list (fresh slots list)
 unfolding fresh
 fresh-sound slots list = append-sound slots list
 
-overlap-sound : (slots : List ℕ) (last : ℕ) (list : List ℕ) → Sound slots list (overlap slots last list)
+overlap-sound : (s : State) (list : List ℕ) → Sound (s .slots) list (overlap s list)
 unfolding overlap
-overlap-sound slots last list =
-    by-test (ltb (meets slots last list) (length slots))
+overlap-sound s list =
+    by-test (ltb (meets s list) (length (s .slots)))
     (λ e.
-    by-test (agree (drop (meets slots last list) slots) list)
+    by-test (agree (drop (meets s list) (s .slots)) list)
     (λ f.
     rw (e, f)
-    (let h : meets slots last list < length slots = ltb-true _ _ e in
+    (let h : meets s list < length (s .slots) = ltb-true _ _ e in
     record {
       within = omega arith;
       part = omega arith;
-      stands = agree-take (min (length list) (length slots - meets slots last list)) (drop (meets slots last list) slots) list (simp length-drop (omega arith)) (omega arith) f;
+      stands = agree-take (min (length list) (length (s .slots) - meets s list)) (drop (meets s list) (s .slots)) list (simp length-drop (omega arith)) (omega arith) f;
       ends = λ g. omega arith;
     }))
-    (λ f. rw (e, f) (fresh-sound slots list)))
-    (λ e. rw e (fresh-sound slots list))
+    (λ f. rw (e, f) (fresh-sound (s .slots) list)))
+    (λ e. rw e (fresh-sound (s .slots) list))
 
 -- ---- the best tail
 
@@ -129,8 +129,8 @@ best-same f g i m (j ∷ js) h =
 -- ---- steps 1 to 3
 
 -- what is taken of the fill: for place k, its row's places have their lists in the store, and what stands above k in them is in k's list
-pub record Fed (T : ℕ → List ℕ) (run : ℕ → ℕ) (slots : List ℕ) (k : ℕ) (row : List ℕ) : Type 0 where
-  pub held : (i : ℕ) → List·Memᴰ i row → Holds slots (run i) (T i)
+pub record Fed (T : ℕ → List ℕ) (s : State) (k : ℕ) (row : List ℕ) : Type 0 where
+  pub held : (i : ℕ) → List·Memᴰ i row → Holds (s .slots) (runOf s i) (T i)
   pub asc : (i : ℕ) → List·Memᴰ i row → Ascends (suc i) (T i)
   pub own : Ascends (suc k) (T k)
   pub nested : (i : ℕ) → List·Memᴰ i row → (x : ℕ) → List·Memᴰ x (T i) → k < x → List·Memᴰ x (T k)
@@ -156,12 +156,11 @@ tail-sound slots r c xs ys h k e d =
       ends = λ g. absurd (omega arith);
     }
 
-pub shared-sound : (T : ℕ → List ℕ) (run : ℕ → ℕ) (slots : List ℕ) (last k : ℕ) (row : List ℕ)
-    → Fed T run slots k row → Sound slots (T k) (shared T run slots last k row (T k))
+pub shared-sound : (T : ℕ → List ℕ) (s : State) (k : ℕ) (row : List ℕ) → Fed T s k row → Sound (s .slots) (T k) (shared T s k row (T k))
 unfolding shared tailOr tails
-shared-sound T run slots last k row f =
+shared-sound T s k row f =
     by-test (eqb (length (T k)) 0)
-    (λ e. rw e (record { within = omega arith; part = omega arith; stands = refl; ends = λ g. omega arith }))
+    (λ e. rw e (append-sound (s .slots) (T k)))
     (λ e.
     rw e
     (by-test (eqb (b .most) (length (T k)))
@@ -171,11 +170,11 @@ shared-sound T run slots last k row f =
     let pos : 0 < b .most = omega (arith, eqb-false (length (T k)) 0 e) in
     let m = best-at (tails T k) row pos in
     let c : countAbove k (T (b .at)) ≡ b .most = m .1 in
-    tail-sound slots (run (b .at)) (b .most) (T (b .at)) (T k) (f .held (b .at) (m .0))
+    tail-sound (s .slots) (runOf s (b .at)) (b .most) (T (b .at)) (T k) (f .held (b .at) (m .0))
     (omega (arith, count-le k (T (b .at))))
     (sym q)
     (rw (← c) (tail-is k (suc (b .at)) (T (b .at)) (T k) (f .asc (b .at) (m .0)) (f .own) (f .nested (b .at) (m .0)) (c ∙ q)))))
-    (λ t. rw t (overlap-sound slots last (T k)))))
+    (λ t. rw t (overlap-sound s (T k)))))
   where
     b : Tail
     b = best (tails T k) row
@@ -221,7 +220,7 @@ SoundWay way T R n = (k : ℕ) → k < n → (s : State) → Kept T s k → Soun
 
 pub shared-way : (T R : ℕ → List ℕ) (n : ℕ) → Nested T R n → SoundWay shared T R n
 shared-way T R n h k l s q =
-    shared-sound T (runOf s) (s .slots) (s .last) k (R k)
+    shared-sound T s k (R k)
     (record {
       held = λ i d. q .all i (h .lower k l i d);
       asc = λ i d. h .asc i (omega (arith, h .lower k l i d));

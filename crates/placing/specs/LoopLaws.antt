@@ -11,7 +11,7 @@ use lib.Seq.{paste, paste-suc, drop-cons, take-all}
 use lib.Dec.{ltb, eqb}
 use borrow.Author.Tests.{lt-ltb, le-ltb, eq-eqb, ne-eqb}
 use Rattle.placement.specs.Placing.{firstAt, agree, fresh, appendAll, meets, overlap}
-use Rattle.placing.specs.Slices.{asPlan}
+use Rattle.placing.specs.Slices.{asPlan, held}
 use Rattle.base.specs.Tests.{by-test}
 
 pub drop-at-one : {A : Type 0} (l : List A) (j : ℕ) (d : A) → j < length l → drop j l ≡ getD l j d ∷ drop (j + 1) l
@@ -78,25 +78,25 @@ unfolding firstAt
 first-le x [] = omega arith
 first-le x (y ∷ l) = by-test (eqb y x) (λ e. rw e (omega arith)) (λ e. rw e (omega (arith, first-le x l)))
 
-pub meets-is : (slots : List ℕ) (last : ℕ) (list : List ℕ) (r : ℕ) → r ≡ firstAt (getD list 0 0) (take (length slots - last) (drop last slots)) → last + r ≡ meets slots last list
+pub meets-is : (slots : List ℕ) (last : ℕ) (list : List ℕ) (r : ℕ) → r ≡ firstAt (getD list 0 0) (take (length slots - last) (drop last slots)) → last + r ≡ meets (held slots [] last) list
 unfolding meets
 meets-is slots last list r e = rw (e, take-rest last slots)
 
-pub meets-le : (slots : List ℕ) (last : ℕ) (list : List ℕ) → last ≤ length slots → meets slots last list ≤ length slots
+pub meets-le : (slots : List ℕ) (last : ℕ) (list : List ℕ) → last ≤ length slots → meets (held slots [] last) list ≤ length slots
 unfolding meets
 meets-le slots last list h = omega (arith, first-le (getD list 0 0) (drop last slots), length-drop last slots)
 
 -- step 3, by what the code finds: p is where the list's first entry stands
-module _ (slots : List ℕ) (last : ℕ) (list : List ℕ) (p : ℕ) (m : p ≡ meets slots last list) where
-  pub overlap-found : p < length slots → agree (take (length slots - p) (drop p slots)) list ≡ true → record { start = p; have = min (length list) (length slots - p) } ≡ asPlan (overlap slots last list)
+module _ (slots : List ℕ) (last : ℕ) (list : List ℕ) (p : ℕ) (m : p ≡ meets (held slots [] last) list) where
+  pub overlap-found : p < length slots → agree (take (length slots - p) (drop p slots)) list ≡ true → record { start = p; have = min (length list) (length slots - p) } ≡ asPlan (overlap (held slots [] last) list)
   unfolding overlap
   overlap-found h a = rw (← m, lt-ltb p (length slots) h, rw take-rest at a)
 
-  pub overlap-apart : p < length slots → agree (take (length slots - p) (drop p slots)) list ≡ false → overlap slots last list ≡ fresh slots list
+  pub overlap-apart : p < length slots → agree (take (length slots - p) (drop p slots)) list ≡ false → overlap (held slots [] last) list ≡ fresh slots list
   unfolding overlap
   overlap-apart h a = rw (← m, lt-ltb p (length slots) h, rw take-rest at a)
 
-  pub overlap-missed : length slots ≤ p → overlap slots last list ≡ fresh slots list
+  pub overlap-missed : length slots ≤ p → overlap (held slots [] last) list ≡ fresh slots list
   unfolding overlap
   overlap-missed h = rw (← m, le-ltb p (length slots) h)
 
@@ -105,12 +105,12 @@ unfolding fresh appendAll
 fresh-within slots list = (omega arith, omega arith)
 
 pub overlap-within : (slots : List ℕ) (last : ℕ) (list : List ℕ) → last ≤ length slots
-    → (overlap slots last list .start ≤ length slots) × (overlap slots last list .have ≤ length list)
+    → (overlap (held slots [] last) list .start ≤ length slots) × (overlap (held slots [] last) list .have ≤ length list)
 unfolding overlap
 overlap-within slots last list h =
-    by-test (ltb (meets slots last list) (length slots))
+    by-test (ltb (meets (held slots [] last) list) (length slots))
     (λ e.
-    by-test (agree (drop (meets slots last list) slots) list)
+    by-test (agree (drop (meets (held slots [] last) list) slots) list)
     (λ f. rw (e, f) (meets-le slots last list h, omega arith))
     (λ f. rw (e, f) (fresh-within slots list)))
     (λ e. rw e (fresh-within slots list))

@@ -1,17 +1,17 @@
 -- Steps 1 to 3, by what the code finds.
 use Prim.Native.Nat.{ℕ, _+_, _-_, _≤_, _<_}
 use mathlib.Core.Path.{_≡_, refl, ap}
-use mathlib.Core.List.{List}
+use mathlib.Core.List.{List, []}
 use native.Mathlib.Omega.{arith}
 use lib.ListN.{length, getD}
 use lib.Dec.{eqb}
 use borrow.Author.Tests.{eq-eqb, ne-eqb, eqb-true, eqb-false}
 use Rattle.base.specs.Lists.{listAt}
 use Rattle.base.specs.Tests.{by-test}
-use Rattle.placement.specs.Placing.{countAbove, tails, best, overlap, tailOr, shared, plain, appendAll}
+use Rattle.placement.specs.Placing.{countAbove, tails, best, meets, overlap, tailOr, shared, plain, appendAll}
 use Rattle.placement.specs.ListLaws.{count-le}
 use Rattle.placement.specs.PlacingLaws.{best-at}
-use Rattle.placing.specs.Slices.{Readable, AllTailed, fullAt, IsTail, TailIn, asPlan, planOver, Planning, Planned}
+use Rattle.placing.specs.Slices.{Readable, AllTailed, fullAt, IsTail, TailIn, asPlan, held, planOver, Planning, Planned}
 use Rattle.placing.specs.LoopLaws.{overlap-within}
 use Rattle.placing.specs.TailLaws.{list-length, found-tail, found-none}
 use Rattle.base.specs.First.{first}
@@ -26,12 +26,12 @@ tail-start-is starts runs i p most m z e f h = rw (f, h, e)
 
 module _ (starts runs slots : List ℕ) (last k : ℕ) (row list : List ℕ) where
   pub plan-empty : length list ≡ 0 → record { start = length slots; have = 0 } ≡ asPlan (planOver Sharing starts runs slots last k row list)
-  unfolding planOver shared
+  unfolding planOver shared appendAll
   plan-empty h = rw (eq-eqb (length list) 0 h)
 
   module _ (ne : length list ≡ 0 → ⊥) (at most : ℕ) (is : IsTail (best (tails (listAt starts runs slots) k) row) at most) where
-    plan-over : (most ≡ length list → ⊥) → planOver Sharing starts runs slots last k row list ≡ overlap slots last list
-    unfolding planOver shared tailOr
+    plan-over : (most ≡ length list → ⊥) → planOver Sharing starts runs slots last k row list ≡ overlap (held slots [] last) list
+    unfolding planOver shared tailOr overlap meets
     plan-over h = rw (ne-eqb (length list) 0 ne, ← is .most-is, ne-eqb most (length list) h)
 
     -- the best place is one of the row, and its list has that many entries
@@ -65,7 +65,7 @@ module _ (starts runs slots : List ℕ) (last k : ℕ) (row list : List ℕ) whe
         let q = found-tail starts runs slots k (length list) row all (omega (arith, ne)) j e in
         plan-tail ne (getD row j 0) (length list) (q .1) refl (tail-at ne (getD row j 0) (length list) (q .1) refl all .0) start h
 
-    pub plan-none : first (fullAt starts runs slots k (length list) row) (length row) ≡ Nothing → planOver Sharing starts runs slots last k row list ≡ overlap slots last list
+    pub plan-none : first (fullAt starts runs slots k (length list) row) (length row) ≡ Nothing → planOver Sharing starts runs slots last k row list ≡ overlap (held slots [] last) list
     plan-none e =
         let b = best (tails (listAt starts runs slots) k) row in
         plan-over ne (b .at) (b .most) (record { at-is = refl; most-is = refl }) (λ q. absurd (omega (arith, found-none starts runs slots k (length list) row all (omega (arith, ne)) e)))

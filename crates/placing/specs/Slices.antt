@@ -7,7 +7,7 @@ use lib.ListN.{length, take, drop, getD, set}
 use lib.Seq.{paste}
 use lib.Dec.{ltb, leb, eqb}
 use Rattle.base.specs.Lists.{listAt}
-use Rattle.placement.specs.Placing.{tails, agree, runAt}
+use Rattle.placement.specs.Placing.{tails, agree, State}
 use Rattle.placement.specs.Placing as placement
 use Rattle.placement.specs.ListLaws.{Ascends}
 use Rattle.placing.specs.Ways.{wayOf}
@@ -68,9 +68,13 @@ pub record Planning (way : Way) (starts runs slots : List ℕ) (last k : ℕ) (r
   pub readable : Reads way starts runs slots k row list
   pub last-in : last ≤ length slots
 
+-- what the slices hold, as a state of the placing
+abbrev pub held : List ℕ → List ℕ → ℕ → State
+held slots runs last = record { slots = slots; runs = runs; last = last }
+
 -- the plan for place k over what the slices hold
 unfoldable pub planOver : Way → List ℕ → List ℕ → List ℕ → ℕ → ℕ → List ℕ → List ℕ → placement.Plan
-planOver way starts runs slots last k row list = wayOf way (listAt starts runs slots) (runAt runs) slots last k row list
+planOver way starts runs slots last k row list = wayOf way (listAt starts runs slots) (held slots runs last) k row list
 
 -- a plan, with its start within the used slots and what stands already within the list
 pub record Planned (slots list : List ℕ) (p : placement.Plan) (r : Plan) : Type 0 where

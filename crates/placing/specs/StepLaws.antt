@@ -11,12 +11,12 @@ use lib.Dec.{eqb}
 use borrow.Author.Tests.{eqb-true, eqb-false}
 use Rattle.base.specs.Lists.{asc, listAt, table}
 use Rattle.base.specs.Tests.{by-test}
-use Rattle.placement.specs.Placing.{countAbove, tails, Tail, best, tailOr, shared, plain, appendAll, runAt, runOf, after, planAt, placed, startOf}
+use Rattle.placement.specs.Placing.{countAbove, tails, Tail, best, meets, overlap, tailOr, shared, plain, appendAll, after, planAt, placed, startOf}
 use Rattle.placement.specs.PlacingLaws.{best-at, best-same, Nested, Kept, after-length, room, plain-starts}
 use Rattle.placement.specs.ListLaws.{mem-at, asc-least, asc-weaken, among-asc, among-drop, count-tail, count-le}
 use Rattle.placing.specs.Ways.{wayOf, Suited}
 use Rattle.placing.specs.FillNested.{kept, mem-asc}
-use Rattle.placing.specs.Slices.{Readable, Reads, Small, Ready, planOver, planOf, fitsOf, extentOf, Writes, WrittenBy}
+use Rattle.placing.specs.Slices.{Readable, Reads, Small, Ready, held, planOver, planOf, fitsOf, extentOf, Writes, WrittenBy}
 use Rattle.placing.specs.LoopLaws.{take-rest}
 use Rattle.placing.specs.LookLaws.{Looked, fits-room}
 use Rattle.placing.specs.Held.{Holding, RowIs, Turn, Stepped, PlaceEnds, PlainEnds}
@@ -32,11 +32,11 @@ use Rattle.base.specs.Index.{indexBound}
 -- ---- the two ways
 
 -- only the lists and the run starts of the row's places count
-shared-same : (T T′ : ℕ → List ℕ) (run run′ : ℕ → ℕ) (slots : List ℕ) (last k : ℕ) (row list : List ℕ)
-    → ((i : ℕ) → List·Memᴰ i row → T i ≡ T′ i) → ((i : ℕ) → List·Memᴰ i row → run i ≡ run′ i)
-    → shared T run slots last k row list ≡ shared T′ run′ slots last k row list
-unfolding shared tailOr tails
-shared-same T T′ run run′ slots last k row list f g =
+shared-same : (T T′ : ℕ → List ℕ) (slots runs runs′ : List ℕ) (last k : ℕ) (row list : List ℕ)
+    → ((i : ℕ) → List·Memᴰ i row → T i ≡ T′ i) → ((i : ℕ) → List·Memᴰ i row → getD runs i 0 ≡ getD runs′ i 0)
+    → shared T (held slots runs last) k row list ≡ shared T′ (held slots runs′ last) k row list
+unfolding shared tailOr tails overlap meets
+shared-same T T′ slots runs runs′ last k row list f g =
     by-test (eqb (length list) 0)
     (λ e. rw e)
     (λ e.
@@ -55,13 +55,13 @@ shared-same T T′ run run′ slots last k row list f g =
 
 -- a plan over stores in which the lists before place k stand is the plan for k
 plan-way : (way : Way) (T R : ℕ → List ℕ) (n k : ℕ) → Suited way T R n → k < n → (row : List ℕ) → RowIs way (R k) row
-    → (T′ : ℕ → List ℕ) (run run′ : ℕ → ℕ) (slots : List ℕ) (last : ℕ) (list : List ℕ)
-    → ((i : ℕ) → i < k → T′ i ≡ T i) → ((i : ℕ) → i < k → run′ i ≡ run i)
-    → wayOf way T′ run′ slots last k row list ≡ wayOf way T run slots last k (R k) list
+    → (T′ : ℕ → List ℕ) (slots runs runs′ : List ℕ) (last : ℕ) (list : List ℕ)
+    → ((i : ℕ) → i < k → T′ i ≡ T i) → ((i : ℕ) → i < k → getD runs′ i 0 ≡ getD runs i 0)
+    → wayOf way T′ (held slots runs′ last) k row list ≡ wayOf way T (held slots runs last) k (R k) list
 unfolding plain
-plan-way OneAfterAnother T R n k h l row e T′ run run′ slots last list f g = refl
-plan-way Sharing T R n k h l row e T′ run run′ slots last list f g =
-    rw e (shared-same T′ T run′ run slots last k (R k) list (λ i d. f i (h .lower k l i d)) (λ i d. g i (h .lower k l i d)))
+plan-way OneAfterAnother T R n k h l row e T′ slots runs runs′ last list f g = refl
+plan-way Sharing T R n k h l row e T′ slots runs runs′ last list f g =
+    rw e (shared-same T′ T slots runs′ runs last k (R k) list (λ i d. f i (h .lower k l i d)) (λ i d. g i (h .lower k l i d)))
 
 -- of the lists of k's row, what stands above k is no more than k's list
 tail-most : (T R : ℕ → List ℕ) (n k i : ℕ) → Nested T R n → k < n → List·Memᴰ i (R k) → countAbove k (T i) ≤ length (T k)
@@ -127,8 +127,8 @@ module _ {way : Way} {T R : ℕ → List ℕ} {n values k : ℕ} {index₀ start
   pub plan-same : planOf way starts runs index values row list k s ≡ planAt (wayOf way) T R (placed (wayOf way) T R k) k
   unfolding planOf planOver
   plan-same =
-      plan-way way T R n k (turn .suited) (turn .below) row (turn .row-is) (listAt starts runs (take (s .used) index)) (runOf (placed (wayOf way) T R k)) (runAt runs)
-      (take (s .used) index) (s .last) list (list-used (turn .held) n (turn .suited) upto) (run-same (turn .held))
+      plan-way way T R n k (turn .suited) (turn .below) row (turn .row-is) (listAt starts runs (take (s .used) index))
+      (take (s .used) index) (placed (wayOf way) T R k .runs) runs (s .last) list (list-used (turn .held) n (turn .suited) upto) (run-same (turn .held))
       ∙ rw (slots-same (turn .held), turn .held .last-is, turn .list-is)
 
   -- the code's test is question 10 or 11 at k

@@ -3,13 +3,14 @@
 ghost use mathlib.Core.Path.{_≡_};
 ghost use Prim.Native.Nat.{ℕ, _+_, _-_, _≤_, _<_, min};
 ghost use mathlib.Core.Bool.{cond};
+ghost use mathlib.Core.List.{[]};
 ghost use lib.Dec.{ltb, eqb};
 ghost use lib.ListN.{length, take, drop, getD, set};
 ghost use lib.Seq.{paste};
 ghost use Rattle.base.specs.Lists.{listAt};
 ghost use Rattle.base.specs.First.{first};
 ghost use Rattle.placement.specs.Placing.{tails, firstAt, agree, fresh, overlap};
-ghost use Rattle.placing.specs.Slices.{Tailed, AllTailed, fullAt, asPlan, TailIn, Planning, planOver, Planned, Small, Ready, lookOf, Writable, WrittenBy, Standing, sameAt};
+ghost use Rattle.placing.specs.Slices.{Tailed, AllTailed, fullAt, asPlan, TailIn, held, Planning, planOver, Planned, Small, Ready, lookOf, Writable, WrittenBy, Standing, sameAt};
 ghost use Rattle.placing.specs.Held.{PlaceEnds, PlainEnds, CheckEnds};
 ghost use Rattle.placing.specs.declared.Way.{Way};
 ghost use Rattle.base.specs.Index.{indexBound};
@@ -136,7 +137,7 @@ fn fresh_plan(slots: &[Index], list: &[u32]) -> Plan
 // Step 3: the last run is the used part from last on.
 fn overlap_plan(slots: &[Index], last: usize, list: &[u32]) -> Plan
     requires { ⌜ (last ≤ length (now slots)) × (0 < length (now list)) ⌝ }
-    ensures { λ r. ⌜ r ≡ asPlan (overlap (now (slots .entry)) last (now (list .entry))) ⌝ }
+    ensures { λ r. ⌜ r ≡ asPlan (overlap (held (now (slots .entry)) [] last) (now (list .entry))) ⌝ }
 {
     let p = last + first_at(&slots[last..], list[0]);
     if slots.len() <= p {
@@ -287,7 +288,14 @@ fn look_for(
 }
 
 // What place k's list lacks goes after the used slots, and its values end where list start k + 1 says.
-fn write_list(starts: &mut [u32], index: &mut [Index], list: &[u32], k: Place, s: Extent, have: usize)
+fn write_list(
+    starts: &mut [u32],
+    index: &mut [Index],
+    list: &[u32],
+    k: Place,
+    s: Extent,
+    have: usize,
+)
     requires { ⌜ Writable (now starts) (now index) (now list) (k .0) s have ⌝ }
     ensures { λ _. ⌜ WrittenBy (now (starts .entry)) (now (index .entry)) (now (list .entry)) (k .0) s have (now (starts .exit)) (now (index .exit)) ⌝ }
 {

@@ -1,17 +1,16 @@
 -- What the questions settle when they are passed, and M' by the inverse order.
-use mathlib.Core.Path.{_≡_, refl, sym, _∙_, ap, ap₂}
+use mathlib.Core.Path.{_≡_, refl, sym, _∙_, ap}
 use mathlib.Core.Bool.{true, false, not, _&&_, _||_}
-use mathlib.Core.List.{List, [], _∷_, map}
+use mathlib.Core.List.{List}
 use Prim.Native.Nat.{ℕ, zero, suc, _+_, _-_, _≤_, _<_}
 use native.Mathlib.Omega.{arith}
-use native.Mathlib.Decide.{ℕ-discrete}
 use lib.ListN.{length, getD, take, drop, length-take, length-drop, length-map}
 use lib.Seq.{getD-take, getD-drop}
 use lib.Dec.{ltb, eqb}
 use lib.Ieee.{Float, nan}
 use lib.Ieee.Scale.{finite}
-use borrow.Author.Tests.{leb-false, ltb-false, eq-eqb, ne-eqb, eqb-true, eqb-false}
-use Rattle.base.specs.Lists.{has, listAt, rowOf}
+use borrow.Author.Tests.{leb-false, ltb-false, eq-eqb, eqb-true, eqb-false}
+use Rattle.base.specs.Lists.{listAt, rowOf}
 use Rattle.base.specs.Tests.{or-false, not-true}
 use Rattle.base.specs.TableLaws.{getD-map-lt}
 use Rattle.base.specs.First.{first, isAt}
@@ -24,9 +23,9 @@ use Rattle.base.specs.declared.Refusal.{Refusal}
 use Rattle.base.specs.declared.Refusal.the-variants.{Starts, Column, Order, NotFinite, EmptyRow, Repeated}
 use Rattle.base.specs.declared.Asked.{Asked}
 use Rattle.base.specs.declared.Asked.the-variants.{Pass, Stop}
-use Rattle.matrix.specs.Input.{Input, inputOf, isOf, ic, stored}
+use Rattle.matrix.specs.Input.{Input, inputOf, isOf, ic}
 use Rattle.matrix.specs.Questions.{badStart, badColumn, badIndex, notFinite, noEntry, emptyRow, seenAt, repeats, repeatRow, IsOrder, ask3, ask4, ask5, ask6, ask7, ask8, askFinite, askPattern, askRows, askStructure, askSolve, askRight}
-use Rattle.matrix.specs.OrderLaws.{order-below, place-of, place-hits}
+use Rattle.matrix.specs.OrderLaws.{order-below, place-hits}
 use Rattle.questions.specs.Settled.{RowIn, Under, Distinct, Finite, columnsAt, placesAt, Readable, Structured, Settled}
 use Rattle.questions.specs.Lent.{Lent, RowsLent, RowLent}
 
@@ -156,15 +155,6 @@ pub row-length : {A : Type 0} (s : List ℕ) (v : List A) (a : ℕ) → RowIn s 
 unfolding listAt
 row-length s v a h = simp (length-take, length-drop) (omega (arith, h .up, h .within))
 
-has-map : (f : ℕ → ℕ) (q p : ℕ) (xs : List ℕ) → f q ≡ p → ((t : ℕ) → t < length xs → f (getD xs t 0) ≡ p → getD xs t 0 ≡ q) → has (map f xs) p ≡ has xs q
-unfolding has
-has-map f q p [] e h = refl
-has-map f q p (x ∷ xs) e h = ap₂ (λ a b. a || b) (at (ℕ-discrete x q)) (has-map f q p xs e (λ t k. h (suc t) (omega arith)))
-  where
-    at : Dec (x ≡ q) → eqb (f x) p ≡ eqb x q
-    at (yes u) = eq-eqb (f x) p (ap f u ∙ e) ∙ sym (eq-eqb x q u)
-    at (no u) = ne-eqb (f x) p (λ v. u (h zero (omega arith) v)) ∙ sym (ne-eqb x q u)
-
 module _ (i : Input) (g : Readable i) where
   -- the row at place k stands within the entries
   pub row-in : (k : ℕ) → k < i .n → RowIn (i .starts) (length (i .columns)) (getD (i .r) k 0)
@@ -172,15 +162,6 @@ module _ (i : Input) (g : Readable i) where
 
   columns-under : (k : ℕ) → Under (columnsAt i k) (i .n)
   columns-under k = row-under (i .n) (i .starts) (i .columns) (getD (i .r) k 0) (g .columns)
-
-  -- M' has (k, p) exactly if p is ic(j) of a column j of own row r(k)
-  pub stored-is : (k p : ℕ) → p < i .n → stored i k p ≡ has (placesAt i k) p
-  unfolding stored Under
-  stored-is k p l =
-      sym (has-map (ic (i .c) (i .n)) (getD (i .c) p 0) p (columnsAt i k) (place-of (i .c) (i .n) (g .column-order) p l)
-      (λ t b e.
-      let u = columns-under k t b in
-      sym (place-hits (i .c) (i .n) (g .column-order) (getD (columnsAt i k) t 0) u .1) ∙ ap (λ (m : ℕ). getD (i .c) m 0) e))
 
   place-at : (k t : ℕ) → t < length (columnsAt i k) → getD (placesAt i k) t 0 ≡ ic (i .c) (i .n) (getD (columnsAt i k) t 0)
   place-at k t b = sym (getD-map-lt (ic (i .c) (i .n)) (columnsAt i k) t 0 0 b)

@@ -1,4 +1,4 @@
-// Questions 3 to 8 on a lent matrix, its orders and its numbers, and what goes by an order: own numbers and places, the inverse, the solution.
+// Questions 3 to 8 on a lent matrix, its orders and its numbers, and what goes by an order: the inverse, the solution.
 ghost use mathlib.Core.Path.{_≡_};
 ghost use mathlib.Core.List.{[]};
 ghost use Prim.Native.Nat.{_+_, _-_, _<_, _≤_};
@@ -6,7 +6,7 @@ ghost use lib.ListN.{length, getD, set};
 ghost use lib.Dec.{eqb};
 ghost use Rattle.base.specs.First.{first, isAt};
 ghost use Rattle.base.specs.Lists.{rowOf};
-ghost use Rattle.matrix.specs.Input.{inputOf, ownAt, placeAt, ownOrder};
+ghost use Rattle.matrix.specs.Input.{inputOf, ownOrder};
 ghost use Rattle.matrix.specs.Questions.{badStart, badIndex, noEntry, repeats, ask3, ask4, ask5, askFinite, ask6, ask7, ask8, askPattern, askRows, askStructure, askSolve, askRight};
 ghost use Rattle.questions.specs.Lent.{Lent, SolveLent, RightLent, OrdersLent, OrderLent, PlacesLent, RowsLent, RowLent, Unstamped, AtMost, askOrder, InverseLent, SolutionLent, inverted, invertedAt};
 use base::Asked;
@@ -18,24 +18,6 @@ use base::Refusal;
 
 // ---- the orders
 
-// Gives the own row at a place.
-pub fn own_row(r: &[Index], k: Place) -> OwnNumber
-    requires { ⌜ k .0 < length (now r) ⌝ }
-    ensures { λ i. ⌜ i ≡ ownAt (now (r .entry)) k ⌝ }
-{
-    let at = k.0 as usize;
-    OwnNumber(r[at] as u32)
-}
-
-// Gives the place of an own number, by the inverse of an order.
-pub fn place_of(inverse: &[u32], j: OwnNumber) -> Place
-    requires { ⌜ j .0 < length (now inverse) ⌝ }
-    ensures { λ k. ⌜ k ≡ placeAt (now (inverse .entry)) j ⌝ }
-{
-    let at = j.0 as usize;
-    Place(inverse[at])
-}
-
 // Writes the inverse of an order into the first n slots, and leaves the others.
 pub fn invert(n: usize, order: &[Index], inverse: &mut [u32])
     requires { ⌜ InverseLent n (now order) (length (now inverse)) ⌝ }
@@ -43,7 +25,7 @@ pub fn invert(n: usize, order: &[Index], inverse: &mut [u32])
 {
     let mut k = 0;
     while k < n {
-        let j = order[k] as usize;
+        let j = base::wide(order[k]);
         inverse[j] = k as u32;
         k += 1;
     }
@@ -64,7 +46,7 @@ pub fn write_solution(n: usize, c: &[Index], z: &[f64], x: &mut [f64])
 {
     let mut k = 0;
     while k < n {
-        let j = c[k] as usize;
+        let j = base::wide(c[k]);
         x[j] = z[k];
         k += 1;
     }
@@ -89,7 +71,7 @@ fn first_fault(n: usize, list: &[Index], stamp: u32, marks: &mut [u32]) -> Found
 {
     let mut p = 0;
     while p < list.len() {
-        let j = list[p] as usize;
+        let j = base::wide(list[p]);
         if j >= n {
             return Found::At(p);
         }
@@ -146,7 +128,7 @@ fn ask_columns(n: usize, columns: &[Index]) -> Asked
 {
     let mut p = 0;
     while p < columns.len() {
-        if columns[p] as usize >= n {
+        if base::wide(columns[p]) >= n {
             return Asked::Stop(Refusal::Column(p as u32));
         }
         p += 1;
@@ -222,7 +204,7 @@ fn ask_entries(n: usize, starts: &[u32], r: &[Index]) -> Asked
 {
     let mut k = 0;
     while k < n {
-        let i = own_row(r, Place(k as u32));
+        let i = lent::own_row(r, Place(k as u32));
         if row_empty(starts, i) {
             return Asked::Stop(Refusal::EmptyRow(i));
         }
@@ -258,7 +240,7 @@ fn ask_repeats(n: usize, starts: &[u32], columns: &[Index], r: &[Index], marks: 
     base::clear_u32(marks);
     let mut k = 0;
     while k < n {
-        let i = own_row(r, Place(k as u32));
+        let i = lent::own_row(r, Place(k as u32));
         if row_repeats(n, starts, columns, i, k as u32 + 1, marks) {
             return Asked::Stop(Refusal::Repeated(i));
         }

@@ -34,7 +34,7 @@ fn analyze_and_solve(
         (rowBuffers (now («upper_starts» .entry)) (now («upper_runs» .entry)) (now («upper_index» .entry)) (now («upper_values» .entry)) (now (d .entry)) (now (x .entry)) (now (work .entry)) (now (marks .entry))) a
         (rowBuffers (now («upper_starts» .exit)) (now («upper_runs» .exit)) (now («upper_index» .exit)) (now («upper_values» .exit)) (now (d .exit)) (now (x .exit)) (now (work .exit)) (now (marks .exit))) ⌝ }
 {
-    let a = symbolic::find_row(
+    let a = symbolic::analyze_by_row(
         n,
         starts,
         columns,

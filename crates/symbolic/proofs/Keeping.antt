@@ -14,7 +14,8 @@ use Rattle.base.specs.AscLaws.{asc-at, length-asc}
 use Rattle.base.specs.declared.Side.the-variants.{Upper}
 use Rattle.fill.specs.Fill.{Pattern, filled, upperRow, lowerRow, flip}
 use Rattle.placement.specs.PlacingLaws.{room}
-use Rattle.marks.specs.Marks.{ListIn, members}
+use Rattle.lent.specs.Reading.{ListIn}
+use Rattle.marks.specs.Marks.{members}
 use Rattle.marks.specs.Rows.{Stored, Renewed, rowSteps, lengthIn, Countable}
 use Rattle.marks.specs.FillLaws.{upper-below}
 use Rattle.marks.specs.ListLaws.{lower-members, lower-le, upper-le, row-products-is, held-countable, products-fit}
@@ -44,7 +45,7 @@ suited-of way P n = fill-suited way Upper P n
 
 -- the lists that are placed can be read
 pub stored-held : {way : Way} {P : Pattern} {n values k : ℕ} {index₀ index runs starts : List ℕ} {e : Extent} → k ≤ n
-    → Holding way (upperRow P n) (lowerRow P) values k index₀ starts runs index e → Stored P n k index runs starts
+    → Holding way (upperRow P n) (lowerRow P) values k index₀ starts runs index e → Stored P n k starts runs index
 stored-held {way} {P} {n} {values} {k} {index₀} {index} {runs} {starts} {e} l h = record {
   list = λ i b. list-held h n (suited-of way P n) l i b;
   read = λ i b.
@@ -89,15 +90,15 @@ module _ {way : Way} {P : Pattern} {n k t cuts : ℕ} {store : List ℕ} {values
       (rw l (λ j b. let u = upper-below P n k j b in omega (arith, h .few)))
 
   module _ (e′ : Extent) (index′ runs′ starts′ : List ℕ) (held : Holding way (upperRow P n) (lowerRow P) values (suc k) (blank 0 store) starts′ runs′ index′ e′) where
-    next-store : Stored P n (k + 1) index′ runs′ starts′
+    next-store : Stored P n (k + 1) starts′ runs′ index′
     next-store = let b = h .below in rw add-one (stored-held (omega arith) held)
 
     -- what renewing the cuts asks for
-    pub next-lists : (i : ℕ) → i < k + 1 → ListIn index′ runs′ starts′ i
+    pub next-lists : (i : ℕ) → i < k + 1 → ListIn starts′ runs′ (length index′) i
     next-lists = next-store .read
 
     pub kept-next : room (wayOf way) (upperRow P n) (lowerRow P) (length (blank 0 store)) values k ≡ true → length starts′ ≡ length starts → length runs′ ≡ length runs
-        → (s′ : List ℕ) → Renewed n t k cuts index′ runs′ starts′ s s′ → Kept way P n k cuts store values starts′ runs′ index′ s s′ e′
+        → (s′ : List ℕ) → Renewed n t k cuts starts′ runs′ index′ s s′ → Kept way P n k cuts store values starts′ runs′ index′ s s′ e′
     kept-next f a b s′ r =
         let z = h .at .stores in
         record {
@@ -154,12 +155,12 @@ module _ {P : Pattern} {n k : ℕ} {index runs starts s : List ℕ} {count produ
   adding-fits = omega (arith, a .below, a .size, lower-le P k)
 
   pub adding-countable : (list : List ℕ) → list ≡ take (listFrom n + count - listFrom n) (drop (listFrom n) s) → Countable list starts
-  adding-countable list e = held-countable P n k index runs starts (a .store) (omega (arith, a .below, a .few)) list (e ∙ part-is (listFrom n) count s ∙ a .list)
+  adding-countable list e = held-countable P n k starts runs index (a .store) (omega (arith, a .below, a .few)) list (e ∙ part-is (listFrom n) count s ∙ a .list)
 
   pub products-next : (r : ℕ) → r ≡ total (map (lengthIn starts) (take (listFrom n + count - listFrom n) (drop (listFrom n) s))) → products + r ≡ sum (k + 1) (rowSteps P n)
   unfolding sum
   products-next r e =
-      let q : r ≡ rowSteps P n k = e ∙ ap (λ l. total (map (lengthIn starts) l)) (part-is (listFrom n) count s ∙ a .list) ∙ row-products-is P n k index runs starts (a .store) in
+      let q : r ≡ rowSteps P n k = e ∙ ap (λ l. total (map (lengthIn starts) l)) (part-is (listFrom n) count s ∙ a .list) ∙ row-products-is P n k starts runs index (a .store) in
       rw (add-one, q, a .before)
 
   pub products-small : (r : ℕ) → r ≡ total (map (lengthIn starts) (take (listFrom n + count - listFrom n) (drop (listFrom n) s))) → products + r ≤ maxProducts

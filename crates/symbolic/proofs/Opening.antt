@@ -2,27 +2,28 @@
 use mathlib.Core.Path.{_≡_, sym, ap, _∙_}
 use mathlib.Core.Bool.{true}
 use mathlib.Core.List.{List}
-use Prim.Native.Nat.{ℕ, suc, _+_, _-_, _*_, _<_, _≤_, _/_}
+use Prim.Native.Nat.{ℕ, _+_, _-_, _<_, _≤_}
 use native.Mathlib.Omega.{arith}
-use native.Mathlib.Decide.{ℕ-discrete, decLt}
-use lib.ListN.{length, getD, set, take, drop, length-take, length-drop}
-use lib.Seq.{getD-set-other, getD-set-same, set-out, ext-getD, getD-take, getD-drop}
+use lib.ListN.{length, getD, take, drop, length-take, length-drop}
+use lib.Seq.{ext-getD, getD-take, getD-drop}
 use Rattle.base.specs.declared.Side.{Side}
 use Rattle.base.specs.declared.Side.the-variants.{Lower, Upper}
 use Rattle.fill.specs.Fill.{Pattern, filled}
 use Rattle.matrix.specs.Input.{Input}
-use Rattle.marks.specs.Marks.{Room, Base, Fresh, Holds, Free, Same, Parts, Below, markAt}
-use Rattle.marks.specs.MarkLaws.{holds-kept}
-use Rattle.marks.specs.Rows.{Cuts, Closed, LowerListed, Closing, UpperListed, Listed, But}
+use Rattle.lent.specs.ReadingLaws.{order-read}
+use Rattle.lent.specs.Reading.{But, orderOf}
+use Rattle.marks.specs.Marks.{Room, Base, Holds, Unmarked, Parts}
+use Rattle.marks.specs.MarkLaws.{holds-kept, unmarked-stamped}
+use Rattle.marks.specs.Rows.{Cuts, Closed, LowerListed, Closing, UpperListed, Listed}
 use Rattle.marks.specs.RenewLaws.{cuts-kept}
 use Rattle.marks.specs.FillLaws.{held-parts}
 use Rattle.marks.specs.ListLaws.{lower-marks, listed-both, listed-lower, listed-upper, listed-but, lower-le, upper-le}
-use Rattle.columns.specs.Columns.{orderOf, Untouched, Given, Ready}
-use Rattle.columns.specs.Sides.{sideRow, SideReady, SideLoaded, rowsIn}
-use Rattle.columns.proofs.Keeps.{order-read, stamped-keeps, unmarked-stamped, rows-same}
+use Rattle.columns.specs.Columns.{Untouched, Given, Ready}
+use Rattle.columns.specs.Sides.{SideReady, SideLoaded, rowsIn}
+use Rattle.columns.proofs.Keeps.{rows-same}
 use Rattle.columns.proofs.WindowLaws.{ready-steady}
-use Rattle.columns.proofs.SideLaws.{side-marks, side-below, side-untouched}
-use Rattle.columns.proofs.Stored.{given-sound, side-set, side-blocks}
+use Rattle.columns.proofs.SideLaws.{side-below, side-untouched}
+use Rattle.columns.proofs.Stored.{given-sound, side-holds}
 use Rattle.symbolic.specs.Places.{patternOf, cutsOf, Foreign, Apart, Begun, Open, RowFound}
 use Rattle.base.specs.Scratch.{blocksFrom, upperCuts, lowerCuts, listFrom, nodesFrom, regionsEnd}
 
@@ -51,12 +52,12 @@ apart-of side n s u e k = record {
     far Upper q f = omega (arith, f .0)
     far Lower q f = omega (arith, f .0)
 
-foreign-free : (side : Side) (n q : ℕ) → n ≤ q → (blocksFrom n ≤ q → Foreign side n q) → Free n q
-foreign-free Upper n q h f = record { past = h; away = λ w. let g = f w in omega (arith, g .0) }
-foreign-free Lower n q h f = record { past = h; away = λ w. let g = f w in omega (arith, g .0) }
+foreign-past : (side : Side) (n q : ℕ) → Foreign side n q → upperCuts n ≤ q
+foreign-past Upper n q f = omega (arith, f .0)
+foreign-past Lower n q f = omega (arith, f .0)
 
-pub apart-same : (side : Side) (n : ℕ) (s u : List ℕ) → length u ≡ length s → Same n s u → Apart side n s u
-apart-same side n s u e k = apart-of side n s u e (λ q h f. k q (foreign-free side n q h f))
+pub apart-unmarked : (side : Side) (n : ℕ) (s u : List ℕ) → Unmarked n s u → Apart side n s u
+apart-unmarked side n s u k = apart-of side n s u (k .size) (λ q h f. k .slots q (λ w. h) (λ w. foreign-past side n q (f w)))
 
 foreign-list : (side : Side) (n q : ℕ) → (blocksFrom n ≤ q → Foreign side n q) → listFrom n ≤ q → nodesFrom n ≤ q
 foreign-list Upper n q f w = let g = f (omega arith) in g .1 w
@@ -98,7 +99,7 @@ unfolding orderOf
 order-same {side} {n} {s} {u} a = part-kept n n s u (a .size) (λ q h g. a .order q h (omega arith))
 
 pub rows-apart : (side : Side) (i : Input) (s u : List ℕ) → Apart side (i .n) s u → rowsIn i u ≡ rowsIn i s
-rows-apart side i s u a = rows-same (i .n) (i .columns) (i .starts) (i .r) s u (order-same a)
+rows-apart side i s u a = rows-same (i .n) (i .starts) (i .columns) (i .r) s u (order-same a)
 
 -- columns can be handed out as before
 pub ready-kept : {n k hi : ℕ} {R : ℕ → List ℕ} {s u : List ℕ} → ((q : ℕ) → lowerCuts n + k ≤ q → q < regionsEnd n → (listFrom n ≤ q → nodesFrom n ≤ q) → getD u q 0 ≡ getD s q 0) → Ready n k hi R s → Ready n k hi R u
@@ -108,16 +109,6 @@ ready-kept {n} {k} e r = ready-steady (record {
 }) r
 
 -- ---- the load
-
-fresh-mark : (n t : ℕ) (s : List ℕ) (j : ℕ) → j < n → Fresh n (suc t) s → Fresh n (suc t) (markAt n t s j)
-fresh-mark n t s j h f x l = rw (getD-set-other (set s j t) (blocksFrom n + j / 64) x t 0 (omega arith)) (go (ℕ-discrete x j))
-  where
-    go : Dec (x ≡ j) → getD (set s j t) x 0 < suc t
-    go (yes e) = rw e (elim (decLt j (length s)) [
-      | yes a ↦ omega (arith, getD-set-same s j t 0 a)
-      | no b ↦ rw (set-out s j t (omega arith)) (f j h)
-    ])
-    go (no e) = rw (getD-set-other s j x t 0 e) (f x l)
 
 module _ (side : Side) (i : Input) (k t window : ℕ) (index runs lists s₀ : List ℕ) (o : Open side i k t window index runs lists s₀) where
   abbrev n : ℕ
@@ -129,34 +120,19 @@ module _ (side : Side) (i : Input) (k t window : ℕ) (index runs lists s₀ : L
   abbrev cuts : ℕ
   cuts = cutsOf side (i .n)
 
-  pub open-given : Given (i .n) (i .columns) (i .starts) (i .r) s₀
+  pub open-given : Given (i .n) (i .starts) (i .columns) (i .r) s₀
   open-given = given-sound i s₀ (o .begun .sound) (o .begun .inverse) (o .begun .space)
 
   module _ (hi : ℕ) (s₁ : List ℕ) (loaded : SideLoaded side n t k window hi (rowsIn i s₀) s₀ s₁) where
-    abbrev row : List ℕ
-    row = sideRow side (rowsIn i s₀) n k
-
-    row-under : Below n row
-    row-under = side-below side n k (i .columns) (i .starts) (i .r) s₀ open-given (o .below)
-
     kept : Untouched n k s₀ s₁
-    kept = side-untouched side n t k window hi (i .columns) (i .starts) (i .r) s₀ s₁ open-given (o .below) loaded
+    kept = side-untouched side n t k window hi (i .starts) (i .columns) (i .r) s₀ s₁ open-given (o .below) loaded
 
     pub loaded-room : Room n s₁
     loaded-room = record { small = o .begun .space .small; long = omega (arith, o .begun .space .long, kept .size) }
 
-    loaded-fresh : Fresh n (suc t) s₁
-    loaded-fresh j l =
-        rw (side-marks side n t k window hi (rowsIn i s₀) s₀ s₁ loaded .slots j (λ a. omega arith) (λ a. omega arith))
-        (stamped-keeps (Fresh n (suc t)) n t (λ u x h f. fresh-mark n t u x h f) s₀ row row-under (λ x h. let f = o .held .fresh x h in omega arith) j l)
-
     -- the marks are row k of the side's pattern
     pub loaded-marks : Holds n t s₁ (P k)
-    loaded-marks = record {
-      blocks = side-blocks i side t k window hi s₀ s₁ (o .begun .sound) (o .begun .inverse) (o .begun .space) (o .below) (o .held .fresh) loaded;
-      exact = side-set i side t k window hi s₀ s₁ (o .begun .sound) (o .begun .inverse) (o .begun .space) (o .below) (o .held .fresh) loaded;
-      last = loaded-fresh;
-    }
+    loaded-marks = side-holds i side t k window hi s₀ s₁ (o .begun .sound) (o .begun .inverse) (o .begun .space) (o .below) (o .held .fresh) loaded
 
     cut-slot : (side : Side) (j : ℕ) → j < k → (upperCuts n ≤ cutsOf side n + j) × (cutsOf side n + j < lowerCuts n + k)
     cut-slot Upper j l = let b = o .below in (omega arith, omega arith)
@@ -165,13 +141,13 @@ module _ (side : Side) (i : Input) (k t window : ℕ) (index runs lists s₀ : L
     pub loaded-cuts : Cuts P n k cuts s₁
     loaded-cuts = cuts-kept P n k cuts s₀ s₁ (λ j l. let w = cut-slot side j l in kept .cuts (cuts + j) (w .0) (w .1)) (o .held .cut)
 
-    pub loaded-parts : Parts n k s₁ cuts index runs
-    loaded-parts = held-parts P n k index runs lists (o .held .store) cuts s₁ loaded-cuts (omega (arith, o .below))
+    pub loaded-parts : Parts n k s₁ cuts runs index
+    loaded-parts = held-parts P n k lists runs index (o .held .store) cuts s₁ loaded-cuts (omega (arith, o .below))
 
     -- the slots of the order and of the other side
     load-foreign : (side : Side) → SideLoaded side n t k window hi (rowsIn i s₀) s₀ s₁ → Untouched n k s₀ s₁ → (q : ℕ) → Foreign side n q → getD s₁ q 0 ≡ getD s₀ q 0
     load-foreign Upper l u q f =
-        let w = unmarked-stamped n t s₀ (rowsIn i s₀ k) (side-below Upper n k (i .columns) (i .starts) (i .r) s₀ open-given (o .below)) in
+        let w = unmarked-stamped n t s₀ (rowsIn i s₀ k) (side-below Upper n k (i .starts) (i .columns) (i .r) s₀ open-given (o .below)) in
         rw (l .0) (w .slots q (λ a. omega (arith, f .0)) (λ a. omega (arith, f .0)))
     load-foreign Lower l u q f = u .cuts q (f .0) (omega (arith, f .1))
 
@@ -184,11 +160,11 @@ module _ (side : Side) (i : Input) (k t window : ℕ) (index runs lists s₀ : L
       foreign = load-foreign side loaded kept;
     }
 
-    module _ (u₂ : List ℕ) (below : ℕ) (closing : Closing n t k cuts index runs s₁ u₂ below) where
+    module _ (u₂ : List ℕ) (below : ℕ) (closing : Closing n t k cuts runs index s₁ u₂ below) where
       abbrev s₂ : List ℕ
       s₂ = closing .mid
 
-      abbrev closed : Closed n t k cuts index runs s₁ s₂
+      abbrev closed : Closed n t k cuts runs index s₁ s₂
       closed = closing .closed
 
       mid-marks : Holds n t s₂ (filled P k)
@@ -218,13 +194,13 @@ module _ (side : Side) (i : Input) (k t window : ℕ) (index runs lists s₀ : L
         others = listed-but P n k (listFrom n) s₂ s₃ below above listed fits (o .below)
 
         apart : Apart side n s₀ s₃
-        apart = apart-then loaded-apart (apart-then (apart-same side n s₁ s₂ (closing .size) (closed .same)) (apart-list side n (listFrom n + below + above) s₂ s₃ (size₃ ∙ sym (closing .size)) (omega (arith, short)) others))
+        apart = apart-then loaded-apart (apart-then (apart-unmarked side n s₁ s₂ (closed .same)) (apart-list side n (listFrom n + below + above) s₂ s₃ (size₃ ∙ sym (closing .size)) (omega (arith, short)) others))
 
         next-ready : (side : Side) → SideLoaded side n t k window hi (rowsIn i s₀) s₀ s₁ → rowsIn i s₃ ≡ rowsIn i s₀ → SideReady side n (k + 1) hi (rowsIn i s₃) s₃
         next-ready Upper l e = tt
         next-ready Lower l e =
             rw e (ready-kept (λ q a b c.
-            others q (λ w. omega (arith, short, c w)) ∙ closed .same q (record { past = omega arith; away = λ w. omega arith }))
+            others q (λ w. omega (arith, short, c w)) ∙ closed .same .slots q (λ w. omega arith) (λ w. omega arith))
             (l .ready))
 
         pub row-found : filled P k k ≡ true → RowFound side i k t s₀ s₃ (record { below = below; above = above; window = hi })
@@ -246,7 +222,7 @@ module _ (side : Side) (i : Input) (k t window : ℕ) (index runs lists s₀ : L
             keep-cut j l =
                 let w = cut-slot side j l in
                 let b = o .below in
-                others (cuts + j) (λ v. absurd (omega (arith, w .1))) ∙ closed .same (cuts + j) (record { past = omega (arith, w .0); away = λ v. omega (arith, w .0) }) ∙ kept .cuts (cuts + j) (w .0) (w .1)
+                others (cuts + j) (λ v. absurd (omega (arith, w .1))) ∙ closed .same .slots (cuts + j) (λ v. omega (arith, w .0)) (λ v. omega (arith, w .0)) ∙ kept .cuts (cuts + j) (w .0) (w .1)
 
 -- ---- by what the code reads
 
@@ -256,11 +232,11 @@ cuts-upper side n e = rw e
 pub cuts-lower : (side : Side) (n : ℕ) → side ≡ Lower → lowerCuts n ≡ cutsOf side n
 cuts-lower side n e = rw e
 
-pub parts-at : (n k : ℕ) (s : List ℕ) (a b : ℕ) (index runs : List ℕ) → a ≡ b → Parts n k s b index runs → Parts n k s a index runs
-parts-at n k s a b index runs e p = rw e p
+pub parts-at : (n k : ℕ) (s : List ℕ) (a b : ℕ) (runs index : List ℕ) → a ≡ b → Parts n k s b runs index → Parts n k s a runs index
+parts-at n k s a b runs index e p = rw e p
 
 pub base-at : (n a b : ℕ) → a ≡ b → Base n b → Base n a
 base-at n a b e p = rw e p
 
-pub closing-at : (n t k a b : ℕ) (index runs s u : List ℕ) (below : ℕ) → a ≡ b → Closing n t k a index runs s u below → Closing n t k b index runs s u below
-closing-at n t k a b index runs s u below e p = rw e at p
+pub closing-at : (n t k a b : ℕ) (runs index s u : List ℕ) (below : ℕ) → a ≡ b → Closing n t k a runs index s u below → Closing n t k b runs index s u below
+closing-at n t k a b runs index s u below e p = rw e at p

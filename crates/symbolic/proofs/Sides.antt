@@ -10,7 +10,7 @@ use Rattle.fill.specs.Fill.{lowerRow}
 use Rattle.matrix.specs.Input.{Input}
 use Rattle.marks.specs.Marks.{Room, Fresh}
 use Rattle.marks.specs.MarkLaws.{room-kept}
-use Rattle.marks.specs.Rows.{But}
+use Rattle.lent.specs.Reading.{But}
 use Rattle.columns.specs.Sides.{SideReady, rowsIn}
 use Rattle.placing.specs.declared.Way.{Way}
 use Rattle.placing.specs.declared.Way.the-variants.{Sharing}

@@ -14,7 +14,8 @@ use Rattle.base.specs.declared.Side.the-variants.{Lower}
 use Rattle.fill.specs.Fill.{Pattern, upperRow, lowerRow, flip}
 use Rattle.matrix.specs.Input.{Input, ic, stored}
 use Rattle.marks.specs.Marks.{Fresh}
-use Rattle.columns.specs.Columns.{orderOf, Started}
+use Rattle.lent.specs.Reading.{orderOf}
+use Rattle.columns.specs.Columns.{Started}
 use Rattle.columns.specs.Sides.{Sound, rowsIn}
 use Rattle.questions.specs.Settled.{Under, Distinct}
 use Rattle.questions.specs.Lent.{inverted, invertedAt, InverseLent}

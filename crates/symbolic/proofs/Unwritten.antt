@@ -120,7 +120,7 @@ module _ (f : Form) (side : Side) (v : keeps f side ≡ true) (i : Input) (low :
       (blank 0 (ofSide side low up)) _ _ _ _ _ _ _ _
       (held f side v i low lv up uv k ls lr li us ur ui s g h) (held f side v i low lv up uv m ls′ lr′ li′ us′ ur′ ui′ s′ g′ h′)
 
-  -- and place k leaves it so: `plain_place`, `row_place` and `shared_place` promise TurnEnds
+  -- and place k leaves it so: `analyze_place_plain`, `analyze_place_by_row` and `analyze_place_shared` promise TurnEnds
   pub turn-unwritten : TurnEnds f i low lv up uv k ls′ lr′ li′ us′ ur′ ui′ s′ (Next g′)
       → Unwritten k (ofSide side (g .lower) (g .upper) .used) (sideOf f side ls lr li us ur ui) (sideOf f side ls′ lr′ li′ us′ ur′ ui′)
   turn-unwritten h′ = unwritten (k + 1) (omega arith) h′

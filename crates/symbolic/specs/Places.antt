@@ -13,7 +13,8 @@ use Rattle.matrix.specs.Input.{Input, inputOf, stored}
 use Rattle.placement.specs.Placing.{plain}
 use Rattle.placement.specs.PlacingLaws.{room}
 use Rattle.marks.specs.Marks.{Room, Base, Fresh, Holds}
-use Rattle.marks.specs.Rows.{Stored, Cuts, Held, But, rowSteps}
+use Rattle.lent.specs.Reading.{But}
+use Rattle.marks.specs.Rows.{Stored, Cuts, Held, rowSteps}
 use Rattle.columns.specs.Sides.{sidePattern, SideReady, Inverse, Sound, rowsIn}
 use Rattle.placing.specs.Ways.{wayOf}
 use Rattle.placing.specs.Held.{Holding}
@@ -63,7 +64,7 @@ pub record Begun (i : Input) (s : List ℕ) : Type 0 where
 pub record Open (side : Side) (i : Input) (k t window : ℕ) (index runs starts s : List ℕ) : Type 0 where
   pub begun : Begun i s
   pub below : k < i .n
-  pub held : Held (patternOf side i) (i .n) k t (cutsOf side (i .n)) s index runs starts
+  pub held : Held (patternOf side i) (i .n) k t (cutsOf side (i .n)) s starts runs index
   pub ready : SideReady side (i .n) k window (rowsIn i s) s
 
 -- the same, for some column order and some list starts: neither is lent
@@ -120,11 +121,12 @@ pub record Keep (way : Way) (P : Pattern) (n k t cuts : ℕ) (store : List ℕ) 
   pub lists : Listing P n k t s (o .below) (o .above)
   pub at : ListsAt way P n k cuts store values starts runs index s e
 
--- the same, for some pattern and some store
-pub record Keeping (way : Way) (n k t cuts values : ℕ) (starts runs index s : List ℕ) (o : OpenRow) (e : Extent) : Type 0 where
+-- the same, for some pattern, store and stamp
+pub record Keeping (way : Way) (n k cuts values : ℕ) (starts runs index s : List ℕ) (o : OpenRow) (e : Extent) : Type 0 where
   pub pattern : Pattern
   pub store : List ℕ
-  pub keep : Keep way pattern n k t cuts store values starts runs index s o e
+  pub stamp : ℕ
+  pub keep : Keep way pattern n k stamp cuts store values starts runs index s o e
 
 pub record Kept (way : Way) (P : Pattern) (n k cuts : ℕ) (store : List ℕ) (values : ℕ) (starts runs index s₀ s : List ℕ) (e : Extent) : Type 0 where
   pub fits : room (wayOf way) (upperRow P n) (lowerRow P) (length store) values k ≡ true
@@ -166,7 +168,7 @@ pub record Adding (P : Pattern) (n k : ℕ) (index runs starts s : List ℕ) (co
   pub space : Room n s
   pub size : count ≡ length (lowerRow P k)
   pub list : take count (drop (listFrom n) s) ≡ lowerRow P k
-  pub store : Stored P n k index runs starts
+  pub store : Stored P n k starts runs index
   pub before : products ≡ sum k (rowSteps P n)
 
 -- the same, for some pattern, place, index store and run starts

@@ -87,8 +87,8 @@ fn open_place(
     starts: &[u32],
     columns: &[Index],
     r: &[Index],
-    index: &[Index],
     runs: &[u32],
+    index: &[Index],
     marks: &mut [u32],
     stamp: u32,
     k: Place,
@@ -98,9 +98,9 @@ fn open_place(
     ensures { λ o. ⌜ ((c lists : List ℕ) → Open side (inputOf n (now (starts .entry)) (now (columns .entry)) [] (now (r .entry)) c []) (k .0) stamp window (now (index .entry)) (now (runs .entry)) lists (now (marks .entry)) → OpenEnds side (inputOf n (now (starts .entry)) (now (columns .entry)) [] (now (r .entry)) c []) (k .0) stamp (now (marks .entry)) (now (marks .exit)) o) ⌝ }
 {
     let p = k.0 as usize;
-    let end = columns::load(side, marks, n, stamp, p, window, columns, starts, r);
+    let end = columns::load(side, marks, n, stamp, p, window, starts, columns, r);
     let cuts = cuts_of(side, n);
-    let below = marks::close_place(marks, n, stamp, k, cuts, index, runs);
+    let below = marks::close_place(marks, n, stamp, k, cuts, runs, index);
     if marks::has_diagonal(marks, stamp, k) {
         let above = marks::list_upper(marks, n, stamp, k, below);
         return Opened::Row(OpenRow {
@@ -113,21 +113,20 @@ fn open_place(
 }
 
 // T(k) goes into the stores in the sharing way, and the cuts for place k + 1 are made.
-fn keep_shared(
+fn share_list(
     n: usize,
     starts: &mut [u32],
     runs: &mut [u32],
     index: &mut [Index],
     values: usize,
     marks: &mut [u32],
-    stamp: u32,
     k: Place,
     cuts: usize,
     row: OpenRow,
     e: Extent,
 ) -> Put
-    requires { ⌜ Keeping Way.Sharing n (k .0) stamp cuts values (now starts) (now runs) (now index) (now marks) row e ⌝ }
-    ensures { λ o. ⌜ ((P : Pattern) (store : List ℕ) → Keep Way.Sharing P n (k .0) stamp cuts store values (now (starts .entry)) (now (runs .entry)) (now (index .entry)) (now (marks .entry)) row e → KeepEnds Way.Sharing P n (k .0) cuts store values (now (starts .exit)) (now (runs .exit)) (now (index .exit)) (now (marks .entry)) (now (marks .exit)) o) ⌝ }
+    requires { ⌜ Keeping Way.Sharing n (k .0) cuts values (now starts) (now runs) (now index) (now marks) row e ⌝ }
+    ensures { λ o. ⌜ ((P : Pattern) (store : List ℕ) (stamp : ℕ) → Keep Way.Sharing P n (k .0) stamp cuts store values (now (starts .entry)) (now (runs .entry)) (now (index .entry)) (now (marks .entry)) row e → KeepEnds Way.Sharing P n (k .0) cuts store values (now (starts .exit)) (now (runs .exit)) (now (index .exit)) (now (marks .entry)) (now (marks .exit)) o) ⌝ }
 {
     let at = scratch::LIST * n;
     let mid = at + row.below;
@@ -145,7 +144,7 @@ fn keep_shared(
     );
     match put {
         Put::Done(next) => {
-            marks::renew_cuts(marks, n, stamp, k, row.below, cuts, index, runs, starts);
+            marks::renew_cuts(marks, n, k, row.below, cuts, starts, runs, index);
             Put::Done(next)
         }
         Put::Full => Put::Full,
@@ -153,19 +152,18 @@ fn keep_shared(
 }
 
 // The same in the plain form.
-fn keep_plain(
+fn append_upper(
     n: usize,
     starts: &mut [u32],
     index: &mut [Index],
     values: usize,
     marks: &mut [u32],
-    stamp: u32,
     k: Place,
     row: OpenRow,
     e: Extent,
 ) -> Put
-    requires { ⌜ Keeping Way.OneAfterAnother n (k .0) stamp (upperCuts n) values (now starts) (now starts) (now index) (now marks) row e ⌝ }
-    ensures { λ o. ⌜ ((P : Pattern) (store : List ℕ) → Keep Way.OneAfterAnother P n (k .0) stamp (upperCuts n) store values (now (starts .entry)) (now (starts .entry)) (now (index .entry)) (now (marks .entry)) row e → KeepEnds Way.OneAfterAnother P n (k .0) (upperCuts n) store values (now (starts .exit)) (now (starts .exit)) (now (index .exit)) (now (marks .entry)) (now (marks .exit)) o) ⌝ }
+    requires { ⌜ Keeping Way.OneAfterAnother n (k .0) (upperCuts n) values (now starts) (now starts) (now index) (now marks) row e ⌝ }
+    ensures { λ o. ⌜ ((P : Pattern) (store : List ℕ) (stamp : ℕ) → Keep Way.OneAfterAnother P n (k .0) stamp (upperCuts n) store values (now (starts .entry)) (now (starts .entry)) (now (index .entry)) (now (marks .entry)) row e → KeepEnds Way.OneAfterAnother P n (k .0) (upperCuts n) store values (now (starts .exit)) (now (starts .exit)) (now (index .exit)) (now (marks .entry)) (now (marks .exit)) o) ⌝ }
 {
     let mid = scratch::LIST * n + row.below;
     let end = mid + row.above;
@@ -175,13 +173,12 @@ fn keep_plain(
             marks::renew_cuts(
                 marks,
                 n,
-                stamp,
                 k,
                 row.below,
                 scratch::UPPER_CUTS * n,
+                starts,
+                starts,
                 index,
-                starts,
-                starts,
             );
             Put::Done(next)
         }
@@ -190,7 +187,7 @@ fn keep_plain(
 }
 
 // Lower row k goes into the stores of the plain form.
-fn keep_lower(
+fn append_lower(
     n: usize,
     starts: &mut [u32],
     index: &mut [Index],
@@ -244,8 +241,8 @@ fn place_side(
         starts,
         columns,
         r,
-        side_index,
         side_runs,
+        side_index,
         marks,
         stamp,
         k,
@@ -255,14 +252,13 @@ fn place_side(
         return SideEnd::NoDiagonal;
     };
     let cuts = cuts_of(side, n);
-    let put = keep_shared(
+    let put = share_list(
         n,
         side_starts,
         side_runs,
         side_index,
         side_values,
         marks,
-        stamp,
         k,
         cuts,
         row,
@@ -290,12 +286,19 @@ fn begin_marks(n: usize, c: &[Index], marks: &mut [u32])
 }
 
 // The same, and the columns of M' can be handed out.
-fn begin_columns(n: usize, starts: &[u32], columns: &[Index], r: &[Index], c: &[Index], marks: &mut [u32])
+fn begin_columns(
+    n: usize,
+    starts: &[u32],
+    columns: &[Index],
+    r: &[Index],
+    c: &[Index],
+    marks: &mut [u32],
+)
     requires { ⌜ MatrixLent (inputOf n (now starts) (now columns) [] (now r) (now c) []) (length (now marks)) ⌝ }
     ensures { λ _. ⌜ ColumnsBegun (inputOf n (now (starts .entry)) (now (columns .entry)) [] (now (r .entry)) (now (c .entry)) []) (now (marks .exit)) ⌝ }
 {
     begin_marks(n, c, marks);
-    columns::start_columns(marks, n, columns, starts, r);
+    columns::start_columns(marks, n, starts, columns, r);
 }
 
 fn no_progress() -> Progress
@@ -329,7 +332,7 @@ fn counts_at(g: Progress) -> Counts
 // ---- the plain form
 
 // Place k: 9, 10 and 11 are asked, and its lists are placed.
-fn plain_place(
+fn analyze_place_plain(
     n: usize,
     starts: &[u32],
     columns: &[Index],
@@ -354,8 +357,8 @@ fn plain_place(
         starts,
         columns,
         r,
-        upper_index,
         upper_starts,
+        upper_index,
         marks,
         stamp,
         k,
@@ -364,7 +367,7 @@ fn plain_place(
     let Opened::Row(row) = opened else {
         return Turned::Stopped(Refusal::NullPivot(k));
     };
-    let low = keep_lower(
+    let low = append_lower(
         n,
         lower_starts,
         lower_index,
@@ -378,13 +381,12 @@ fn plain_place(
         return Turned::Stopped(Refusal::LowerSlots(k));
     };
     let products = add_products(n, upper_starts, marks, row.below, g.products);
-    let up = keep_plain(
+    let up = append_upper(
         n,
         upper_starts,
         upper_index,
         upper_values,
         marks,
-        stamp,
         k,
         row,
         g.upper,
@@ -401,7 +403,7 @@ fn plain_place(
 }
 
 // The plain form's structure: lower rows and T(k) one after another, and the counts.
-pub fn find_plain(
+pub fn analyze_plain(
     n: usize,
     starts: &[u32],
     columns: &[Index],
@@ -427,7 +429,7 @@ pub fn find_plain(
     let mut k = 0;
     while k < n {
         let place = Place(k as u32);
-        let turned = plain_place(
+        let turned = analyze_place_plain(
             n,
             starts,
             columns,
@@ -458,7 +460,7 @@ pub fn find_plain(
 // ---- the row form
 
 // Place k: 9 and 11 are asked, T(k) is placed, and the entries of lower row k are counted.
-fn row_place(
+fn analyze_place_by_row(
     n: usize,
     starts: &[u32],
     columns: &[Index],
@@ -513,7 +515,7 @@ fn row_place(
 }
 
 // The row form's structure: T(k) sharing runs, and the counts.
-pub fn find_row(
+pub fn analyze_by_row(
     n: usize,
     starts: &[u32],
     columns: &[Index],
@@ -535,7 +537,7 @@ pub fn find_row(
     let mut k = 0;
     while k < n {
         let place = Place(k as u32);
-        let turned = row_place(
+        let turned = analyze_place_by_row(
             n,
             starts,
             columns,
@@ -564,7 +566,7 @@ pub fn find_row(
 // ---- the shared form
 
 // Place k: 9, 10 and 11 are asked, and the lists of both sides are placed, the lower side's first.
-fn shared_place(
+fn analyze_place_shared(
     n: usize,
     starts: &[u32],
     columns: &[Index],
@@ -641,7 +643,7 @@ fn shared_place(
 }
 
 // The shared form's structure: columns of L and T(k), each side's sharing runs, and the counts.
-pub fn find_shared(
+pub fn analyze_shared(
     n: usize,
     starts: &[u32],
     columns: &[Index],
@@ -669,7 +671,7 @@ pub fn find_shared(
     let mut k = 0;
     while k < n {
         let place = Place(k as u32);
-        let turned = shared_place(
+        let turned = analyze_place_shared(
             n,
             starts,
             columns,

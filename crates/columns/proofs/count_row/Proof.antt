@@ -1,9 +1,11 @@
 use Rattle.columns.specs.Columns.{Counted}
 use Rattle.columns.proofs.WindowLaws.{count-start, count-more, count-end, count-room, one-counted}
-use Rattle.columns.specs.Columns.{orderOf, placed}
+use Rattle.lent.specs.ReadingLaws.{placed-length}
+use Rattle.marks.specs.MarkLaws.{entry-read, entry-below, room-kept}
+use Rattle.lent.specs.Reading.{orderOf, placed}
 use lib.ListN.{length, take}
 use Prim.Native.Nat.{_-_, _≤_}
-use Rattle.columns.proofs.Keeps.{space-kept, entry-read, entry-below, placed-length, order-kept}
+use Rattle.columns.proofs.Keeps.{order-kept}
 use borrow.Author.Needs.{needs}
 use native.Mathlib.Omega.{arith}
 use Rattle.columns.proofs.count_row.Statement.{statement}
@@ -22,7 +24,7 @@ entry-place-requires : tie.Need-entry-place-requires Inv-loop μ-loop
 entry-place-requires c κs =
     let l = c .before .before in
     let s = l .before .before .before in
-    (space-kept (l .loop .inv .1 .kept .size) (s .pre .0), (omega arith, s .pre .1 .1 .0 (l .loop .q) (omega arith)))
+    (omega arith, s .pre .1 .1 .0 (l .loop .q) (omega arith), room-kept _ _ _ (l .loop .inv .1 .kept .size) (s .pre .0))
 
 count-one-requires : tie.Need-count-one-requires Inv-loop μ-loop
 count-one-requires c κs =
@@ -32,13 +34,7 @@ count-one-requires c κs =
     let k = l .loop .inv .1 .kept in
     let e = entry-read (s .args .n) (l .loop .q) _ _ _ (s .args .cols .now) (omega arith) (order-kept (s .args .n) 0 (s .args .n) k) (w .entry-place .ensures) in
     let b = entry-below (s .args .n) (l .loop .q) _ _ (s .args .cols .now) (s .pre .1 .0) (s .pre .1 .1 .0) (e .0) (e .1) in
-    (space-kept (k .size) (s .pre .0), (b, omega (arith, s .pre .0 .small, count-room (l .loop .q) _ (e .0) (e .1) b (s .pre .1 .1 .1) (l .loop .inv .1))))
-
-add-q : tie.Need-add-q Inv-loop μ-loop
-add-q c = search needs
-
-loop-less : tie.Need-loop-less Inv-loop μ-loop
-loop-less c = search needs
+    (room-kept _ _ _ (k .size) (s .pre .0), (b, omega (arith, s .pre .0 .small, count-room (l .loop .q) _ (e .0) (e .1) b (s .pre .1 .1 .1) (l .loop .inv .1))))
 
 loop-again : tie.Need-loop-again Inv-loop μ-loop
 loop-again c =
@@ -49,28 +45,16 @@ loop-again c =
     let k = l .loop .inv .1 .kept in
     let e = entry-read (s .args .n) (l .loop .q) _ _ _ (s .args .cols .now) (omega arith) (order-kept (s .args .n) 0 (s .args .n) k) (w .entry-place .ensures) in
     let b = entry-below (s .args .n) (l .loop .q) _ _ (s .args .cols .now) (s .pre .1 .0) (s .pre .1 .1 .0) (e .0) (e .1) in
-    (omega arith, count-more (l .loop .q) _ (e .0) (e .1) (l .loop .inv .1) (one-counted (space-kept (k .size) (s .pre .0)) b (m .count-one .ensures)))
-
-same-length : tie.Need-same-length Inv-loop μ-loop
-same-length c = search needs
+    (omega arith, count-more (l .loop .q) _ (e .0) (e .1) (l .loop .inv .1) (one-counted (room-kept _ _ _ (k .size) (s .pre .0)) b (m .count-one .ensures)))
 
 returns : tie.Need-returns Inv-loop μ-loop
 returns c =
     let l = c .before in
     let s = l .before .before .before in
-    count-end (l .loop .q) _ (omega (arith, placed-length (orderOf (s .args .n) (s .args .s .now)) (s .args .cols .now))) (l .loop .inv .1)
+    count-end (l .loop .q) _ (omega (arith, placed-length (orderOf (s .args .n) (s .args .marks .now)) (s .args .cols .now))) (l .loop .inv .1)
 
 pub count-row-spec : {M : Type 1} → statement M
 count-row-spec =
     tie.close
-    (tie.spec
-    Inv-loop
-    μ-loop
-    loop-holds
-    entry-place-requires
-    count-one-requires
-    add-q
-    loop-less
-    loop-again
-    same-length
+    (tie.spec Inv-loop μ-loop loop-holds entry-place-requires count-one-requires (λ c. search needs) (λ c. search needs) loop-again (λ c. search needs)
     returns)

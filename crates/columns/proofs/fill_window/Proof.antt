@@ -1,5 +1,6 @@
 use Prim.Native.Nat.{_-_, _≤_}
-use Rattle.columns.specs.Columns.{orderOf, rowsOf}
+use Rattle.lent.specs.Reading.{orderOf}
+use Rattle.columns.specs.Columns.{rowsOf}
 use Rattle.columns.proofs.WindowLaws.{Filling, fill-start, fill-room, fill-more, fill-end}
 use Rattle.columns.proofs.Keeps.{row-is, row-below, order-kept, given-kept}
 use borrow.Author.Needs.{needs}
@@ -8,10 +9,10 @@ use Rattle.columns.proofs.fill_window.Statement.{statement}
 use Rattle.columns.proofs.fill_window.Tie as tie
 
 abbrev Inv-loop : tie.InvT-loop
-Inv-loop s₀ n lo hi columns starts r p₀ k₀ s p k = (k ≤ n) × Filling n lo hi k (rowsOf (orderOf n s₀) columns starts r) s₀ s p
+Inv-loop s₀ n lo hi starts columns r p₀ k₀ s p k = (k ≤ n) × Filling n lo hi k (rowsOf (orderOf n s₀) starts columns r) s₀ s p
 
 abbrev μ-loop : tie.MeasureT-loop
-μ-loop s₀ n lo hi columns starts r p₀ k₀ s p k = n - k
+μ-loop s₀ n lo hi starts columns r p₀ k₀ s p k = n - k
 
 loop-holds : tie.Need-loop-holds Inv-loop μ-loop
 loop-holds c = (omega arith, fill-start _ _ _ _ _ (c .before .before .before .before .pre .1 .1))
@@ -21,7 +22,7 @@ row-of-requires c κs =
     let l = c .before in
     let s = l .before .before .before .before .before in
     let g = s .pre .0 in
-    (omega (arith, g .long), g .read (l .loop .k) (omega arith))
+    ((omega (arith, g .long), omega (arith, g .space .small)), g .read (l .loop .k) (omega arith))
 
 offer-row-requires : tie.Need-offer-row-requires Inv-loop μ-loop
 offer-row-requires c κs =
@@ -35,12 +36,6 @@ offer-row-requires c κs =
     let e = row-is (a .n) (l .loop .k) _ _ (a .r .now) _ _ _ (w .row-of .ensures) o in
     (g .space, (row-below (w .row-of .ensures) (g .below (l .loop .k) (omega arith)), ((s .pre .1 .0 .0, omega arith), fill-room (omega arith) (s .pre .1 .0 .1) e f)))
 
-add-k : tie.Need-add-k Inv-loop μ-loop
-add-k c = search needs
-
-loop-less : tie.Need-loop-less Inv-loop μ-loop
-loop-less c = search needs
-
 loop-again : tie.Need-loop-again Inv-loop μ-loop
 loop-again c =
     let m = c .before .before in
@@ -51,9 +46,6 @@ loop-again c =
     let e = row-is (a .n) (l .loop .k) _ _ (a .r .now) _ _ _ (w .row-of .ensures) (order-kept (a .n) (a .lo) (a .hi) (f .kept)) in
     (omega arith, fill-more e f (m .offer-row .ensures))
 
-same-length : tie.Need-same-length Inv-loop μ-loop
-same-length c = search needs
-
 returns : tie.Need-returns Inv-loop μ-loop
 returns c =
     let l = c .before in
@@ -62,14 +54,4 @@ returns c =
 pub fill-window-spec : {M : Type 1} → statement M
 fill-window-spec =
     tie.close
-    (tie.spec
-    Inv-loop
-    μ-loop
-    loop-holds
-    row-of-requires
-    offer-row-requires
-    add-k
-    loop-less
-    loop-again
-    same-length
-    returns)
+    (tie.spec Inv-loop μ-loop loop-holds row-of-requires offer-row-requires (λ c. search needs) (λ c. search needs) loop-again (λ c. search needs) returns)

@@ -6,41 +6,29 @@ use borrow.Author.Needs.{needs}
 use Rattle.columns.proofs.load.Statement.{statement}
 use Rattle.columns.proofs.load.Tie as tie
 
-enum-told : tie.Need-enum-told
-enum-told c = search needs
-
 load-column-requires : tie.Need-load-column-requires
 load-column-requires c κs =
     let m = c .before in
     let s = m .before .before .before .before .before .before in
     (s .pre .0, (lower-ready _ _ _ _ _ (m .enum-told .given .1) (s .pre .1 .0), s .pre .1 .1))
 
-enum-told-2 : tie.Need-enum-told-2
-enum-told-2 c = search needs
-
 row-of-requires : tie.Need-row-of-requires
 row-of-requires c κs =
     let s = c .before .before .before .before .before .before in
     let g = s .pre .0 in
-    (omega (arith, g .long), g .read (s .args .k) (s .pre .1 .1))
+    ((omega (arith, g .long), omega (arith, g .space .small)), g .read (s .args .k) (s .pre .1 .1))
 
 load-row-requires : tie.Need-load-row-requires
 load-row-requires c κs =
     let w = c .before in
     let s = w .before .before .before .before .before .before .before in
     let g = s .pre .0 in
-    (g .space, (g .order, row-below (w .row-of .ensures) (g .below (s .args .k) (s .pre .1 .1))))
-
-same-length : tie.Need-same-length
-same-length c = search needs
+    (row-below (w .row-of .ensures) (g .below (s .args .k) (s .pre .1 .1)), (g .space, g .order))
 
 returns : tie.Need-returns
 returns c =
     let m = c .before .before in
     lower-loaded _ _ (m .before .before .enum-told .given .1) (m .load-column .ensures)
-
-same-length-2 : tie.Need-same-length-2
-same-length-2 c = search needs
 
 returns-2 : tie.Need-returns-2
 returns-2 c =
@@ -52,13 +40,5 @@ returns-2 c =
 pub load-spec : {M : Type 1} → statement M
 load-spec =
     tie.close
-    (tie.spec
-    enum-told
-    load-column-requires
-    enum-told-2
-    row-of-requires
-    load-row-requires
-    same-length
-    returns
-    same-length-2
-    returns-2)
+    (tie.spec (λ c. search needs) load-column-requires (λ c. search needs) row-of-requires load-row-requires (λ c. search needs) returns
+    (λ c. search needs) returns-2)

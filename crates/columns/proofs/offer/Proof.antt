@@ -20,9 +20,6 @@ add-result c =
     let s = c .before .before .before .before .before .before .before in
     omega (arith, offer-room (omega arith) (omega arith) (s .pre .1 .1))
 
-same-length : tie.Need-same-length
-same-length c = search needs
-
 returns-3 : tie.Need-returns-3
 returns-3 c =
     let p = c .before .before in
@@ -31,4 +28,5 @@ returns-3 c =
 
 pub offer-spec : {M : Type 1} → statement M
 offer-spec =
-    tie.close (tie.spec returns returns-2 push-node-requires add-result same-length returns-3)
+    tie.close
+    (tie.spec returns returns-2 push-node-requires add-result (λ c. search needs) returns-3)

@@ -1,8 +1,11 @@
-use Rattle.columns.specs.Columns.{orderOf, placed, Offered}
+use Rattle.lent.specs.ReadingLaws.{placed-length}
+use Rattle.marks.specs.MarkLaws.{entry-read, room-kept}
+use Rattle.lent.specs.Reading.{orderOf, placed}
+use Rattle.columns.specs.Columns.{Offered}
 use lib.ListN.{length, take}
 use Prim.Native.Nat.{_-_, _≤_}
 use Rattle.columns.proofs.ListLaws.{row-start, row-more, row-room, row-end}
-use Rattle.columns.proofs.Keeps.{order-kept, space-kept, entry-read, placed-length}
+use Rattle.columns.proofs.Keeps.{order-kept}
 use borrow.Author.Needs.{needs}
 use native.Mathlib.Omega.{arith}
 use Rattle.columns.proofs.offer_row.Statement.{statement}
@@ -21,7 +24,7 @@ entry-place-requires : tie.Need-entry-place-requires Inv-loop μ-loop
 entry-place-requires c κs =
     let l = c .before .before in
     let s = l .before .before .before in
-    (space-kept (l .loop .inv .1 .kept .size) (s .pre .0), (omega arith, s .pre .1 .0 (l .loop .q) (omega arith)))
+    (omega arith, s .pre .1 .0 (l .loop .q) (omega arith), room-kept _ _ _ (l .loop .inv .1 .kept .size) (s .pre .0))
 
 offer-requires : tie.Need-offer-requires Inv-loop μ-loop
 offer-requires c κs =
@@ -30,13 +33,7 @@ offer-requires c κs =
     let s = l .before .before .before in
     let k = l .loop .inv .1 .kept in
     let e = entry-read (s .args .n) (l .loop .q) _ _ _ (s .args .cols .now) (omega arith) (order-kept (s .args .n) (s .args .lo) (s .args .hi) k) (w .entry-place .ensures) in
-    (space-kept (k .size) (s .pre .0), (s .pre .1 .1 .0, row-room (l .loop .q) _ (e .0) (e .1) (s .pre .1 .1 .1) (l .loop .inv .1)))
-
-add-q : tie.Need-add-q Inv-loop μ-loop
-add-q c = search needs
-
-loop-less : tie.Need-loop-less Inv-loop μ-loop
-loop-less c = search needs
+    (room-kept _ _ _ (k .size) (s .pre .0), (s .pre .1 .1 .0, row-room (l .loop .q) _ (e .0) (e .1) (s .pre .1 .1 .1) (l .loop .inv .1)))
 
 loop-again : tie.Need-loop-again Inv-loop μ-loop
 loop-again c =
@@ -48,26 +45,13 @@ loop-again c =
     let e = entry-read (s .args .n) (l .loop .q) _ _ _ (s .args .cols .now) (omega arith) (order-kept (s .args .n) (s .args .lo) (s .args .hi) k) (w .entry-place .ensures) in
     (omega arith, row-more (l .loop .q) _ (e .0) (e .1) (l .loop .inv .1) (m .offer .ensures))
 
-same-length : tie.Need-same-length Inv-loop μ-loop
-same-length c = search needs
-
 returns : tie.Need-returns Inv-loop μ-loop
 returns c =
     let l = c .before in
     let s = l .before .before .before in
-    row-end (l .loop .q) _ (omega (arith, placed-length (orderOf (s .args .n) (s .args .s .now)) (s .args .cols .now))) (l .loop .inv .1)
+    row-end (l .loop .q) _ (omega (arith, placed-length (orderOf (s .args .n) (s .args .marks .now)) (s .args .cols .now))) (l .loop .inv .1)
 
 pub offer-row-spec : {M : Type 1} → statement M
 offer-row-spec =
     tie.close
-    (tie.spec
-    Inv-loop
-    μ-loop
-    loop-holds
-    entry-place-requires
-    offer-requires
-    add-q
-    loop-less
-    loop-again
-    same-length
-    returns)
+    (tie.spec Inv-loop μ-loop loop-holds entry-place-requires offer-requires (λ c. search needs) (λ c. search needs) loop-again (λ c. search needs) returns)

@@ -4,18 +4,12 @@ use borrow.Author.Needs.{needs}
 use Rattle.columns.proofs.start_columns.Statement.{statement}
 use Rattle.columns.proofs.start_columns.Tie as tie
 
-clear-heads-requires : tie.Need-clear-heads-requires
-clear-heads-requires c κs = search needs
-
 count-columns-requires : tie.Need-count-columns-requires
 count-columns-requires c κs =
     let h = c .before .before .before in
     let s = h .before .before .before .before .before .before in
     let t = h .clear-heads .ensures in
     (given-kept (t .kept .size) (order-kept _ 0 _ (t .kept)) (s .pre), t .counts)
-
-same-length : tie.Need-same-length
-same-length c = search needs
 
 returns : tie.Need-returns
 returns c =
@@ -25,4 +19,5 @@ returns c =
 
 pub start-columns-spec : {M : Type 1} → statement M
 start-columns-spec =
-    tie.close (tie.spec clear-heads-requires count-columns-requires same-length returns)
+    tie.close
+    (tie.spec (λ c κs. search needs) count-columns-requires (λ c. search needs) returns)

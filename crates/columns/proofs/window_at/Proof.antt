@@ -5,12 +5,6 @@ use borrow.Author.Needs.{needs}
 use Rattle.columns.proofs.window_at.Statement.{statement}
 use Rattle.columns.proofs.window_at.Tie as tie
 
-returns : tie.Need-returns
-returns c = search needs
-
-open-window-requires : tie.Need-open-window-requires
-open-window-requires c κs = search needs
-
 fill-window-requires : tie.Need-fill-window-requires
 fill-window-requires c κs =
     let o = c .before .before .before in
@@ -20,9 +14,6 @@ fill-window-requires c κs =
       given-kept (e .kept .size) q (s .pre .0),
       ((e .most, window-fits (rows-same _ _ _ _ _ _ q) (omega arith) (s .pre .1 .0) e), e .zero),
     )
-
-same-length : tie.Need-same-length
-same-length c = search needs
 
 returns-2 : tie.Need-returns-2
 returns-2 c =
@@ -34,4 +25,5 @@ returns-2 c =
 
 pub window-at-spec : {M : Type 1} → statement M
 window-at-spec =
-    tie.close (tie.spec returns open-window-requires fill-window-requires same-length returns-2)
+    tie.close
+    (tie.spec (λ c. search needs) (λ c κs. search needs) fill-window-requires (λ c. search needs) returns-2)

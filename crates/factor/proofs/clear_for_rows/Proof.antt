@@ -6,11 +6,6 @@ use Rattle.questions.specs.Lent.{invertedAt}
 use borrow.Author.Needs.{needs}
 use Rattle.factor.proofs.clear_for_rows.Statement.{statement}
 use Rattle.factor.proofs.clear_for_rows.Tie as tie
-use Rattle.factor.proofs.clear_for_rows.Reads as reads
-use Rattle.factor.proofs.clear_for_rows.Lts as lts
-use Rattle.base.proofs.clear_f64.Reads as clear-f64-reads
-use Rattle.base.proofs.clear_u32.Reads as clear-u32-reads
-use Rattle.questions.proofs.invert_at.Reads as invert-at-reads
 
 returns : tie.Need-returns
 returns c =

@@ -9,16 +9,6 @@ use denote.Ref.{now}
 use borrow.Author.Needs.{needs}
 use Rattle.factor.proofs.close_at.Statement.{statement}
 use Rattle.factor.proofs.close_at.Tie as tie
-use Rattle.factor.proofs.close_at.Reads as reads
-use Rattle.factor.proofs.close_at.Lts as lts
-use Rattle.factor.proofs.lower_part.Reads as lower-part-reads
-use Rattle.numeric.proofs.close_row.Reads as close-row-reads
-
-cast-place : tie.Need-cast-place
-cast-place c = search needs
-
-lower-part-requires : tie.Need-lower-part-requires
-lower-part-requires c κs = search needs
 
 close-row-requires : tie.Need-close-row-requires
 close-row-requires c κs =
@@ -26,12 +16,6 @@ close-row-requires c κs =
     let a = s .args in
     subst (λ (l : List ℕ). Closable (a .n) (a .k .0) (length (now (a .work))) l (now (a .upper-starts)) (now (a .upper-runs)) (now (a .upper-index)) (length (now (a .d))))
     (sym (c .before .before .lower-part .ensures)) (s .pre .1)
-
-same-length : tie.Need-same-length
-same-length c = search needs
-
-same-length-2 : tie.Need-same-length-2
-same-length-2 c = search needs
 
 returns : tie.Need-returns
 returns c =
@@ -43,4 +27,4 @@ returns c =
 pub close-at-spec : {M : Type 1} → statement M
 close-at-spec =
     tie.close
-    (tie.spec cast-place lower-part-requires close-row-requires same-length same-length-2 returns)
+    (tie.spec (λ c. search needs) (λ c κs. search needs) close-row-requires (λ c. search needs) (λ c. search needs) returns)

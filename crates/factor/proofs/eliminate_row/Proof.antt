@@ -5,11 +5,6 @@ use mathlib.Core.Path.{_∙_}
 use borrow.Author.Needs.{needs}
 use Rattle.factor.proofs.eliminate_row.Statement.{statement}
 use Rattle.factor.proofs.eliminate_row.Tie as tie
-use Rattle.factor.proofs.eliminate_row.Reads as reads
-use Rattle.factor.proofs.eliminate_row.Lts as lts
-use Rattle.factor.proofs.close_at.Reads as close-at-reads
-use Rattle.factor.proofs.keep_at.Reads as keep-at-reads
-use Rattle.factor.proofs.reduce_at.Reads as reduce-at-reads
 
 reduce-at-requires : tie.Need-reduce-at-requires
 reduce-at-requires c κs = let s = c .before .before .before .before .before .before .before .before .before .before .before .before .before .before .before .before .before .before in (s .pre .1 .0, row-ready (s .args .form) (s .pre .1 .1) (s .pre .0))

@@ -9,10 +9,6 @@ use borrow.Author.Needs.{needs}
 use native.Mathlib.Omega.{arith}
 use Rattle.factor.proofs.eliminate_rows.Statement.{statement}
 use Rattle.factor.proofs.eliminate_rows.Tie as tie
-use Rattle.factor.proofs.eliminate_rows.Reads as reads
-use Rattle.factor.proofs.eliminate_rows.Lts as lts
-use Rattle.factor.proofs.met_fault.Reads as met-fault-reads
-use Rattle.factor.proofs.eliminate_row.Reads as eliminate-row-reads
 
 abbrev Inv-loop : tie.InvT-loop
 Inv-loop form n starts columns values r b lstarts lindex lvalues₀ ustarts uruns uindex uvalues₀ d₀ work₀ marks₀ k₀ lvalues uvalues d work marks k =

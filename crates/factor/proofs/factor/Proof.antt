@@ -7,12 +7,6 @@ use denote.Ref.{now}
 use borrow.Author.Needs.{needs}
 use Rattle.factor.proofs.factor.Statement.{statement}
 use Rattle.factor.proofs.factor.Tie as tie
-use Rattle.factor.proofs.factor.Reads as reads
-use Rattle.factor.proofs.factor.Lts as lts
-use Rattle.factor.proofs.clear_for_rows.Reads as clear-for-rows-reads
-use Rattle.factor.proofs.met_fault.Reads as met-fault-reads
-use Rattle.factor.proofs.eliminate_rows.Reads as eliminate-rows-reads
-use Rattle.factor.proofs.solve_back.Reads as solve-back-reads
 
 abbrev Begin : tie.After-clear-for-rows → tie.Start
 Begin q = q .before .before .before .before .before .before .before .before .before .before .before .before .before .before .before .before .before .before .before .before .before

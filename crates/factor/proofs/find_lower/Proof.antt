@@ -4,17 +4,6 @@ use Rattle.marks.specs.MarkLaws.{room-kept}
 use borrow.Author.Needs.{needs}
 use Rattle.factor.proofs.find_lower.Statement.{statement}
 use Rattle.factor.proofs.find_lower.Tie as tie
-use Rattle.factor.proofs.find_lower.Reads as reads
-use Rattle.factor.proofs.find_lower.Lts as lts
-use Rattle.marks.proofs.close_place.Reads as close-place-reads
-use Rattle.marks.proofs.load_row_place.Reads as load-row-place-reads
-use Rattle.marks.proofs.renew_cuts.Reads as renew-cuts-reads
-
-add-stamp : tie.Need-add-stamp
-add-stamp c = search needs
-
-mul-cuts : tie.Need-mul-cuts
-mul-cuts c = search needs
 
 load-row-place-requires : tie.Need-load-row-place-requires
 load-row-place-requires c κs =
@@ -36,7 +25,7 @@ renew-cuts-requires c κs =
       F .store .read,
       (
         (F .place, base-at _, room-kept (s .args .n) (l .last .0) (q .last .0) (q .kept .0) (room-kept (s .args .n) (now (s .args .marks)) (l .last .0) (l .kept .0) (F .room))),
-        cut-members F (l .ensures) (l .kept .0) (q .ensures) (q .kept .0),
+        record { stamp = _; list = cut-members F (l .ensures) (l .kept .0) (q .ensures) (q .kept .0) },
       ),
     )
 
@@ -45,8 +34,9 @@ returns c P F =
     let l = c .before .before .before .before .before .before .before .before .before .before .load-row-place in
     let q = c .before .before .before .before .before .before .close-place in
     let e = c .before .before .renew-cuts in
-    found F (l .ensures) (l .kept .0) (q .ensures) (q .kept .0) (e .ensures) (e .kept .0)
+    found F (l .ensures) (l .kept .0) (q .ensures) (q .kept .0) (e .ensures _ (cut-members F (l .ensures) (l .kept .0) (q .ensures) (q .kept .0))) (e .kept .0)
 
 pub find-lower-spec : {M : Type 1} → statement M
 find-lower-spec =
-    tie.close (tie.spec add-stamp mul-cuts load-row-place-requires close-place-requires renew-cuts-requires (λ c. search needs) returns)
+    tie.close
+    (tie.spec (λ c. search needs) (λ c. search needs) load-row-place-requires close-place-requires renew-cuts-requires (λ c. search needs) returns)

@@ -7,10 +7,6 @@ use denote.Ref.{now}
 use borrow.Author.Needs.{needs}
 use Rattle.factor.proofs.keep_at.Statement.{statement}
 use Rattle.factor.proofs.keep_at.Tie as tie
-use Rattle.factor.proofs.keep_at.Reads as reads
-use Rattle.factor.proofs.keep_at.Lts as lts
-use Rattle.factor.proofs.keep_plain.Reads as keep-plain-reads
-use Rattle.factor.proofs.keep_shared.Reads as keep-shared-reads
 
 keep-plain-requires : tie.Need-keep-plain-requires
 unfolding KeepAsked

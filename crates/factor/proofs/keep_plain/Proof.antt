@@ -11,26 +11,6 @@ use denote.Ref.{now}
 use borrow.Author.Needs.{needs}
 use Rattle.factor.proofs.keep_plain.Statement.{statement}
 use Rattle.factor.proofs.keep_plain.Tie as tie
-use Rattle.factor.proofs.keep_plain.Reads as reads
-use Rattle.factor.proofs.keep_plain.Lts as lts
-use Rattle.factor.proofs.lower_part.Reads as lower-part-reads
-use Rattle.base.proofs.slot.Reads as slot-reads
-use Rattle.numeric.proofs.keep_by_rows.Reads as keep-by-rows-reads
-
-cast-place : tie.Need-cast-place
-cast-place c = search needs
-
-lower-part-requires : tie.Need-lower-part-requires
-lower-part-requires c κs = search needs
-
-mul-slot : tie.Need-mul-slot
-mul-slot c = search needs
-
-shared-slice-read-slot : tie.Need-shared-slice-read-slot
-shared-slice-read-slot c = search needs
-
-slot-requires : tie.Need-slot-requires
-slot-requires c κs = search needs
 
 slice-aggregate-keep-by-rows : tie.Need-slice-aggregate-keep-by-rows
 slice-aggregate-keep-by-rows c =
@@ -44,9 +24,6 @@ keep-by-rows-requires c κs =
     keep-ready (a .n) (a .k .0) (a .below) (now (a .lower-starts)) (length (now (a .lower-values))) (now (a .work)) (now (a .marks)) (c .before .before .slot .result) (now (c .before .before .before .before .lower-part .result))
     (c .before .before .slot .ensures .0) (c .before .before .before .before .lower-part .ensures) (s .pre .0) (s .pre .1)
 
-same-length : tie.Need-same-length
-same-length c = search needs
-
 returns : tie.Need-returns
 returns c =
     let s = c .before .before .before .before .before .before .before .before .before .before .before .before .before in
@@ -57,13 +34,5 @@ returns c =
 pub keep-plain-spec : {M : Type 1} → statement M
 keep-plain-spec =
     tie.close
-    (tie.spec
-    cast-place
-    lower-part-requires
-    mul-slot
-    shared-slice-read-slot
-    slot-requires
-    slice-aggregate-keep-by-rows
-    keep-by-rows-requires
-    same-length
-    returns)
+    (tie.spec (λ c. search needs) (λ c κs. search needs) (λ c. search needs) (λ c. search needs) (λ c κs. search needs) slice-aggregate-keep-by-rows keep-by-rows-requires
+    (λ c. search needs) returns)

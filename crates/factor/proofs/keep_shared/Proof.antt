@@ -4,9 +4,6 @@ use native.Mathlib.Omega.{arith}
 use borrow.Author.Needs.{needs}
 use Rattle.factor.proofs.keep_shared.Statement.{statement}
 use Rattle.factor.proofs.keep_shared.Tie as tie
-use Rattle.factor.proofs.keep_shared.Reads as reads
-use Rattle.factor.proofs.keep_shared.Lts as lts
-use Rattle.base.proofs.slot.Reads as slot-reads
 
 abbrev Inv-loop : tie.InvT-loop
 Inv-loop n lstarts lvalues₀ w marks₀ below cursors lower p₀ lvalues marks p = Spreading n below lstarts w marks₀ lvalues₀ marks lvalues p
@@ -23,17 +20,8 @@ mul-lower c = omega (arith, c .before .before .before .before .pre .1 .lower .fe
 loop-holds : tie.Need-loop-holds Inv-loop μ-loop
 loop-holds c = spreading-start _ _ _ _ _ _
 
-add-slot : tie.Need-add-slot Inv-loop μ-loop
-add-slot c = search needs
-
-mul-slot : tie.Need-mul-slot Inv-loop μ-loop
-mul-slot c = search needs
-
 slice-read-slot : tie.Need-slice-read-slot Inv-loop μ-loop
 slice-read-slot c = omega (arith, c .before .before .before .before .before .before .before .pre .1 .lower .room, c .before .before .loop .inv .size, c .before .loop-test .taken)
-
-slot-requires : tie.Need-slot-requires Inv-loop μ-loop
-slot-requires c κs = search needs
 
 add-used : tie.Need-add-used Inv-loop μ-loop
 add-used c = omega (arith, c .before .before .before .before .before .before .before .before .pre .1 .lower .few, c .slot .ensures .1)
@@ -44,29 +32,14 @@ mul-used c = omega (arith, c .before .before .before .before .before .before .be
 slice-read-used : tie.Need-slice-read-used Inv-loop μ-loop
 slice-read-used c = omega (arith, c .before .before .before .before .before .before .before .before .before .pre .1 .lower .room, c .before .before .before .before .loop .inv .size, column-in (c .before .before .before .before .before .before .before .before .before .pre .1) (c .before .before .before .before .loop .inv) (c .before .before .before .loop-test .taken) _ (c .before .slot .ensures .0))
 
-mul-slot-2 : tie.Need-mul-slot-2 Inv-loop μ-loop
-mul-slot-2 c = search needs
-
 shared-slice-read-slot : tie.Need-shared-slice-read-slot Inv-loop μ-loop
 shared-slice-read-slot c = omega (arith, c .before .before .before .before .before .before .before .before .before .before .pre .1 .start, column-in (c .before .before .before .before .before .before .before .before .before .before .pre .1) (c .before .before .before .before .before .loop .inv) (c .before .before .before .before .loop-test .taken) _ (c .before .before .slot .ensures .0))
-
-slot-requires-2 : tie.Need-slot-requires-2 Inv-loop μ-loop
-slot-requires-2 c κs = search needs
-
-mul-lower-values : tie.Need-mul-lower-values Inv-loop μ-loop
-mul-lower-values c = search needs
 
 shared-slice-read-lower-values : tie.Need-shared-slice-read-lower-values Inv-loop μ-loop
 shared-slice-read-lower-values c = omega (arith, c .before .before .before .before .before .before .before .before .before .before .before .before .pre .0, column-in (c .before .before .before .before .before .before .before .before .before .before .before .before .pre .1) (c .before .before .before .before .before .before .before .loop .inv) (c .before .before .before .before .before .before .loop-test .taken) _ (c .before .before .before .before .slot .ensures .0))
 
-slot-requires-3 : tie.Need-slot-requires-3 Inv-loop μ-loop
-slot-requires-3 c κs = search needs
-
 add-lower-values : tie.Need-add-lower-values Inv-loop μ-loop
 add-lower-values c = omega (arith, c .slot3 .ensures .1, c .before .before .slot2 .ensures .1)
-
-mul-lower-values-2 : tie.Need-mul-lower-values-2 Inv-loop μ-loop
-mul-lower-values-2 c = search needs
 
 slice-write-lower-values : tie.Need-slice-write-lower-values Inv-loop μ-loop
 slice-write-lower-values c = slot-in (c .before .before .before .before .before .before .before .before .before .before .before .before .before .pre .1) (c .before .before .before .before .before .before .before .before .loop .inv) (c .before .before .before .before .before .before .before .loop-test .taken) _ (c .before .before .before .before .before .slot .ensures .0) _ _ (c .before .before .slot2 .ensures .0) (c .slot3 .ensures .0)
@@ -82,9 +55,6 @@ mul-marks c = omega (arith, c .before .before .before .before .before .before .b
 
 slice-write-marks : tie.Need-slice-write-marks Inv-loop μ-loop
 slice-write-marks c = omega (arith, c .before .before .before .before .before .before .before .before .before .before .before .before .before .pre .1 .lower .room, c .before .before .before .before .before .before .before .before .loop .inv .size, column-in (c .before .before .before .before .before .before .before .before .before .before .before .before .before .pre .1) (c .before .before .before .before .before .before .before .before .loop .inv) (c .before .before .before .before .before .before .before .loop-test .taken) _ (c .before .before .before .before .before .slot .ensures .0))
-
-add-p : tie.Need-add-p Inv-loop μ-loop
-add-p c = search needs
 
 loop-less : tie.Need-loop-less Inv-loop μ-loop
 loop-less c = omega (arith, c .before .before .before .before .before .before .before .loop-test .taken)
@@ -104,35 +74,7 @@ returns c = spreading-end (c .before .loop .inv) (c .before .before .before .bef
 pub keep-shared-spec : {M : Type 1} → statement M
 keep-shared-spec =
     tie.close
-    (tie.spec
-    Inv-loop
-    μ-loop
-    mul-cursors
-    mul-lower
-    loop-holds
-    add-slot
-    mul-slot
-    slice-read-slot
-    slot-requires
-    add-used
-    mul-used
-    slice-read-used
-    mul-slot-2
-    shared-slice-read-slot
-    slot-requires-2
-    mul-lower-values
-    shared-slice-read-lower-values
-    slot-requires-3
-    add-lower-values
-    mul-lower-values-2
-    slice-write-lower-values
-    add-marks
-    add-marks-2
-    mul-marks
-    slice-write-marks
-    add-p
-    loop-less
-    loop-again
-    same-length
-    same-length-2
-    returns)
+    (tie.spec Inv-loop μ-loop mul-cursors mul-lower loop-holds (λ c. search needs) (λ c. search needs) slice-read-slot (λ c κs. search needs) add-used mul-used
+    slice-read-used (λ c. search needs) shared-slice-read-slot (λ c κs. search needs) (λ c. search needs) shared-slice-read-lower-values (λ c κs. search needs)
+    add-lower-values (λ c. search needs) slice-write-lower-values add-marks add-marks-2 mul-marks slice-write-marks (λ c. search needs) loop-less loop-again same-length
+    same-length-2 returns)

@@ -4,21 +4,10 @@ use mathlib.Core.Bool.{true, false}
 use borrow.Author.Needs.{needs}
 use Rattle.factor.proofs.lower_at.Statement.{statement}
 use Rattle.factor.proofs.lower_at.Tie as tie
-use Rattle.factor.proofs.lower_at.Reads as reads
-use Rattle.factor.proofs.lower_at.Lts as lts
-use Rattle.factor.proofs.find_lower.Reads as find-lower-reads
-use Rattle.factor.proofs.lower_plain.Reads as lower-plain-reads
-use Rattle.factor.proofs.reads_lower.Reads as reads-lower-reads
-
-reads-lower-requires : tie.Need-reads-lower-requires
-reads-lower-requires c κs = search needs
 
 lower-plain-requires : tie.Need-lower-plain-requires
 unfolding LowerAsked
 lower-plain-requires c κs = asked-as (c .before .before .before .before .before .before .before .before .before .before .before .before .args .form) _ _ _ _ _ _ _ (c .before .before .reads-lower .result) true (c .before .before .reads-lower .ensures) (c .before .if1 .taken) (c .before .before .before .before .before .before .before .before .before .before .before .before .pre)
-
-same-length : tie.Need-same-length
-same-length c = search needs
 
 returns : tie.Need-returns
 unfolding LowerGiven
@@ -28,9 +17,6 @@ find-lower-requires : tie.Need-find-lower-requires
 unfolding LowerAsked
 find-lower-requires c κs = asked-as (c .before .before .before .before .before .before .before .before .before .before .before .before .args .form) _ _ _ _ _ _ _ (c .before .before .reads-lower .result) false (c .before .before .reads-lower .ensures) (c .before .if1 .left) (c .before .before .before .before .before .before .before .before .before .before .before .before .pre)
 
-same-length-2 : tie.Need-same-length-2
-same-length-2 c = search needs
-
 returns-2 : tie.Need-returns-2
 unfolding LowerGiven
 returns-2 c = given-as (c .before .before .before .before .before .before .before .before .before .before .before .before .before .before .before .args .form) _ _ _ _ _ _ _ _ _ (c .before .before .before .before .before .reads-lower .result) false (c .before .before .before .before .before .reads-lower .ensures) (c .before .before .before .before .if1 .left) (c .before .before .find-lower .ensures)
@@ -38,11 +24,4 @@ returns-2 c = given-as (c .before .before .before .before .before .before .befor
 pub lower-at-spec : {M : Type 1} → statement M
 lower-at-spec =
     tie.close
-    (tie.spec
-    reads-lower-requires
-    lower-plain-requires
-    same-length
-    returns
-    find-lower-requires
-    same-length-2
-    returns-2)
+    (tie.spec (λ c κs. search needs) lower-plain-requires (λ c. search needs) returns find-lower-requires (λ c. search needs) returns-2)

@@ -7,27 +7,11 @@ use native.Mathlib.Omega.{arith}
 use borrow.Author.Needs.{needs}
 use Rattle.factor.proofs.lower_plain.Statement.{statement}
 use Rattle.factor.proofs.lower_plain.Tie as tie
-use Rattle.factor.proofs.lower_plain.Reads as reads
-use Rattle.factor.proofs.lower_plain.Lts as lts
-use Rattle.factor.proofs.copy_list.Reads as copy-list-reads
-use Rattle.lent.proofs.list_at.Reads as list-at-reads
-
-cast-place : tie.Need-cast-place
-cast-place c = search needs
-
-list-at-requires : tie.Need-list-at-requires
-list-at-requires c κs = search needs
-
-mul-copy-list : tie.Need-mul-copy-list
-mul-copy-list c = search needs
 
 copy-list-requires : tie.Need-copy-list-requires
 copy-list-requires c κs =
     let s = c .before .before .before .before .before .before in
     omega (arith, s .pre .1 .room, ap length (c .before .list-at .ensures))
-
-same-length : tie.Need-same-length
-same-length c = search needs
 
 returns : tie.Need-returns
 returns c =
@@ -38,4 +22,4 @@ returns c =
 pub lower-plain-spec : {M : Type 1} → statement M
 lower-plain-spec =
     tie.close
-    (tie.spec cast-place list-at-requires mul-copy-list copy-list-requires same-length returns)
+    (tie.spec (λ c. search needs) (λ c κs. search needs) (λ c. search needs) copy-list-requires (λ c. search needs) returns)

@@ -11,15 +11,6 @@ use denote.Ref.{now}
 use borrow.Author.Needs.{needs}
 use Rattle.factor.proofs.reduce_at.Statement.{statement}
 use Rattle.factor.proofs.reduce_at.Tie as tie
-use Rattle.factor.proofs.reduce_at.Reads as reads
-use Rattle.factor.proofs.reduce_at.Lts as lts
-use Rattle.factor.proofs.lower_at.Reads as lower-at-reads
-use Rattle.factor.proofs.lower_part.Reads as lower-part-reads
-use Rattle.lent.proofs.own_row.Reads as own-row-reads
-use Rattle.lent.proofs.row_columns.Reads as row-columns-reads
-use Rattle.lent.proofs.row_right.Reads as row-right-reads
-use Rattle.lent.proofs.row_values.Reads as row-values-reads
-use Rattle.numeric.proofs.reduce_row.Reads as reduce-row-reads
 
 abbrev Begin : tie.After-lower-at → tie.Start
 Begin c = c .before .before .before .before .before .before .before .before .before .before .before .before .before .before .before

@@ -1,25 +1,12 @@
 use Rattle.factor.specs.EndLaws.{stopped-below, complete-at, stopped-at}
 use Rattle.numeric.specs.Stores.{storeGiven}
-use Prim.Native.Nat.{_+_}
 use lib.ListN.{drop}
 use denote.Ref.{now}
 use native.Mathlib.Omega.{arith}
 use borrow.Author.Needs.{needs}
 use Rattle.factor.proofs.solve_back.Statement.{statement}
 use Rattle.factor.proofs.solve_back.Tie as tie
-use Rattle.factor.proofs.solve_back.Reads as reads
-use Rattle.factor.proofs.solve_back.Lts as lts
-use Rattle.numeric.proofs.back_steps.Reads as back-steps-reads
 use Rattle.base.specs.Scratch.{zFrom}
-
-back-steps-requires : tie.Need-back-steps-requires
-back-steps-requires c κs = search needs
-
-enum-told : tie.Need-enum-told
-enum-told c = search needs
-
-enum-known-z : tie.Need-enum-known-z
-enum-known-z c = search needs
 
 cast-t12 : tie.Need-cast-t12
 cast-t12 c =
@@ -32,14 +19,8 @@ cast-t12 c =
           (stopped-at _ _ (c .before .before .before .before .before .back-steps .result) _ (c .before .z .given .1) (c .before .before .before .before .before .back-steps .ensures .0)),
     )
 
-same-length : tie.Need-same-length
-same-length c = search needs
-
 returns : tie.Need-returns
 returns c = complete-at _ (c .before .before .before .before .back-steps .result) _ (c .enum-told .given .1) (c .before .before .before .before .back-steps .ensures .0)
-
-same-length-2 : tie.Need-same-length-2
-same-length-2 c = search needs
 
 returns-2 : tie.Need-returns-2
 returns-2 c = stopped-at _ _ (c .before .before .before .before .before .back-steps .result) _ (c .before .z .given .1) (c .before .before .before .before .before .back-steps .ensures .0)
@@ -47,12 +28,4 @@ returns-2 c = stopped-at _ _ (c .before .before .before .before .before .back-st
 pub solve-back-spec : {M : Type 1} → statement M
 solve-back-spec =
     tie.close
-    (tie.spec
-    back-steps-requires
-    enum-told
-    enum-known-z
-    cast-t12
-    same-length
-    returns
-    same-length-2
-    returns-2)
+    (tie.spec (λ c κs. search needs) (λ c. search needs) (λ c. search needs) cast-t12 (λ c. search needs) returns (λ c. search needs) returns-2)

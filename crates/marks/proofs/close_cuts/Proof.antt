@@ -1,5 +1,4 @@
 use Rattle.base.specs.Lists.{listAt}
-use Rattle.marks.specs.MarkLaws.{room-kept}
 use Rattle.marks.specs.ListedLaws.{Listed, listed-start, listed-fit, listed-below, listed-more, listed-end}
 use Prim.Native.Nat.{_-_, _≤_}
 use borrow.Author.Needs.{needs}
@@ -8,10 +7,10 @@ use Rattle.marks.proofs.close_cuts.Statement.{statement}
 use Rattle.marks.proofs.close_cuts.Tie as tie
 
 abbrev Inv-loop : tie.InvT-loop
-Inv-loop s₀ n stamp k below cuts index runs starts p₀ s p = (p ≤ below) × (below ≤ n) × Listed n stamp k cuts (listAt starts runs index) s₀ s p
+Inv-loop s₀ n k below cuts starts runs index p₀ s p = (p ≤ below) × (below ≤ n) × Listed n k cuts below (listAt starts runs index) s₀ s p
 
 abbrev μ-loop : tie.MeasureT-loop
-μ-loop s₀ n stamp k below cuts index runs starts p₀ s p = below - p
+μ-loop s₀ n k below cuts starts runs index p₀ s p = below - p
 
 abbrev Begin : tie.At-loop Inv-loop μ-loop → tie.Start Inv-loop μ-loop
 Begin l = l .before .before .before .before .before
@@ -20,15 +19,15 @@ loop-holds : tie.Need-loop-holds Inv-loop μ-loop
 loop-holds c =
     let s = c .before .before .before .before in
     let q = s .pre .1 .0 in
-    (omega arith, listed-fit _ _ _ _ (q .0) (q .2) _ (s .pre .1 .1), listed-start _ _ _ _ (q .0) (q .2) (s .args .below) (s .pre .1 .1) _ _ (q .1))
+    (omega arith, listed-fit _ _ _ (q .0) (q .2) _ (s .pre .1 .1), listed-start _ _ _ (q .0) (q .2) _ (s .pre .1 .1) _ _ (q .1))
 
 cut-list-requires : tie.Need-cut-list-requires Inv-loop μ-loop
 cut-list-requires c κs =
     let l = c .before .before .before .before in
     let s = Begin l in
     let q = s .pre .1 .0 in
-    let i = listed-below _ _ _ _ (q .0) (q .2) (s .args .below) (s .pre .1 .1) _ _ (q .1) _ _ (l .loop .inv .2) (c .before .wide32 .result) (omega arith) (c .before .wide32 .ensures .0) in
-    (omega arith, q .1, room-kept _ (s .args .s .now) _ (l .loop .inv .2 .long) (q .2), s .pre .0 (c .before .wide32 .result) i)
+    let i = listed-below _ _ _ (q .0) (q .2) (s .args .below) (s .pre .1 .1) _ _ (q .1) _ _ (l .loop .inv .2) (c .before .slot .result) (omega arith) (c .before .slot .ensures .0) in
+    (omega (arith, q .1 .high, q .2 .long, l .loop .inv .2 .long), s .pre .0 (c .before .slot .result) i)
 
 loop-again : tie.Need-loop-again Inv-loop μ-loop
 loop-again c =
@@ -38,7 +37,7 @@ loop-again c =
     let q = s .pre .1 .0 in (
       omega arith,
       l .loop .inv .1,
-      listed-more _ _ _ _ (q .0) (q .2) (s .args .below) (s .pre .1 .1) _ _ (q .1) _ _ (l .loop .inv .2) _ (w .wide32 .result) (omega arith) (w .wide32 .ensures .0) (c .before .before .cut-list .ensures),
+      listed-more _ _ _ (q .0) (q .2) (s .args .below) (s .pre .1 .1) _ _ (q .1) _ _ (l .loop .inv .2) _ (w .slot .result) (omega arith) (w .slot .ensures .0) (c .before .before .cut-list .ensures),
     )
 
 returns : tie.Need-returns Inv-loop μ-loop
@@ -46,7 +45,7 @@ returns c =
     let l = c .before in
     let s = Begin l in
     let q = s .pre .1 .0 in
-    listed-end _ _ _ _ (q .0) (q .2) (s .args .below) (s .pre .1 .1) _ _ (q .1) _ _ (l .loop .inv .2) (omega arith)
+    listed-end _ _ _ (q .0) (q .2) (s .args .below) (s .pre .1 .1) _ _ (q .1) _ _ (l .loop .inv .2) (omega arith)
 
 pub close-cuts-spec : {M : Type 1} → statement M
 close-cuts-spec =

@@ -6,14 +6,14 @@ use Rattle.marks.proofs.cut_list.Tie as tie
 
 returns : tie.Need-returns
 returns c =
-    let l = c .before .before .before .before .list-part in
-    let w = c .before .before .wide32 .ensures in
+    let l = c .before .before .before .before .list-at in
+    let w = c .before .before .slot .ensures in
     cut-yes _ _ _ _ _ _ _ (sym (l .ensures)) (sym (w .0) ∙ c .before .if1 .taken) (c .reach-of .ensures .0)
 
 returns-2 : tie.Need-returns-2
 returns-2 c =
-    let l = c .before .before .before .list-part in
-    let w = c .before .wide32 .ensures in
+    let l = c .before .before .before .list-at in
+    let w = c .before .slot .ensures in
     cut-no _ _ _ _ _ _ (sym (l .ensures)) (λ q. c .if1 .left (w .0 ∙ q))
 
 pub cut-list-spec : {M : Type 1} → statement M

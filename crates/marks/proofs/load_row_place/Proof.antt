@@ -1,21 +1,22 @@
-use Rattle.base.specs.Lists.{rowOf}
 use mathlib.Core.Path.{_≡_, _∙_, ap}
 use lib.ListN.{getD}
-use Rattle.marks.specs.FillLaws.{list-in-at, loaded-is}
+use Rattle.base.specs.Lists.{rowOf}
+use Rattle.lent.specs.ReadingLaws.{own-in}
+use Rattle.marks.specs.FillLaws.{loaded-is}
 use borrow.Author.Needs.{needs}
 use Rattle.marks.proofs.load_row_place.Statement.{statement}
 use Rattle.marks.proofs.load_row_place.Tie as tie
 
-abbrev Begin : tie.After-list-part → tie.Start
-Begin c = c .before .before .before .before .before .before .before
+abbrev Begin : tie.After-row-columns → tie.Start
+Begin c = c .before .before .before .before .before .before
 
-list-part-requires : tie.Need-list-part-requires
-list-part-requires c κs = list-in-at _ _ _ _ _ (c .before .own-row .ensures) (c .before .before .before .before .before .before .pre .1 .0)
+row-columns-requires : tie.Need-row-columns-requires
+row-columns-requires c κs = own-in (c .own-row .ensures) (c .before .before .before .before .before .pre .1 .0)
 
 -- the part is own row r(k)
-part : (c : tie.After-list-part)
-    → c .list-part .result .now ≡ rowOf (Begin c .args .starts .now) (Begin c .args .columns .now) (getD (Begin c .args .order .now) (Begin c .args .k .0) 0)
-part c = c .list-part .ensures ∙ ap (rowOf (Begin c .args .starts .now) (Begin c .args .columns .now)) (c .before .before .own-row .ensures)
+part : (c : tie.After-row-columns)
+    → c .row-columns .result .now ≡ rowOf (Begin c .args .starts .now) (Begin c .args .columns .now) (getD (Begin c .args .r .now) (Begin c .args .k .0) 0)
+part c = c .row-columns .ensures ∙ ap (λ i. rowOf (Begin c .args .starts .now) (Begin c .args .columns .now) (i .0)) (c .before .own-row .ensures)
 
 load-row-requires : tie.Need-load-row-requires
 load-row-requires c κs =
@@ -31,4 +32,4 @@ returns c =
 
 pub load-row-place-spec : {M : Type 1} → statement M
 load-row-place-spec =
-    tie.close (tie.spec (λ c κs. search needs) (λ c. search needs) list-part-requires load-row-requires (λ c. search needs) returns)
+    tie.close (tie.spec (λ c κs. search needs) row-columns-requires load-row-requires (λ c. search needs) returns)

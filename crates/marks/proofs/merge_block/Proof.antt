@@ -8,10 +8,10 @@ use Rattle.marks.proofs.merge_block.Statement.{statement}
 use Rattle.marks.proofs.merge_block.Tie as tie
 
 abbrev Inv-loop : tie.InvT-loop
-Inv-loop s₀ n stamp from end had cuts index runs count₀ i₀ s count i = Along n stamp cuts index runs s₀ from had end s i count
+Inv-loop s₀ n stamp from end had cuts runs index count₀ i₀ s count i = Along n stamp cuts runs index s₀ from had end s i count
 
 abbrev μ-loop : tie.MeasureT-loop
-μ-loop s₀ n stamp from end had cuts index runs count₀ i₀ s count i = end - i
+μ-loop s₀ n stamp from end had cuts runs index count₀ i₀ s count i = end - i
 
 abbrev Begin : tie.At-loop Inv-loop μ-loop → tie.Start Inv-loop μ-loop
 Begin l = l .before .before .before .before
@@ -26,8 +26,8 @@ merge-run-requires c κs =
     let l = c .before .before .before .before in
     let s = Begin l in
     let b = s .pre .1 .3 in
-    let p = listed-parts (s .args .n) _ _ _ _ _ _ _ (s .args .end) (s .pre .1 .2) (l .loop .s) (l .loop .i) (l .loop .count) (omega arith) (l .loop .inv) b in
-    ((room-set _ (l .loop .s) _ _ (l .loop .inv .room), b, p .read (l .loop .i) (omega arith)), p .below (l .loop .i) (omega arith))
+    let p = listed-parts (s .args .n) _ _ _ _ _ _ _ (s .args .end) (s .pre .1 .2) (l .loop .marks) (l .loop .i) (l .loop .count) (omega arith) (l .loop .inv) b in
+    ((room-set _ (l .loop .marks) _ _ (l .loop .inv .room), b, p .read (l .loop .i) (omega arith)), p .below (l .loop .i) (omega arith))
 
 loop-again : tie.Need-loop-again Inv-loop μ-loop
 loop-again c =
@@ -35,8 +35,8 @@ loop-again c =
     let s = Begin l in
     let b = s .pre .1 in
     ⊎-elim
-    (λ w. along-hit (s .args .n) _ _ _ _ _ _ _ _ (b .2) (l .loop .s) (l .loop .i) (l .loop .count) (omega arith) (l .loop .inv) (b .3) _ _ (w .5 ∙ w .2 .ensures) (w .6) (w .0 .taken))
-    (λ w. along-miss (s .args .n) _ _ _ _ _ _ _ _ (b .2) (l .loop .s) (l .loop .i) (l .loop .count) (omega arith) (l .loop .inv) _ _ (w .1) (w .2) (w .0 .left))
+    (λ w. along-hit (s .args .n) _ _ _ _ _ _ _ _ (b .2) (l .loop .marks) (l .loop .i) (l .loop .count) (omega arith) (l .loop .inv) (b .3) _ _ (w .5 ∙ w .2 .ensures) (w .6) (w .0 .taken))
+    (λ w. along-miss (s .args .n) _ _ _ _ _ _ _ _ (b .2) (l .loop .marks) (l .loop .i) (l .loop .count) (omega arith) (l .loop .inv) _ _ (w .1) (w .2) (w .0 .left))
     (c .if1 .came)
 
 returns : tie.Need-returns Inv-loop μ-loop

@@ -20,7 +20,7 @@ mark-requires c κs =
     let l = c .before .before .before .before in
     let s = l .before .before .before in
     let h : l .loop .p < length (s .args .list .now) = omega arith in
-    (omega (arith, s .pre .0 (l .loop .p) h, c .before .wide16 .ensures), record { small = omega arith; long = omega arith })
+    (omega (arith, s .pre .0 (l .loop .p) h, c .before .wide .ensures .0), record { small = omega arith; long = omega arith })
 
 loop-again : tie.Need-loop-again Inv-loop μ-loop
 loop-again c =
@@ -30,7 +30,7 @@ loop-again c =
     let s = l .before .before .before in (
       omega arith,
       m .mark .kept .0 ∙ l .loop .inv .1,
-      stamped-turn _ _ _ _ (s .args .list .now) (l .loop .p) _ (omega arith) (w .wide16 .ensures) (m .mark .ensures) ∙ l .loop .inv .2,
+      stamped-turn _ _ _ _ (s .args .list .now) (l .loop .p) _ (omega arith) (w .wide .ensures .0) (m .mark .ensures) ∙ l .loop .inv .2,
     )
 
 returns : tie.Need-returns Inv-loop μ-loop

@@ -8,10 +8,10 @@ use Rattle.marks.proofs.merge_lower.Statement.{statement}
 use Rattle.marks.proofs.merge_lower.Tie as tie
 
 abbrev Inv-loop : tie.InvT-loop
-Inv-loop s₀ n stamp k cuts index runs count₀ i₀ s count i = (i ≤ k) × Going n stamp (partAt s₀ cuts index runs) s₀ s i count
+Inv-loop s₀ n stamp k cuts runs index count₀ i₀ s count i = (i ≤ k) × Going n stamp (partAt s₀ cuts runs index) s₀ s i count
 
 abbrev μ-loop : tie.MeasureT-loop
-μ-loop s₀ n stamp k cuts index runs count₀ i₀ s count i = k - i
+μ-loop s₀ n stamp k cuts runs index count₀ i₀ s count i = k - i
 
 abbrev Begin : tie.At-loop Inv-loop μ-loop → tie.Start Inv-loop μ-loop
 Begin l = l .before .before .before .before
@@ -27,8 +27,8 @@ merge-block-requires c κs =
     let g = l .loop .inv .1 in
     let q = s .pre .1 .0 in
     let small : r .result ≤ s .args .n = omega (arith, r .ensures .1, q .0) in (
-      parts-kept (s .args .n) (r .result) (s .args .cuts) (s .args .index .now) (s .args .runs .now) (s .args .s .now) (l .loop .s) (q .1) small (g .cuts) (s .args .k) (r .ensures .1) (s .pre .0),
-      (g .within, omega (arith, r .ensures .0), small, q .1, room-kept _ (s .args .s .now) _ (g .long) (q .2)),
+      parts-kept (s .args .n) (r .result) (s .args .cuts) (s .args .runs .now) (s .args .index .now) (s .args .marks .now) (l .loop .marks) (q .1) small (g .cuts) (s .args .k) (r .ensures .1) (s .pre .0),
+      (g .within, omega (arith, r .ensures .0), small, q .1, room-kept _ (s .args .marks .now) _ (g .long) (q .2)),
     )
 
 loop-again : tie.Need-loop-again Inv-loop μ-loop
@@ -36,14 +36,14 @@ loop-again c =
     let m = c .before .before in
     let b = m .before .before in
     let l = b .before .before .before .before in
-    (b .block-end .ensures .1, m .merge-block .ensures (Begin l .args .s .now) (l .loop .inv .1))
+    (b .block-end .ensures .1, m .merge-block .ensures (Begin l .args .marks .now) (l .loop .inv .1))
 
 next-block-requires : tie.Need-next-block-requires Inv-loop μ-loop
 next-block-requires c κs =
     let l = c .before .before .before .before in
     let s = Begin l in
     let q = s .pre .1 .0 in
-    ((omega arith, q .0, room-kept _ (s .args .s .now) _ (l .loop .inv .1 .long) (q .2)), c .before .if1 .left)
+    ((omega arith, q .0, room-kept _ (s .args .marks .now) _ (l .loop .inv .1 .long) (q .2)), c .before .if1 .left)
 
 loop-less-2 : tie.Need-loop-less-2 Inv-loop μ-loop
 loop-less-2 c = omega (arith, c .next-block .ensures .above, c .next-block .ensures .within)

@@ -17,12 +17,12 @@ abbrev μ-loop : tie.MeasureT-loop
 returns : tie.Need-returns Inv-loop μ-loop
 returns c =
     let l = c .before .before .before .before in
-    (sym (upto-hit _ _ (l .loop .p) (omega arith) (sym (c .before .wide16 .ensures) ∙ c .if1 .taken)) ∙ l .loop .inv .1, omega arith)
+    (sym (upto-hit _ _ (l .loop .p) (omega arith) (sym (c .before .wide .ensures .0) ∙ c .if1 .taken)) ∙ l .loop .inv .1, omega arith)
 
 loop-again : tie.Need-loop-again Inv-loop μ-loop
 loop-again c =
     let l = c .before .before .before .before in
-    (omega arith, upto-miss _ _ (l .loop .p) (omega arith) (λ q. c .if1 .left (c .before .wide16 .ensures ∙ q)) ∙ l .loop .inv .1)
+    (omega arith, upto-miss _ _ (l .loop .p) (omega arith) (λ q. c .if1 .left (c .before .wide .ensures .0 ∙ q)) ∙ l .loop .inv .1)
 
 returns-2 : tie.Need-returns-2 Inv-loop μ-loop
 returns-2 c =

@@ -15,7 +15,7 @@ abbrev μ-loop : tie.MeasureT-loop
 entries-of-requires : tie.Need-entries-of-requires Inv-loop μ-loop
 entries-of-requires c κs =
     let l = c .before .before .before in
-    countable-at _ _ (l .loop .p) _ (c .wide32 .ensures .0) (omega arith) (l .before .before .before .pre)
+    countable-at _ _ (l .loop .p) _ (c .slot .ensures .0) (omega arith) (l .before .before .before .pre)
 
 add-sum : tie.Need-add-sum Inv-loop μ-loop
 add-sum c =
@@ -25,7 +25,7 @@ add-sum c =
 loop-again : tie.Need-loop-again Inv-loop μ-loop
 loop-again c =
     let l = c .before .before .before .before in
-    added-more _ _ _ _ _ _ (omega arith) (c .before .wide32 .ensures .0) (c .entries-of .ensures .0) (c .entries-of .ensures .1) (l .loop .inv)
+    added-more _ _ _ _ _ _ (omega arith) (c .before .slot .ensures .0) (c .entries-of .ensures .0) (c .entries-of .ensures .1) (l .loop .inv)
 
 returns : tie.Need-returns Inv-loop μ-loop
 returns c = added-end _ _ _ _ (omega arith) (c .before .loop .inv)

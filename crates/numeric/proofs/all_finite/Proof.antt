@@ -2,16 +2,12 @@ use Rattle.numeric.proofs.Turns.{finiteOn-pass, finiteOn-fail, finiteOn
 use Rattle.arithmetic.specs.RowEnd.{finiteOn}
 use denote.Ref.{now}
 use lib.ListN.{length, getD, drop}
-use mathlib.Core.Path.{_≡_, refl, sym, _∙_}
+use mathlib.Core.Path.{_≡_, sym, _∙_}
 use Prim.Native.Nat.{_≤_, _<_, _-_}
 use borrow.Author.Needs.{needs}
 use native.Mathlib.Omega.{arith}
 use Rattle.numeric.proofs.all_finite.Statement.{statement}
 use Rattle.numeric.proofs.all_finite.Tie as tie
-use Rattle.numeric.proofs.all_finite.Reads as reads
-use Rattle.numeric.proofs.all_finite.Lts as lts
-use Rattle.base.proofs.is_finite.Reads as is-finite-reads
-use Rattle.base.proofs.wide.Reads as wide-reads
 
 abbrev Inv-loop : tie.InvT-loop
 Inv-loop w columns p₀ p = (p ≤ length columns) × (finiteOn (drop p columns) w ≡ finiteOn columns w)
@@ -23,32 +19,11 @@ abbrev μ-loop : tie.MeasureT-loop
 inside : (c : tie.In-loop Inv-loop μ-loop) → getD (now (c .before .before .before .before .args .columns)) (c .before .loop .p) 0 < length (now (c .before .before .before .before .args .w))
 inside c = c .before .before .before .before .pre (c .before .loop .p) (c .loop-test .taken)
 
-loop-holds : tie.Need-loop-holds Inv-loop μ-loop
-loop-holds c = search needs
-
-mul-wide : tie.Need-mul-wide Inv-loop μ-loop
-mul-wide c = search needs
-
-shared-slice-read-wide : tie.Need-shared-slice-read-wide Inv-loop μ-loop
-shared-slice-read-wide c = search needs
-
-wide-requires : tie.Need-wide-requires Inv-loop μ-loop
-wide-requires c κs = search needs
-
 mul-is-finite : tie.Need-mul-is-finite Inv-loop μ-loop
 mul-is-finite c = omega (arith, inside (c .before .before), c .wide .ensures .0)
 
 shared-slice-read-is-finite : tie.Need-shared-slice-read-is-finite Inv-loop μ-loop
 shared-slice-read-is-finite c = rw (c .before .wide .ensures .0) (inside (c .before .before .before))
-
-is-finite-requires : tie.Need-is-finite-requires Inv-loop μ-loop
-is-finite-requires c κs = search needs
-
-add-p : tie.Need-add-p Inv-loop μ-loop
-add-p c = search needs
-
-loop-less : tie.Need-loop-less Inv-loop μ-loop
-loop-less c = search needs
 
 loop-again : tie.Need-loop-again Inv-loop μ-loop
 loop-again c =
@@ -68,18 +43,5 @@ returns-2 c = sym (finiteOn-end (now (c .before .before .before .before .args .c
 pub all-finite-spec : {M : Type 1} → statement M
 all-finite-spec =
     tie.close
-    (tie.spec
-    Inv-loop
-    μ-loop
-    loop-holds
-    mul-wide
-    shared-slice-read-wide
-    wide-requires
-    mul-is-finite
-    shared-slice-read-is-finite
-    is-finite-requires
-    add-p
-    loop-less
-    loop-again
-    returns
-    returns-2)
+    (tie.spec Inv-loop μ-loop (λ c. search needs) (λ c. search needs) (λ c. search needs) (λ c κs. search needs) mul-is-finite shared-slice-read-is-finite
+    (λ c κs. search needs) (λ c. search needs) (λ c. search needs) loop-again returns returns-2)

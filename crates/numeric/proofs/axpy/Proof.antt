@@ -1,16 +1,13 @@
 use Rattle.numeric.proofs.Turns.{subtract-turn, subtract-end}
 use Rattle.arithmetic.specs.Stopping.{any, subtract}
 use denote.Ref.{now}
-use lib.ListN.{length, getD, drop, length-set}
+use lib.ListN.{length, drop, length-set}
 use mathlib.Core.Path.{_≡_, refl, sym, _∙_}
 use Prim.Native.Nat.{_≤_, _<_, _-_}
 use borrow.Author.Needs.{needs}
 use native.Mathlib.Omega.{arith}
 use Rattle.numeric.proofs.axpy.Statement.{statement}
 use Rattle.numeric.proofs.axpy.Tie as tie
-use Rattle.numeric.proofs.axpy.Reads as reads
-use Rattle.numeric.proofs.axpy.Lts as lts
-use Rattle.base.proofs.wide.Reads as wide-reads
 
 abbrev Inv-loop : tie.InvT-loop
 Inv-loop w₀ columns u m n p₀ w p =

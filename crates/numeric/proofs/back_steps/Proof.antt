@@ -2,19 +2,14 @@ use Rattle.numeric.proofs.Turns.{scratch-turn, scratch-stop, back-end}
 use Rattle.numeric.specs.Stores.{storeGiven}
 use Rattle.arithmetic.specs.Stopping.{back}
 use denote.Ref.{now}
-use lib.Ieee.{nan}
 use lib.Seq.{take-set-le}
-use lib.ListN.{length, getD, take, drop, set, length-set}
-use Prim.Native.Nat.{ℕ, suc, _-_, _<_, _≤_, _+_}
-use mathlib.Core.Path.{_≡_, refl, sym, _∙_, ap}
+use lib.ListN.{length, take, drop, length-set}
+use Prim.Native.Nat.{_-_, _≤_, _+_}
+use mathlib.Core.Path.{_≡_, refl, sym, _∙_}
 use borrow.Author.Needs.{needs}
 use native.Mathlib.Omega.{arith}
 use Rattle.numeric.proofs.back_steps.Statement.{statement}
 use Rattle.numeric.proofs.back_steps.Tie as tie
-use Rattle.numeric.proofs.back_steps.Reads as reads
-use Rattle.numeric.proofs.back_steps.Lts as lts
-use Rattle.base.proofs.is_finite.Reads as is-finite-reads
-use Rattle.numeric.proofs.back_at.Reads as back-at-reads
 use Rattle.base.specs.Scratch.{zFrom}
 
 abbrev Inv-loop : tie.InvT-loop
@@ -24,33 +19,6 @@ Inv-loop f₀ n starts runs upper u z k₀ f k =
 
 abbrev μ-loop : tie.MeasureT-loop
 μ-loop f₀ n starts runs upper u z k₀ f k = k
-
-mul-z : tie.Need-mul-z Inv-loop μ-loop
-mul-z c = search needs
-
-loop-holds : tie.Need-loop-holds Inv-loop μ-loop
-loop-holds c = search needs
-
-sub-i : tie.Need-sub-i Inv-loop μ-loop
-sub-i c = search needs
-
-back-at-requires : tie.Need-back-at-requires Inv-loop μ-loop
-back-at-requires c κs = search needs
-
-is-finite-requires : tie.Need-is-finite-requires Inv-loop μ-loop
-is-finite-requires c κs = search needs
-
-add-f : tie.Need-add-f Inv-loop μ-loop
-add-f c = search needs
-
-mul-f : tie.Need-mul-f Inv-loop μ-loop
-mul-f c = search needs
-
-slice-write-f : tie.Need-slice-write-f Inv-loop μ-loop
-slice-write-f c = search needs
-
-loop-less : tie.Need-loop-less Inv-loop μ-loop
-loop-less c = search needs
 
 loop-again : tie.Need-loop-again Inv-loop μ-loop
 loop-again c =
@@ -65,9 +33,6 @@ loop-again c =
           (omega arith) (omega arith) (l .inv .3) (t .pre .2 (l .k - 1) (omega arith)) (c .before .before .back-at .ensures) (sym (c .before .is-finite .ensures) ∙ c .if1 .taken) ∙ l .inv .4,
     )
 
-same-length : tie.Need-same-length Inv-loop μ-loop
-same-length c = search needs
-
 returns : tie.Need-returns Inv-loop μ-loop
 returns c =
     let l = c .before .before .before .before .before .loop in
@@ -78,9 +43,6 @@ returns c =
       l .inv .3,
     )
 
-same-length-2 : tie.Need-same-length-2 Inv-loop μ-loop
-same-length-2 c = search needs
-
 returns-2 : tie.Need-returns-2 Inv-loop μ-loop
 returns-2 c =
     let l = c .before .loop in
@@ -89,20 +51,5 @@ returns-2 c =
 pub back-steps-spec : {M : Type 1} → statement M
 back-steps-spec =
     tie.close
-    (tie.spec
-    Inv-loop
-    μ-loop
-    mul-z
-    loop-holds
-    sub-i
-    back-at-requires
-    is-finite-requires
-    add-f
-    mul-f
-    slice-write-f
-    loop-less
-    loop-again
-    same-length
-    returns
-    same-length-2
-    returns-2)
+    (tie.spec Inv-loop μ-loop (λ c. search needs) (λ c. search needs) (λ c. search needs) (λ c κs. search needs) (λ c κs. search needs) (λ c. search needs)
+    (λ c. search needs) (λ c. search needs) (λ c. search needs) loop-again (λ c. search needs) returns (λ c. search needs) returns-2)

@@ -5,16 +5,12 @@ use Rattle.arithmetic.specs.Stopping.{any, load}
 use Rattle.base.specs.Lists.{pairs}
 use denote.Ref.{now}
 use lib.ListN.{length, getD, drop, length-set}
-use mathlib.Core.Path.{_≡_, refl, sym, _∙_}
+use mathlib.Core.Path.{_≡_, sym, _∙_}
 use Prim.Native.Nat.{_≤_, _<_, _-_}
 use borrow.Author.Needs.{needs}
 use native.Mathlib.Omega.{arith}
 use Rattle.numeric.proofs.load_row.Statement.{statement}
 use Rattle.numeric.proofs.load_row.Tie as tie
-use Rattle.numeric.proofs.load_row.Reads as reads
-use Rattle.numeric.proofs.load_row.Lts as lts
-use Rattle.base.proofs.number.Reads as number-reads
-use Rattle.lent.proofs.place_of.Reads as place-of-reads
 
 abbrev Inv-loop : tie.InvT-loop
 Inv-loop w₀ n marks columns values p₀ w p =

@@ -1,9 +1,8 @@
-use Prim.Native.Nat.{_≤_}
 use Rattle.numeric.specs.PassLaws.{reduced}
-use Rattle.numeric.specs.StoreLaws.{list-length, below-is, list-room}
+use Rattle.numeric.specs.StoreLaws.{below-is, list-room}
 use Rattle.numeric.specs.Stores.{placesOf}
 use Rattle.lent.specs.Reading.{orderOf}
-use lib.ListN.{length, take}
+use lib.ListN.{length}
 use lib.Seq.{length-take-le, length-front}
 use denote.Ref.{now}
 use mathlib.Core.Path.{_≡_, refl, sym, _∙_}
@@ -11,13 +10,6 @@ use native.Mathlib.Omega.{arith}
 use borrow.Author.Needs.{needs}
 use Rattle.numeric.proofs.reduce_row.Statement.{statement}
 use Rattle.numeric.proofs.reduce_row.Tie as tie
-use Rattle.numeric.proofs.reduce_row.Reads as reads
-use Rattle.numeric.proofs.reduce_row.Lts as lts
-use Rattle.numeric.proofs.eliminate.Reads as eliminate-reads
-use Rattle.numeric.proofs.finish_row.Reads as finish-row-reads
-use Rattle.lent.proofs.list_at.Reads as list-at-reads
-use Rattle.numeric.proofs.load_row.Reads as load-row-reads
-use Rattle.base.proofs.slot.Reads as slot-reads
 
 -- the scratch is as long as it was
 long : (c : tie.After-eliminate) → length (c .eliminate .last .0) ≡ length (now (c .before .before .before .before .before .before .before .before .before .before .before .before .before .before .before .before .args .f))
@@ -44,9 +36,6 @@ mul-slot c = omega (arith, c .before .before .before .before .before .before .be
 shared-slice-read-slot : tie.Need-shared-slice-read-slot
 shared-slice-read-slot c = omega (arith, c .before .before .before .before .before .before .before .before .before .before .before .before .before .before .before .before .before .before .before .before .pre .lists .values (c .before .before .before .before .before .before .before .before .before .before .before .before .before .before .before .before .before .before .before .before .args .k) (c .before .before .before .before .before .before .before .before .before .before .before .before .before .before .before .before .before .before .before .before .pre .place))
 
-slot-requires : tie.Need-slot-requires
-slot-requires c κs = search needs
-
 slice-reshare-prefix-finish-row : tie.Need-slice-reshare-prefix-finish-row
 slice-reshare-prefix-finish-row c = omega (arith, c .before .before .before .before .before .before .before .before .before .before .before .before .before .before .before .before .before .before .before .before .before .pre .scratch, c .before .before .before .before .before .eliminate .kept .0)
 
@@ -69,9 +58,6 @@ finish-row-requires c κs =
 same-length : tie.Need-same-length
 same-length c = long (c .before .before .before .before .before .before .before .before .before .before)
 
-same-length-2 : tie.Need-same-length-2
-same-length-2 c = search needs
-
 returns : tie.Need-returns
 returns c =
     let t = c .before .before .before .before .before .before .before .before .before .before .before .before .before .before .before .before .before .before .before .before .before .before .before .before .before .before in
@@ -84,18 +70,5 @@ returns c =
 pub reduce-row-spec : {M : Type 1} → statement M
 reduce-row-spec =
     tie.close
-    (tie.spec
-    slice-relend-prefix-load-row
-    slice-aggregate-load-row
-    load-row-requires
-    eliminate-requires
-    list-at-requires
-    mul-slot
-    shared-slice-read-slot
-    slot-requires
-    slice-reshare-prefix-finish-row
-    slice-aggregate-finish-row
-    finish-row-requires
-    same-length
-    same-length-2
-    returns)
+    (tie.spec slice-relend-prefix-load-row slice-aggregate-load-row load-row-requires eliminate-requires list-at-requires mul-slot shared-slice-read-slot
+    (λ c κs. search needs) slice-reshare-prefix-finish-row slice-aggregate-finish-row finish-row-requires same-length (λ c. search needs) returns)

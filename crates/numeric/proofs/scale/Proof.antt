@@ -4,17 +4,13 @@ use Rattle.arithmetic.specs.RowEnd.{finiteAll, products}
 use denote.Ref.{now}
 use lib.Seq.{sets}
 use lib.ListN.{length, getD, drop, length-set}
-use mathlib.Core.Bool.{true, false, true≢false}
-use mathlib.Core.Path.{_≡_, refl, sym, _∙_, subst}
+use mathlib.Core.Bool.{true≢false}
+use mathlib.Core.Path.{_≡_, refl, sym, _∙_}
 use Prim.Native.Nat.{_≤_, _<_, _-_, _+_}
 use borrow.Author.Needs.{needs}
 use native.Mathlib.Omega.{arith}
 use Rattle.numeric.proofs.scale.Statement.{statement}
 use Rattle.numeric.proofs.scale.Tie as tie
-use Rattle.numeric.proofs.scale.Reads as reads
-use Rattle.numeric.proofs.scale.Lts as lts
-use Rattle.base.proofs.is_finite.Reads as is-finite-reads
-use Rattle.base.proofs.wide.Reads as wide-reads
 
 abbrev Inv-loop : tie.InvT-loop
 Inv-loop w columns u₀ from d p₀ u p =
@@ -31,38 +27,11 @@ inside c = c .before .before .before .before .before .pre .1 (c .before .loop .p
 loop-holds : tie.Need-loop-holds Inv-loop μ-loop
 loop-holds c = (omega arith, refl, refl, rw add-zero)
 
-mul-wide : tie.Need-mul-wide Inv-loop μ-loop
-mul-wide c = search needs
-
-shared-slice-read-wide : tie.Need-shared-slice-read-wide Inv-loop μ-loop
-shared-slice-read-wide c = search needs
-
-wide-requires : tie.Need-wide-requires Inv-loop μ-loop
-wide-requires c κs = search needs
-
 mul-x : tie.Need-mul-x Inv-loop μ-loop
 mul-x c = omega (arith, inside (c .before .before), c .wide .ensures .0)
 
 shared-slice-read-x : tie.Need-shared-slice-read-x Inv-loop μ-loop
 shared-slice-read-x c = rw (c .before .wide .ensures .0) (inside (c .before .before .before))
-
-is-finite-requires : tie.Need-is-finite-requires Inv-loop μ-loop
-is-finite-requires c κs = search needs
-
-add-u : tie.Need-add-u Inv-loop μ-loop
-add-u c = search needs
-
-mul-u : tie.Need-mul-u Inv-loop μ-loop
-mul-u c = search needs
-
-slice-write-u : tie.Need-slice-write-u Inv-loop μ-loop
-slice-write-u c = search needs
-
-add-p : tie.Need-add-p Inv-loop μ-loop
-add-p c = search needs
-
-loop-less : tie.Need-loop-less Inv-loop μ-loop
-loop-less c = search needs
 
 loop-again : tie.Need-loop-again Inv-loop μ-loop
 loop-again c =
@@ -71,9 +40,6 @@ loop-again c =
     let r = scale-pass (a .d) (now (a .columns)) (now (a .w)) (l .u) (a .from) (l .p) (omega arith) (sym (rw (c .before .before .before .wide .ensures .0) at (c .before .is-finite .ensures)) ∙ c .if1 .taken) in
     (omega arith, simp length-set (l .inv .1), r .0 ∙ l .inv .2, rw (c .before .before .before .wide .ensures .0) (r .1 ∙ l .inv .3))
 
-same-length : tie.Need-same-length Inv-loop μ-loop
-same-length c = search needs
-
 returns : tie.Need-returns Inv-loop μ-loop
 returns c =
     let a = c .before .before .before .before .before .before .before .before .before .before .args in
@@ -81,9 +47,6 @@ returns c =
       sym (scale-fail (a .d) (now (a .columns)) (now (a .w)) (l .u) (a .from) (l .p) (omega arith) (sym (rw (c .before .before .before .wide .ensures .0) at (c .before .is-finite .ensures)) ∙ c .if1 .left)) ∙ l .inv .2,
       λ e. absurd (true≢false (sym e)),
     )
-
-same-length-2 : tie.Need-same-length-2 Inv-loop μ-loop
-same-length-2 c = search needs
 
 returns-2 : tie.Need-returns-2 Inv-loop μ-loop
 returns-2 c =
@@ -95,23 +58,6 @@ returns-2 c =
 pub scale-spec : {M : Type 1} → statement M
 scale-spec =
     tie.close
-    (tie.spec
-    Inv-loop
-    μ-loop
-    loop-holds
-    mul-wide
-    shared-slice-read-wide
-    wide-requires
-    mul-x
-    shared-slice-read-x
-    is-finite-requires
-    add-u
-    mul-u
-    slice-write-u
-    add-p
-    loop-less
-    loop-again
-    same-length
-    returns
-    same-length-2
+    (tie.spec Inv-loop μ-loop loop-holds (λ c. search needs) (λ c. search needs) (λ c κs. search needs) mul-x shared-slice-read-x (λ c κs. search needs)
+    (λ c. search needs) (λ c. search needs) (λ c. search needs) (λ c. search needs) (λ c. search needs) loop-again (λ c. search needs) returns (λ c. search needs)
     returns-2)

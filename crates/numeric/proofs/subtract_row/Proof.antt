@@ -2,40 +2,17 @@ use Rattle.numeric.specs.StoreLaws.{ready}
 use Rattle.numeric.proofs.Turns.{stepped}
 use lib.Seq.{length-take-le}
 use denote.Ref.{now}
-use mathlib.Core.Path.{_≡_, sym, _∙_, refl}
+use mathlib.Core.Path.{sym}
 use native.Mathlib.Omega.{arith}
 use borrow.Author.Needs.{needs}
 use Rattle.numeric.proofs.subtract_row.Statement.{statement}
 use Rattle.numeric.proofs.subtract_row.Tie as tie
-use Rattle.numeric.proofs.subtract_row.Reads as reads
-use Rattle.numeric.proofs.subtract_row.Lts as lts
-use Rattle.numeric.proofs.axpy.Reads as axpy-reads
-use Rattle.lent.proofs.list_at.Reads as list-at-reads
-use Rattle.lent.proofs.values_at.Reads as values-at-reads
-
-mul-m : tie.Need-mul-m
-mul-m c = search needs
-
-slice-read-m : tie.Need-slice-read-m
-slice-read-m c = search needs
-
-add-y : tie.Need-add-y
-add-y c = search needs
-
-mul-y : tie.Need-mul-y
-mul-y c = search needs
-
-slice-read-y : tie.Need-slice-read-y
-slice-read-y c = search needs
 
 list-at-requires : tie.Need-list-at-requires
 list-at-requires c κs = c .before .before .before .before .before .before .before .pre .2 .list (c .before .before .before .before .before .before .before .args .i) (c .before .before .before .before .before .before .before .pre .0)
 
 values-at-requires : tie.Need-values-at-requires
 values-at-requires c κs = c .before .before .before .before .before .before .before .before .pre .2 .values (c .before .before .before .before .before .before .before .before .args .i) (c .before .before .before .before .before .before .before .before .pre .0)
-
-slice-relend-prefix-axpy : tie.Need-slice-relend-prefix-axpy
-slice-relend-prefix-axpy c = search needs
 
 slice-aggregate-axpy : tie.Need-slice-aggregate-axpy
 slice-aggregate-axpy c = sym (length-take-le (c .before .before .before .before .before .before .before .before .before .before .args .n) (now (c .before .before .before .before .before .before .before .before .before .before .args .f)) (omega (arith, c .before .before .before .before .before .before .before .before .before .before .pre .1)))
@@ -47,9 +24,6 @@ axpy-requires c κs =
     let r = ready (a .n) (a .i) (now (a .starts)) (now (a .runs)) (now (a .upper)) (now (a .u)) _ _ (s .2) (s .0) (c .before .before .list-at .ensures) (c .before .values-at .ensures) in
     (r .0, rw (length-take-le (a .n) (now (a .f)) (omega (arith, s .1))) (r .1))
 
-same-length : tie.Need-same-length
-same-length c = search needs
-
 returns : tie.Need-returns
 returns c =
     let a = c .before .before .before .before .before .before .before .before .before .before .before .before .before .before .args in
@@ -59,16 +33,5 @@ returns c =
 pub subtract-row-spec : {M : Type 1} → statement M
 subtract-row-spec =
     tie.close
-    (tie.spec
-    mul-m
-    slice-read-m
-    add-y
-    mul-y
-    slice-read-y
-    list-at-requires
-    values-at-requires
-    slice-relend-prefix-axpy
-    slice-aggregate-axpy
-    axpy-requires
-    same-length
-    returns)
+    (tie.spec (λ c. search needs) (λ c. search needs) (λ c. search needs) (λ c. search needs) (λ c. search needs) list-at-requires values-at-requires (λ c. search needs)
+    slice-aggregate-axpy axpy-requires (λ c. search needs) returns)

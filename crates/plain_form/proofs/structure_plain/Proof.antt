@@ -15,13 +15,13 @@ use Rattle.plain_form.proofs.structure_plain.Tie as tie
 abbrev Asked : tie.After-stops → tie.After-ask-structure
 Asked s = s .before .before .before .before .before
 
-abbrev Goes : tie.After-find-plain → tie.Else1
+abbrev Goes : tie.After-analyze-plain → tie.Else1
 Goes s = s .before .before .before .before .before .before
 
-abbrev Found : tie.After-slice-known23 → tie.After-find-plain
+abbrev Found : tie.After-slice-known23 → tie.After-analyze-plain
 Found s = s .before .before .before .before .before .before .before .before .before .before .before .before .before .before .before .before .before .before .before .before .before .before .before .before .before .before .before .before .before .before .before .before .before .before .before .before .before .before .before .before
 
-abbrev Begin : tie.After-find-plain → tie.Start
+abbrev Begin : tie.After-analyze-plain → tie.Start
 Begin s = s .before .before .before .before .before .before .before .before .before .before .before .before .before .before .before .before .before .before .before .before .before .before .before .before .before .before .before
 
 abbrev Refuses : tie.After-slice-known23 → tie.After-refuses
@@ -43,19 +43,19 @@ abbrev Scratch : tie.After-slice-known23 → tie.After-clear-scratch
 Scratch s = s .before .before .before .before
 
 -- the sides as the pass leaves them
-abbrev lower : tie.After-find-plain → SideBuffers
-lower s = sideBuffers (s .find-plain .last .1 .1 .1 .1 .1 .0) [] (s .find-plain .last .1 .1 .1 .1 .1 .1 .0) (Begin s .args .lower-values .now)
+abbrev lower : tie.After-analyze-plain → SideBuffers
+lower s = sideBuffers (s .analyze-plain .last .1 .1 .1 .1 .1 .0) [] (s .analyze-plain .last .1 .1 .1 .1 .1 .1 .0) (Begin s .args .lower-values .now)
 
-abbrev upper : tie.After-find-plain → SideBuffers
-upper s = sideBuffers (s .find-plain .last .1 .1 .1 .1 .1 .1 .1 .1 .0) [] (s .find-plain .last .1 .1 .1 .1 .1 .1 .1 .1 .1 .0) (Begin s .args .upper-values .now)
+abbrev upper : tie.After-analyze-plain → SideBuffers
+upper s = sideBuffers (s .analyze-plain .last .1 .1 .1 .1 .1 .1 .1 .1 .0) [] (s .analyze-plain .last .1 .1 .1 .1 .1 .1 .1 .1 .1 .0) (Begin s .args .upper-values .now)
 
 returns : tie.Need-returns
 returns c =
     let b = c .before in
     structure-stops Plain _ _ _ _ _ _ _ _ _ _ _ (Asked (b .before) .ask-structure .ensures) (sym (b .before .stops .ensures) ∙ b .if1 .taken) (c .refusal .ensures)
 
-find-plain-requires : tie.Need-find-plain-requires
-find-plain-requires c κs =
+analyze-plain-requires : tie.Need-analyze-plain-requires
+analyze-plain-requires c κs =
     let b = c .before .before .before .before .before in
     let p = Asked (b .before) .ask-structure in
     let q = p .ensures .due (pass-of _ (sym (b .before .stops .ensures) ∙ b .if1 .left)) in
@@ -64,7 +64,7 @@ find-plain-requires c κs =
 returns-2 : tie.Need-returns-2
 returns-2 c =
     let f = Found c in
-    let p = f .find-plain in
+    let p = f .analyze-plain in
     let b = Goes f in
     let a = Asked (b .before) .ask-structure in
     structure-ends Plain _ _ _ (lower f) (upper f) _ _ _ _ _ _ _ _ _ _ _ _ _ _ (a .ensures) (pass-of _ (sym (b .before .stops .ensures) ∙ b .if1 .left)) (p .ensures) (Refuses c .refuses .ensures) (λ h. refl) (λ h. refl)
@@ -81,13 +81,13 @@ structure-plain-spec =
     (tie.spec (λ c κs. search needs) (λ c κs. search needs) (λ c κs. search needs)
     (λ c. Asked (c .before .before) .ask-structure .kept .1 .1 .1 .1 .1 .1 .1 .0)
     (λ c. Asked (c .before .before) .ask-structure .kept .1 .1 .1 .1 .1 .1 .1 .1 .0)
-    returns find-plain-requires (λ c κs. search needs) (λ c κs. search needs) (λ c κs. search needs) (λ c κs. search needs) (λ c κs. search needs) (λ c κs. search needs)
-    (λ c. Lower c .clear-lists-if .kept .1 .0 ∙ Found c .find-plain .kept .1 .1 .1 .1 .1 .0)
-    (λ c. Lower c .clear-lists-if .kept .1 .1 .0 ∙ Found c .find-plain .kept .1 .1 .1 .1 .1 .1 .0)
+    returns analyze-plain-requires (λ c κs. search needs) (λ c κs. search needs) (λ c κs. search needs) (λ c κs. search needs) (λ c κs. search needs) (λ c κs. search needs)
+    (λ c. Lower c .clear-lists-if .kept .1 .0 ∙ Found c .analyze-plain .kept .1 .1 .1 .1 .1 .0)
+    (λ c. Lower c .clear-lists-if .kept .1 .1 .0 ∙ Found c .analyze-plain .kept .1 .1 .1 .1 .1 .1 .0)
     (λ c. LowerValues c .clear-f64 .kept .0)
-    (λ c. Upper c .clear-lists-if2 .kept .1 .0 ∙ Found c .find-plain .kept .1 .1 .1 .1 .1 .1 .1 .1 .0)
-    (λ c. Upper c .clear-lists-if2 .kept .1 .1 .0 ∙ Found c .find-plain .kept .1 .1 .1 .1 .1 .1 .1 .1 .1 .0)
+    (λ c. Upper c .clear-lists-if2 .kept .1 .0 ∙ Found c .analyze-plain .kept .1 .1 .1 .1 .1 .1 .1 .1 .0)
+    (λ c. Upper c .clear-lists-if2 .kept .1 .1 .0 ∙ Found c .analyze-plain .kept .1 .1 .1 .1 .1 .1 .1 .1 .1 .0)
     (λ c. UpperValues c .clear-f642 .kept .0)
     (λ c. Scratch c .clear-scratch .kept .0 ∙ Asked (Goes (Found c) .before) .ask-structure .kept .1 .1 .1 .1 .1 .1 .1 .0)
-    (λ c. Scratch c .clear-scratch .kept .1 .0 ∙ Found c .find-plain .kept .1 .1 .1 .1 .1 .1 .1 .1 .1 .1 .1 .0 ∙ Asked (Goes (Found c) .before) .ask-structure .kept .1 .1 .1 .1 .1 .1 .1 .1 .0)
+    (λ c. Scratch c .clear-scratch .kept .1 .0 ∙ Found c .analyze-plain .kept .1 .1 .1 .1 .1 .1 .1 .1 .1 .1 .1 .0 ∙ Asked (Goes (Found c) .before) .ask-structure .kept .1 .1 .1 .1 .1 .1 .1 .1 .0)
     returns-2)

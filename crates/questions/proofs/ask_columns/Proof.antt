@@ -8,7 +8,6 @@ use Rattle.base.specs.declared.Found.the-variants.{Nothing}
 use lib.ListN.{length}
 use Rattle.matrix.specs.Questions.{badColumn, ask4}
 use borrow.Author.Needs.{needs}
-use native.Mathlib.Omega.{arith}
 use Rattle.questions.proofs.ask_columns.Statement.{statement}
 use Rattle.questions.proofs.ask_columns.Tie as tie
 
@@ -21,21 +20,21 @@ abbrev μ-loop : tie.MeasureT-loop
 loop-holds : tie.Need-loop-holds Inv-loop μ-loop
 loop-holds c = (search needs, first-zero _)
 
-mul-if1 : tie.Need-mul-if1 Inv-loop μ-loop
-mul-if1 c = search needs
+mul-wide : tie.Need-mul-wide Inv-loop μ-loop
+mul-wide c = search needs
 
-shared-slice-read-if1 : tie.Need-shared-slice-read-if1 Inv-loop μ-loop
-shared-slice-read-if1 c = search needs
+shared-slice-read-wide : tie.Need-shared-slice-read-wide Inv-loop μ-loop
+shared-slice-read-wide c = search needs
 
-cast-if1 : tie.Need-cast-if1 Inv-loop μ-loop
-cast-if1 c = omega (arith, c .shared-slice-known .given (c .before .before .loop .p))
+wide-requires : tie.Need-wide-requires Inv-loop μ-loop
+wide-requires c κs = search needs
 
 cast-t9 : tie.Need-cast-t9 Inv-loop μ-loop
 cast-t9 c = search needs
 
 returns : tie.Need-returns Inv-loop μ-loop
 unfolding ask4 badColumn
-returns c = ask-at _ _ _ _ _ (search needs) (c .before .before .before .loop .inv .1) (le-leb _ _ (c .if1 .taken)) refl
+returns c = ask-at _ _ _ _ _ (search needs) (c .before .before .before .before .loop .inv .1) (le-leb _ _ (rw (c .before .wide .ensures .0) at (c .if1 .taken))) refl
 
 add-p : tie.Need-add-p Inv-loop μ-loop
 add-p c = search needs
@@ -45,7 +44,7 @@ loop-less c = search needs
 
 loop-again : tie.Need-loop-again Inv-loop μ-loop
 unfolding badColumn
-loop-again c = (search needs, first-more _ _ (c .before .before .before .loop .inv .1) (lt-leb _ _ (c .if1 .left)))
+loop-again c = (search needs, first-more _ _ (c .before .before .before .before .loop .inv .1) (lt-leb _ _ (rw (c .before .wide .ensures .0) at (c .if1 .left))))
 
 returns-2 : tie.Need-returns-2 Inv-loop μ-loop
 unfolding ask4
@@ -58,9 +57,9 @@ ask-columns-spec =
     Inv-loop
     μ-loop
     loop-holds
-    mul-if1
-    shared-slice-read-if1
-    cast-if1
+    mul-wide
+    shared-slice-read-wide
+    wide-requires
     cast-t9
     returns
     add-p

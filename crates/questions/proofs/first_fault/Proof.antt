@@ -4,7 +4,6 @@ use mathlib.Core.Path.{sym, _∙_}
 use lib.ListN.{length}
 use Rattle.base.specs.FirstLaws.{first-at, first-end}
 use borrow.Author.Needs.{needs}
-use native.Mathlib.Omega.{arith}
 use Rattle.questions.proofs.first_fault.Statement.{statement}
 use Rattle.questions.proofs.first_fault.Tie as tie
 
@@ -17,22 +16,22 @@ abbrev μ-loop : tie.MeasureT-loop
 loop-holds : tie.Need-loop-holds Inv-loop μ-loop
 loop-holds c = stamping-none _ _ _ _ (c .before .before .pre)
 
-mul-j : tie.Need-mul-j Inv-loop μ-loop
-mul-j c = search needs
+mul-wide : tie.Need-mul-wide Inv-loop μ-loop
+mul-wide c = search needs
 
-shared-slice-read-j : tie.Need-shared-slice-read-j Inv-loop μ-loop
-shared-slice-read-j c = search needs
+shared-slice-read-wide : tie.Need-shared-slice-read-wide Inv-loop μ-loop
+shared-slice-read-wide c = search needs
 
-cast-j : tie.Need-cast-j Inv-loop μ-loop
-cast-j c = omega (arith, c .shared-slice-known2 .given (c .before .before .loop .p))
+wide-requires : tie.Need-wide-requires Inv-loop μ-loop
+wide-requires c κs = search needs
 
 same-length : tie.Need-same-length Inv-loop μ-loop
 same-length c = search needs
 
 returns : tie.Need-returns Inv-loop μ-loop
 returns c =
-    let h = c .before .before .before .loop .inv in
-    (sym (first-at _ _ _ (search needs) (h .fine) (index-out _ _ _ (c .if1 .taken))), h .most)
+    let h = c .before .before .before .before .loop .inv in
+    (sym (first-at _ _ _ (search needs) (h .fine) (index-out _ _ _ (rw (c .before .wide .ensures .0) at (c .if1 .taken)))), h .most)
 
 stamp-slot-requires : tie.Need-stamp-slot-requires Inv-loop μ-loop
 stamp-slot-requires c κs = search needs
@@ -42,10 +41,13 @@ same-length-2 c = search needs
 
 returns-2 : tie.Need-returns-2 Inv-loop μ-loop
 returns-2 c =
-    let h = c .before .before .before .before .before .before .before .before .loop .inv in
-    let s = c .before .before .before .before .before .before .before .before .before .before .before in
-    let w = c .before .before .before .stamp-slot .ensures in
-    (sym (first-at _ _ _ (search needs) (h .fine) (stamping-seen _ _ _ _ _ _ (s .pre) h (c .before .before .before .before .before .if1 .left) _ (w .0) ∙ c .if2 .taken)), stamping-met _ _ _ _ _ _ h _ (w .1))
+    let t = c .before .before .before in
+    let y = t .before .before in
+    let l = y .before .before .before .before in
+    let h = l .loop .inv in
+    let e = y .before .wide .ensures .0 in
+    let w = rw e at (t .stamp-slot .ensures) in
+    (sym (first-at _ _ _ (search needs) (h .fine) (stamping-seen _ _ _ _ _ _ (l .before .before .before .pre) h (rw e at (y .if1 .left)) _ (w .0) ∙ c .if2 .taken)), stamping-met _ _ _ _ _ _ h _ (w .1))
 
 add-p : tie.Need-add-p Inv-loop μ-loop
 add-p c = search needs
@@ -55,10 +57,13 @@ loop-less c = search needs
 
 loop-again : tie.Need-loop-again Inv-loop μ-loop
 loop-again c =
-    let h = c .before .before .before .before .before .before .before .before .loop .inv in
-    let s = c .before .before .before .before .before .before .before .before .before .before .before in
-    let w = c .before .before .before .stamp-slot .ensures in
-    stamping-more _ _ _ _ _ _ (s .pre) h (c .before .before .before .before .before .if1 .left) _ _ (search needs) (w .0) (c .if2 .left) (w .1)
+    let t = c .before .before .before in
+    let y = t .before .before in
+    let l = y .before .before .before .before in
+    let h = l .loop .inv in
+    let e = y .before .wide .ensures .0 in
+    let w = rw e at (t .stamp-slot .ensures) in
+    stamping-more _ _ _ _ _ _ (l .before .before .before .pre) h (rw e at (y .if1 .left)) _ _ (search needs) (w .0) (c .if2 .left) (w .1)
 
 same-length-3 : tie.Need-same-length-3 Inv-loop μ-loop
 same-length-3 c = search needs
@@ -73,9 +78,9 @@ first-fault-spec =
     Inv-loop
     μ-loop
     loop-holds
-    mul-j
-    shared-slice-read-j
-    cast-j
+    mul-wide
+    shared-slice-read-wide
+    wide-requires
     same-length
     returns
     stamp-slot-requires

@@ -14,13 +14,13 @@ use Rattle.shared_form.proofs.structure_shared.Tie as tie
 abbrev Asked : tie.After-stops → tie.After-ask-structure
 Asked s = s .before .before .before .before .before
 
-abbrev Goes : tie.After-find-shared → tie.Else1
+abbrev Goes : tie.After-analyze-shared → tie.Else1
 Goes s = s .before .before .before .before .before .before .before .before
 
-abbrev Found : tie.After-slice-known29 → tie.After-find-shared
+abbrev Found : tie.After-slice-known29 → tie.After-analyze-shared
 Found s = s .before .before .before .before .before .before .before .before .before .before .before .before .before .before .before .before .before .before .before .before .before .before .before .before .before .before .before .before .before .before .before .before .before .before .before .before .before .before .before .before .before .before .before .before .before .before .before .before .before .before .before
 
-abbrev Begin : tie.After-find-shared → tie.Start
+abbrev Begin : tie.After-analyze-shared → tie.Start
 Begin s = s .before .before .before .before .before .before .before .before .before .before .before .before .before .before .before .before .before .before .before .before .before .before .before .before .before .before .before .before .before .before .before
 
 abbrev Refuses : tie.After-slice-known29 → tie.After-refuses
@@ -45,19 +45,19 @@ abbrev Runs : tie.After-slice-known29 → tie.After-clear-runs-if
 Runs s = s .before .before .before .before .before .before .before .before .before .before .before .before .before .before .before .before .before .before .before
 
 -- the sides as the pass leaves them
-abbrev lower : tie.After-find-shared → SideBuffers
-lower s = sideBuffers (s .find-shared .last .1 .1 .1 .1 .1 .0) (s .find-shared .last .1 .1 .1 .1 .1 .1 .0) (s .find-shared .last .1 .1 .1 .1 .1 .1 .1 .0) (Begin s .args .lower-values .now)
+abbrev lower : tie.After-analyze-shared → SideBuffers
+lower s = sideBuffers (s .analyze-shared .last .1 .1 .1 .1 .1 .0) (s .analyze-shared .last .1 .1 .1 .1 .1 .1 .0) (s .analyze-shared .last .1 .1 .1 .1 .1 .1 .1 .0) (Begin s .args .lower-values .now)
 
-abbrev upper : tie.After-find-shared → SideBuffers
-upper s = sideBuffers (s .find-shared .last .1 .1 .1 .1 .1 .1 .1 .1 .1 .0) (s .find-shared .last .1 .1 .1 .1 .1 .1 .1 .1 .1 .1 .0) (s .find-shared .last .1 .1 .1 .1 .1 .1 .1 .1 .1 .1 .1 .0) (Begin s .args .upper-values .now)
+abbrev upper : tie.After-analyze-shared → SideBuffers
+upper s = sideBuffers (s .analyze-shared .last .1 .1 .1 .1 .1 .1 .1 .1 .1 .0) (s .analyze-shared .last .1 .1 .1 .1 .1 .1 .1 .1 .1 .1 .0) (s .analyze-shared .last .1 .1 .1 .1 .1 .1 .1 .1 .1 .1 .1 .0) (Begin s .args .upper-values .now)
 
 returns : tie.Need-returns
 returns c =
     let b = c .before in
     structure-stops Shared _ _ _ _ _ _ _ _ _ _ _ (Asked (b .before) .ask-structure .ensures) (sym (b .before .stops .ensures) ∙ b .if1 .taken) (c .refusal .ensures)
 
-find-shared-requires : tie.Need-find-shared-requires
-find-shared-requires c κs =
+analyze-shared-requires : tie.Need-analyze-shared-requires
+analyze-shared-requires c κs =
     let b = c .before .before .before .before .before .before .before in
     let p = Asked (b .before) .ask-structure in
     let q = p .ensures .due (pass-of _ (sym (b .before .stops .ensures) ∙ b .if1 .left)) in
@@ -66,7 +66,7 @@ find-shared-requires c κs =
 returns-2 : tie.Need-returns-2
 returns-2 c =
     let f = Found c in
-    let p = f .find-shared in
+    let p = f .analyze-shared in
     let b = Goes f in
     let a = Asked (b .before) .ask-structure in
     structure-ends Shared _ _ _ (lower f) (upper f) _ _ _ _ _ _ _ _ _ _ _ _ _ _ (a .ensures) (pass-of _ (sym (b .before .stops .ensures) ∙ b .if1 .left)) (p .ensures) (Refuses c .refuses .ensures) (λ h. h) (λ h. h)
@@ -83,16 +83,16 @@ structure-shared-spec =
     (tie.spec (λ c κs. search needs) (λ c κs. search needs) (λ c κs. search needs)
     (λ c. Asked (c .before .before) .ask-structure .kept .1 .1 .1 .1 .1 .1 .1 .0)
     (λ c. Asked (c .before .before) .ask-structure .kept .1 .1 .1 .1 .1 .1 .1 .1 .0)
-    returns find-shared-requires (λ c κs. search needs) (λ c κs. search needs) (λ c κs. search needs) (λ c κs. search needs) (λ c κs. search needs) (λ c κs. search needs)
+    returns analyze-shared-requires (λ c κs. search needs) (λ c κs. search needs) (λ c κs. search needs) (λ c κs. search needs) (λ c κs. search needs) (λ c κs. search needs)
     (λ c κs. search needs)
-    (λ c. Lower c .clear-lists-if .kept .1 .0 ∙ Found c .find-shared .kept .1 .1 .1 .1 .1 .0)
-    (λ c. Runs c .clear-runs-if .kept .1 .0 ∙ Found c .find-shared .kept .1 .1 .1 .1 .1 .1 .0)
-    (λ c. Lower c .clear-lists-if .kept .1 .1 .0 ∙ Found c .find-shared .kept .1 .1 .1 .1 .1 .1 .1 .0)
+    (λ c. Lower c .clear-lists-if .kept .1 .0 ∙ Found c .analyze-shared .kept .1 .1 .1 .1 .1 .0)
+    (λ c. Runs c .clear-runs-if .kept .1 .0 ∙ Found c .analyze-shared .kept .1 .1 .1 .1 .1 .1 .0)
+    (λ c. Lower c .clear-lists-if .kept .1 .1 .0 ∙ Found c .analyze-shared .kept .1 .1 .1 .1 .1 .1 .1 .0)
     (λ c. LowerValues c .clear-f64 .kept .0)
-    (λ c. Upper c .clear-lists-if2 .kept .1 .0 ∙ Found c .find-shared .kept .1 .1 .1 .1 .1 .1 .1 .1 .1 .0)
-    (λ c. Runs c .clear-runs-if .kept .1 .1 .0 ∙ Found c .find-shared .kept .1 .1 .1 .1 .1 .1 .1 .1 .1 .1 .0)
-    (λ c. Upper c .clear-lists-if2 .kept .1 .1 .0 ∙ Found c .find-shared .kept .1 .1 .1 .1 .1 .1 .1 .1 .1 .1 .1 .0)
+    (λ c. Upper c .clear-lists-if2 .kept .1 .0 ∙ Found c .analyze-shared .kept .1 .1 .1 .1 .1 .1 .1 .1 .1 .0)
+    (λ c. Runs c .clear-runs-if .kept .1 .1 .0 ∙ Found c .analyze-shared .kept .1 .1 .1 .1 .1 .1 .1 .1 .1 .1 .0)
+    (λ c. Upper c .clear-lists-if2 .kept .1 .1 .0 ∙ Found c .analyze-shared .kept .1 .1 .1 .1 .1 .1 .1 .1 .1 .1 .1 .0)
     (λ c. UpperValues c .clear-f642 .kept .0)
     (λ c. Scratch c .clear-scratch .kept .0 ∙ Asked (Goes (Found c) .before) .ask-structure .kept .1 .1 .1 .1 .1 .1 .1 .0)
-    (λ c. Scratch c .clear-scratch .kept .1 .0 ∙ Found c .find-shared .kept .1 .1 .1 .1 .1 .1 .1 .1 .1 .1 .1 .1 .1 .0 ∙ Asked (Goes (Found c) .before) .ask-structure .kept .1 .1 .1 .1 .1 .1 .1 .1 .0)
+    (λ c. Scratch c .clear-scratch .kept .1 .0 ∙ Found c .analyze-shared .kept .1 .1 .1 .1 .1 .1 .1 .1 .1 .1 .1 .1 .1 .0 ∙ Asked (Goes (Found c) .before) .ask-structure .kept .1 .1 .1 .1 .1 .1 .1 .1 .0)
     returns-2)

@@ -42,7 +42,7 @@ close-place-requires c κs =
 
 -- the place is closed over the lists before it
 closing : (p : tie.After-close-place) → let s = Begin (Load p) .args in
-    Closing (s .n) (s .stamp) (s .k .0) (cutsOf (s .side) (s .n)) (s .index .now) (s .runs .now) (Load p .load .last .1 .0) (p .close-place .last .0) (p .close-place .result)
+    Closing (s .n) (s .stamp) (s .k .0) (cutsOf (s .side) (s .n)) (s .runs .now) (s .index .now) (Load p .load .last .1 .0) (p .close-place .last .0) (p .close-place .result)
 closing p = closing-at _ _ _ _ _ _ _ _ _ _ (p .before .before .cuts-of .ensures) (p .close-place .ensures)
 
 -- scratch has its regions

@@ -41,21 +41,21 @@ found : (a : tie.After-opened) (c store : List ℕ) → Holds (Begin (Opening a)
     RowFound (s .args .side) (given s c) (s .args .k .0) (s .args .stamp) (s .args .marks .now) (Opening a .open-place .last .1 .1 .1 .1 .1 .1 .1 .0) (a .opened .given .0 .0)
 found a c store h = told (OpenEnds _ _ _ _ _ _) (a .opened .given .1) (opens (Opening a) c store h)
 
-keep-shared-requires : tie.Need-keep-shared-requires
-keep-shared-requires c κs =
+share-list-requires : tie.Need-share-list-requires
+share-list-requires c κs =
     let a = c .before .before .before .before .before .before in
     let d = Begin (Opening a) .pre in
-    record { pattern = _; store = d .store; keep = side-keep (d .due) (found a (d .order) (d .store) (d .due)) _ (c .before .before .before .before .cuts-of .ensures) }
+    record { pattern = _; store = d .store; stamp = _; keep = side-keep (d .due) (found a (d .order) (d .store) (d .due)) _ (c .before .before .before .before .cuts-of .ensures) }
 
-abbrev Row : tie.After-keep-shared → tie.After-opened
+abbrev Row : tie.After-share-list → tie.After-opened
 Row w = w .before .before .before .before .before .before .before
 
 -- what keeping T(k) tells
-keeps : (w : tie.After-keep-shared) (c store : List ℕ) → Holds (Begin (Opening (Row w))) c store
+keeps : (w : tie.After-share-list) (c store : List ℕ) → Holds (Begin (Opening (Row w))) c store
     → let s = Begin (Opening (Row w)) in
-    let r = w .keep-shared in
+    let r = w .share-list in
     KeepEnds Sharing (patternOf (s .args .side) (given s c)) (s .args .n) (s .args .k .0) (w .before .before .before .before .before .cuts-of .result) store (s .args .side-values) (r .last .1 .0) (r .last .1 .1 .0) (r .last .1 .1 .1 .0) (Opening (Row w) .open-place .last .1 .1 .1 .1 .1 .1 .1 .0) (r .last .1 .1 .1 .1 .1 .0) (r .result)
-keeps w c store h = w .keep-shared .ensures _ store (side-keep h (found (Row w) c store h) _ (w .before .before .before .before .before .cuts-of .ensures))
+keeps w c store h = w .share-list .ensures _ store _ (side-keep h (found (Row w) c store h) _ (w .before .before .before .before .before .cuts-of .ensures))
 
 returns-2 : tie.Need-returns-2
 returns-2 c =
@@ -66,11 +66,11 @@ returns-3 : tie.Need-returns-3
 returns-3 c =
     let w = c .before .before .before .before .before .before .before .before .before .before .before in
     λ o store h.
-    side-next h (found (Row w) o store h) _ (w .before .before .before .before .before .cuts-of .ensures) (told (KeepEnds Sharing _ _ _ _ _ _ _ _ _ _ _) (c .before .put .given .1) (keeps w o store h)) (w .keep-shared .kept .1 .1 .1 .1 .1 .0)
+    side-next h (found (Row w) o store h) _ (w .before .before .before .before .before .cuts-of .ensures) (told (KeepEnds Sharing _ _ _ _ _ _ _ _ _ _ _) (c .before .put .given .1) (keeps w o store h)) (w .share-list .kept .1 .1 .1 .1 .1 .0)
 
 pub place-side-spec : {M : Type 1} → statement M
 place-side-spec =
     tie.close
     (tie.spec open-place-requires (λ c. search needs) (λ c. search needs) (λ c. search needs) (λ c. search needs) (λ c. search needs) returns
-    (λ c κs. search needs) keep-shared-requires (λ c. search needs) (λ c. search needs) (λ c. search needs) (λ c. search needs) (λ c. search needs) (λ c. search needs) returns-2
+    (λ c κs. search needs) share-list-requires (λ c. search needs) (λ c. search needs) (λ c. search needs) (λ c. search needs) (λ c. search needs) (λ c. search needs) returns-2
     (λ c. search needs) (λ c. search needs) (λ c. search needs) (λ c. search needs) returns-3)

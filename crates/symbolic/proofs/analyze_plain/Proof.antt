@@ -10,8 +10,8 @@ use Prim.Native.Nat.{_-_}
 use lib.ListN.{length}
 use native.Mathlib.Omega.{arith}
 use borrow.Author.Needs.{needs}
-use Rattle.symbolic.proofs.find_plain.Statement.{statement}
-use Rattle.symbolic.proofs.find_plain.Tie as tie
+use Rattle.symbolic.proofs.analyze_plain.Statement.{statement}
+use Rattle.symbolic.proofs.analyze_plain.Tie as tie
 
 abbrev Inv-loop : tie.InvT-loop
 Inv-loop n starts columns r c ls₀ li₀ lv us₀ ui₀ uv marks₀ g₀ k₀ ls li us ui marks g k =
@@ -38,10 +38,10 @@ loop-holds c = (
 cast-t31 : tie.Need-cast-t31 Inv-loop μ-loop
 cast-t31 c = omega (arith, Begin (c .before .before) .pre .matrix .few, c .loop-test .taken)
 
-plain-place-requires : tie.Need-plain-place-requires Inv-loop μ-loop
-plain-place-requires c κs = let l = c .before .before .before .before .before in record { order = _; low = _; up = _; place = l .loop-test .taken; at = l .before .loop .inv .0 }
+analyze-place-plain-requires : tie.Need-analyze-place-plain-requires Inv-loop μ-loop
+analyze-place-plain-requires c κs = let l = c .before .before .before .before .before in record { order = _; low = _; up = _; place = l .loop-test .taken; at = l .before .loop .inv .0 }
 
-abbrev In : tie.After-plain-place Inv-loop μ-loop → tie.In-loop Inv-loop μ-loop
+abbrev In : tie.After-analyze-place-plain Inv-loop μ-loop → tie.In-loop Inv-loop μ-loop
 In p = p .before .before .before .before .before .before
 
 -- the stores are as long as they were lent
@@ -57,7 +57,7 @@ returns c =
     let p = c .before .before .before .before .before .before .before .before .before .before .before .before .before in
     let b = In p .before .before in
     both-stop Plain _ (b .before .before .before .before .before .before .before .before .before .before .before .before .before .before .before .clear-index .last .0) _ (b .before .before .before .before .before .before .before .clear-index2 .last .0) _ _ _ (b .before .before .before .before .before .before .before .before .before .before .before .before .before .before .before .clear-index .kept .0) (b .before .before .before .before .before .before .before .clear-index2 .kept .0) _
-    (told (TurnEnds Plain _ _ _ _ _ _ _ _ _ _ _ _ _) (c .before .turned2 .given .1) (p .plain-place .ensures _ _ _ (In p .before .loop .inv .0))) _ _ _ _ _ _
+    (told (TurnEnds Plain _ _ _ _ _ _ _ _ _ _ _ _ _) (c .before .turned2 .given .1) (p .analyze-place-plain .ensures _ _ _ (In p .before .loop .inv .0))) _ _ _ _ _ _
 
 add-k : tie.Need-add-k Inv-loop μ-loop
 add-k c = let l = In (c .before .before .before .before .before .before .before .before .before .before .before .before .before) in omega (arith, l .loop-test .taken, Begin (l .before .before) .pre .matrix .few)
@@ -69,8 +69,8 @@ loop-again : tie.Need-loop-again Inv-loop μ-loop
 loop-again c =
     let p = c .before .before .before .before .before .before .before .before .before .before .before .before .before in
     let v = In p .before .loop .inv in
-    let k = p .plain-place .kept in (
-      told (TurnEnds Plain _ _ _ _ _ _ _ _ _ _ _ _ _) (c .before .turned .given .1) (p .plain-place .ensures _ _ _ (v .0)),
+    let k = p .analyze-place-plain .kept in (
+      told (TurnEnds Plain _ _ _ _ _ _ _ _ _ _ _ _ _) (c .before .turned .given .1) (p .analyze-place-plain .ensures _ _ _ (v .0)),
       k .1 .1 .1 .1 .0 ∙ v .1,
       k .1 .1 .1 .1 .1 .0 ∙ v .2,
       k .1 .1 .1 .1 .1 .1 .1 .0 ∙ v .3,
@@ -84,18 +84,18 @@ returns-2 c =
     both-end Plain _ _ _ _ _ _ _ _ _ _ _ _ _ _ _ _ _ (l .before .before .before .before .before .before .before .before .before .before .before .before .before .before .before .before .clear-index .kept .0) (l .before .before .before .before .before .before .before .before .clear-index2 .kept .0) (l .loop .inv .0) (c .before .loop-test .left) (c .counts-at .ensures) refl refl tt
 
 -- the place that ended the pass
-abbrev Last : tie.After-known-told2 Inv-loop μ-loop → tie.After-plain-place Inv-loop μ-loop
+abbrev Last : tie.After-known-told2 Inv-loop μ-loop → tie.After-analyze-place-plain Inv-loop μ-loop
 Last c = c .before .before .before .before .before .before .before .before .before .before .before .before .before
 
-pub find-plain-spec : {M : Type 1} → statement M
-find-plain-spec =
+pub analyze-plain-spec : {M : Type 1} → statement M
+analyze-plain-spec =
     tie.close
     (tie.spec Inv-loop μ-loop (λ c κs. search needs) (λ c κs. search needs) (λ c κs. search needs) (λ c κs. search needs) (λ c κs. inverse-lent _ _ (c .before .before .before .before .before .before .before .before .before .before .before .before .before .before .before .before .before .before .before .before .before .before .before .before .before .before .pre .matrix)) (λ c κs. search needs)
-    loop-holds cast-t31 plain-place-requires (λ c. search needs) (λ c. search needs)
-    (λ c. Last c .plain-place .kept .1 .1 .1 .1 .0 ∙ lent (In (Last c) .before) .0)
-    (λ c. Last c .plain-place .kept .1 .1 .1 .1 .1 .0 ∙ lent (In (Last c) .before) .1)
-    (λ c. Last c .plain-place .kept .1 .1 .1 .1 .1 .1 .1 .0 ∙ lent (In (Last c) .before) .2)
-    (λ c. Last c .plain-place .kept .1 .1 .1 .1 .1 .1 .1 .1 .0 ∙ lent (In (Last c) .before) .3)
-    (λ c. Last c .plain-place .kept .1 .1 .1 .1 .1 .1 .1 .1 .1 .1 .0 ∙ lent (In (Last c) .before) .4) returns
+    loop-holds cast-t31 analyze-place-plain-requires (λ c. search needs) (λ c. search needs)
+    (λ c. Last c .analyze-place-plain .kept .1 .1 .1 .1 .0 ∙ lent (In (Last c) .before) .0)
+    (λ c. Last c .analyze-place-plain .kept .1 .1 .1 .1 .1 .0 ∙ lent (In (Last c) .before) .1)
+    (λ c. Last c .analyze-place-plain .kept .1 .1 .1 .1 .1 .1 .1 .0 ∙ lent (In (Last c) .before) .2)
+    (λ c. Last c .analyze-place-plain .kept .1 .1 .1 .1 .1 .1 .1 .1 .0 ∙ lent (In (Last c) .before) .3)
+    (λ c. Last c .analyze-place-plain .kept .1 .1 .1 .1 .1 .1 .1 .1 .1 .1 .0 ∙ lent (In (Last c) .before) .4) returns
     add-k loop-less loop-again (λ c κs. search needs)
     (λ c. lent (c .before .before) .0) (λ c. lent (c .before .before) .1) (λ c. lent (c .before .before) .2) (λ c. lent (c .before .before) .3) (λ c. lent (c .before .before) .4) returns-2)

@@ -4,8 +4,8 @@ use Rattle.fill.specs.Fill.{lowerRow, flip}
 use mathlib.Core.Path.{refl}
 use native.Mathlib.Omega.{arith}
 use borrow.Author.Needs.{needs}
-use Rattle.symbolic.proofs.keep_lower.Statement.{statement}
-use Rattle.symbolic.proofs.keep_lower.Tie as tie
+use Rattle.symbolic.proofs.append_lower.Statement.{statement}
+use Rattle.symbolic.proofs.append_lower.Tie as tie
 
 add-mid : tie.Need-add-mid
 add-mid c = let h = c .before .before .before .pre .keep in omega (arith, lower-fits h, h .few)
@@ -23,8 +23,8 @@ returns c =
     λ P store h. lower-stepped P (s .args .values) (s .args .k .0) store (p .append-list .last .1 .0) (p .append-list .last .0) (p .append-list .result)
     (p .append-list .ensures .steps (lowerRow P) (lowerRow (flip P)) (s .args .n) (blank 0 store) (lower-turn h _ refl))
 
-pub keep-lower-spec : {M : Type 1} → statement M
-keep-lower-spec =
+pub append-lower-spec : {M : Type 1} → statement M
+append-lower-spec =
     tie.close
     (tie.spec (λ c. search needs) add-mid (λ c. search needs) (λ c. search needs) (λ c. search needs) part-append-list-end append-list-requires
     (λ c. search needs) (λ c. search needs) returns)

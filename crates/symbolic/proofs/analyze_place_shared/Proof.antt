@@ -10,8 +10,8 @@ use mathlib.Core.List.{List, []}
 use Prim.Native.Nat.{ℕ, _+_}
 use native.Mathlib.Omega.{arith}
 use borrow.Author.Needs.{needs}
-use Rattle.symbolic.proofs.shared_place.Statement.{statement}
-use Rattle.symbolic.proofs.shared_place.Tie as tie
+use Rattle.symbolic.proofs.analyze_place_shared.Statement.{statement}
+use Rattle.symbolic.proofs.analyze_place_shared.Tie as tie
 
 abbrev Begin : tie.After-place-side → tie.Start
 Begin p = p .before .before .before .before .before .before .before .before .before .before .before .before .before .before .before .before
@@ -134,8 +134,8 @@ returns-5 c =
     (lower-begun _ _ _ _ _ _ _ _ _ _ _ _ _ _ h (Start w .pre .place) _ _ _ _ _ b) _ _ _ _ _ x _ _ _ _ _ _
     (c .before .before .add-products .ensures _ _ _ _ (adding u o low up h)) (omega arith) (shared-lower _ _ _ _ _ _ _ _ _ _ _ _ _ _ h (Start w .pre .place) _ _ _ _ _ b _ (u .up .given .0 .0 .extent) (c .before .before .add-products .result) (x .apart))
 
-pub shared-place-spec : {M : Type 1} → statement M
-shared-place-spec =
+pub analyze-place-shared-spec : {M : Type 1} → statement M
+analyze-place-shared-spec =
     tie.close
     (tie.spec (λ c. search needs) (λ c. search needs) place-side-requires (λ c. search needs) (λ c. search needs) (λ c. search needs) add-place-side place-side-requires-2
     (λ c. search needs) (λ c. search needs) (λ c. search needs) add-products-requires

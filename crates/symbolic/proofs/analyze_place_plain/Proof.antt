@@ -11,8 +11,8 @@ use mathlib.Core.List.{List, []}
 use Prim.Native.Nat.{ℕ, _+_}
 use lib.ListN.{length}
 use borrow.Author.Needs.{needs}
-use Rattle.symbolic.proofs.plain_place.Statement.{statement}
-use Rattle.symbolic.proofs.plain_place.Tie as tie
+use Rattle.symbolic.proofs.analyze_place_plain.Statement.{statement}
+use Rattle.symbolic.proofs.analyze_place_plain.Tie as tie
 use Rattle.base.specs.Scratch.{upperCuts}
 
 abbrev Begin : tie.After-open-place → tie.Start
@@ -50,20 +50,20 @@ found : (a : tie.After-opened) (c low up : List ℕ) → Holds (Begin (Opening a
     RowFound Upper (given s c) (s .args .k .0) (s .args .k .0 + 1) (s .args .marks .now) (Opening a .open-place .last .1 .1 .1 .1 .1 .1 .1 .0) (a .opened .given .0 .0)
 found a c low up h = told (OpenEnds Upper _ _ _ _ _) (a .opened .given .1) (opens (Opening a) c low up h)
 
-keep-lower-requires : tie.Need-keep-lower-requires
-keep-lower-requires c κs =
+append-lower-requires : tie.Need-append-lower-requires
+append-lower-requires c κs =
     let a = c .before .before .before .before in
     let d = Begin (Opening a) .pre in
     record { pattern = _; store = d .low; keep = plain-lower _ _ _ _ _ _ _ _ _ _ _ _ (d .at) (d .place) _ _ (found a (d .order) (d .low) (d .up) (d .at)) }
 
-abbrev Row : tie.After-keep-lower → tie.After-opened
+abbrev Row : tie.After-append-lower → tie.After-opened
 Row l = l .before .before .before .before .before
 
 -- what keeping the lower row tells
-lowers : (l : tie.After-keep-lower) (c low up : List ℕ) → Holds (Begin (Opening (Row l))) c low up
+lowers : (l : tie.After-append-lower) (c low up : List ℕ) → Holds (Begin (Opening (Row l))) c low up
     → let s = Begin (Opening (Row l)) in
-    LowerEnds (stored (given s c)) (s .args .k .0) low (s .args .lower-values) (l .keep-lower .last .1 .0) (l .keep-lower .last .1 .1 .0) (l .keep-lower .result)
-lowers l c low up h = l .keep-lower .ensures _ low (plain-lower _ _ _ _ _ _ _ _ _ _ _ _ h (Begin (Opening (Row l)) .pre .place) _ _ (found (Row l) c low up h))
+    LowerEnds (stored (given s c)) (s .args .k .0) low (s .args .lower-values) (l .append-lower .last .1 .0) (l .append-lower .last .1 .1 .0) (l .append-lower .result)
+lowers l c low up h = l .append-lower .ensures _ low (plain-lower _ _ _ _ _ _ _ _ _ _ _ _ h (Begin (Opening (Row l)) .pre .place) _ _ (found (Row l) c low up h))
 
 returns-2 : tie.Need-returns-2
 returns-2 c =
@@ -84,30 +84,30 @@ add-products-requires c κs =
       adding = plain-adding _ _ _ _ _ _ _ _ _ _ _ _ (d .at) (d .place) _ _ (found a (d .order) (d .low) (d .up) (d .at));
     }
 
-abbrev Low : tie.After-keep-plain → tie.After-low
+abbrev Low : tie.After-append-upper → tie.After-low
 Low w = w .before .before .before .before .before .before .before .before
 
-abbrev Kept : tie.After-low → tie.After-keep-lower
+abbrev Kept : tie.After-low → tie.After-append-lower
 Kept l = l .before .before .before .before .before .before
 
-keep-plain-requires : tie.Need-keep-plain-requires
-keep-plain-requires c κs =
+append-upper-requires : tie.Need-append-upper-requires
+append-upper-requires c κs =
     let a = Row (Kept (c .before .before .before .before .before .before .before)) in
     let d = Begin (Opening a) .pre in
-    record { pattern = _; store = d .up; keep = plain-keep _ _ _ _ _ _ _ _ _ _ _ _ (d .at) (d .place) _ _ (found a (d .order) (d .low) (d .up) (d .at)) }
+    record { pattern = _; store = d .up; stamp = _; keep = plain-keep _ _ _ _ _ _ _ _ _ _ _ _ (d .at) (d .place) _ _ (found a (d .order) (d .low) (d .up) (d .at)) }
 
 -- what keeping T(k) tells
-uppers : (w : tie.After-keep-plain) (c low up : List ℕ) → Holds (Begin (Opening (Row (Kept (Low w))))) c low up
+uppers : (w : tie.After-append-upper) (c low up : List ℕ) → Holds (Begin (Opening (Row (Kept (Low w))))) c low up
     → let a = Row (Kept (Low w)) in
     let s = Begin (Opening a) in
-    let r = w .keep-plain in
+    let r = w .append-upper in
     KeepEnds OneAfterAnother (stored (given s c)) (s .args .n) (s .args .k .0) (upperCuts (s .args .n)) up (s .args .upper-values) (r .last .1 .0) (r .last .1 .0) (r .last .1 .1 .0) (Opening a .open-place .last .1 .1 .1 .1 .1 .1 .1 .0) (r .last .1 .1 .1 .1 .0) (r .result)
 uppers w c low up h =
     let a = Row (Kept (Low w)) in
-    w .keep-plain .ensures _ up (plain-keep _ _ _ _ _ _ _ _ _ _ _ _ h (Begin (Opening a) .pre .place) _ _ (found a c low up h))
+    w .append-upper .ensures _ up _ (plain-keep _ _ _ _ _ _ _ _ _ _ _ _ h (Begin (Opening a) .pre .place) _ _ (found a c low up h))
 
-same-marks : (w : tie.After-keep-plain) → length (w .keep-plain .last .1 .1 .1 .1 .0) ≡ length (Begin (Opening (Row (Kept (Low w)))) .args .marks .now)
-same-marks w = w .keep-plain .kept .1 .1 .1 .1 .0 ∙ Opening (Row (Kept (Low w))) .open-place .kept .1 .1 .1 .1 .1 .1 .1 .0
+same-marks : (w : tie.After-append-upper) → length (w .append-upper .last .1 .1 .1 .1 .0) ≡ length (Begin (Opening (Row (Kept (Low w)))) .args .marks .now)
+same-marks w = w .append-upper .kept .1 .1 .1 .1 .0 ∙ Opening (Row (Kept (Low w))) .open-place .kept .1 .1 .1 .1 .1 .1 .1 .0
 
 same-length-13 : tie.Need-same-length-13
 same-length-13 c = same-marks (c .before .before .before .before .before .before .before .before)
@@ -134,14 +134,14 @@ returns-4 c =
     λ o low up h.
     let f = found a o low up h in
     let d = told (LowerEnds _ _ _ _ _ _) (l .low .given .1) (lowers (Kept l) o low up h) in
-    plain-next _ _ _ _ _ _ _ _ _ _ _ _ h (Begin (Opening a) .pre .place) _ _ f (d .0) _ _ _ (d .1) (Kept l .keep-lower .kept .1 .0)
-    _ (w .before .before .before .before .add-products .ensures _ _ _ _ (plain-adding _ _ _ _ _ _ _ _ _ _ _ _ h (Begin (Opening a) .pre .place) _ _ f)) _ _ _ _ (w .keep-plain .kept .1 .1 .1 .1 .0)
+    plain-next _ _ _ _ _ _ _ _ _ _ _ _ h (Begin (Opening a) .pre .place) _ _ f (d .0) _ _ _ (d .1) (Kept l .append-lower .kept .1 .0)
+    _ (w .before .before .before .before .add-products .ensures _ _ _ _ (plain-adding _ _ _ _ _ _ _ _ _ _ _ _ h (Begin (Opening a) .pre .place) _ _ f)) _ _ _ _ (w .append-upper .kept .1 .1 .1 .1 .0)
     (told (KeepEnds OneAfterAnother _ _ _ _ _ _ _ _ _ _ _) (u .up .given .1) (uppers w o low up h))
 
-pub plain-place-spec : {M : Type 1} → statement M
-plain-place-spec =
+pub analyze-place-plain-spec : {M : Type 1} → statement M
+analyze-place-plain-spec =
     tie.close
     (tie.spec (λ c. search needs) open-place-requires (λ c. search needs) (λ c. search needs) (λ c. search needs) (λ c. search needs) (λ c. search needs) returns
-    keep-lower-requires (λ c. search needs) (λ c. search needs) (λ c. search needs) (λ c. search needs) (λ c. search needs) (λ c. search needs) (λ c. search needs) returns-2
-    add-products-requires keep-plain-requires (λ c. search needs) (λ c. search needs) (λ c. search needs) (λ c. search needs) (λ c. search needs) (λ c. search needs) same-length-13 returns-3
+    append-lower-requires (λ c. search needs) (λ c. search needs) (λ c. search needs) (λ c. search needs) (λ c. search needs) (λ c. search needs) (λ c. search needs) returns-2
+    add-products-requires append-upper-requires (λ c. search needs) (λ c. search needs) (λ c. search needs) (λ c. search needs) (λ c. search needs) (λ c. search needs) same-length-13 returns-3
     (λ c. search needs) (λ c. search needs) (λ c. search needs) (λ c. search needs) same-length-18 returns-4)

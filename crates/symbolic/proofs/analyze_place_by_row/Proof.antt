@@ -12,8 +12,8 @@ use Prim.Native.Nat.{ℕ, _+_}
 use native.Mathlib.Omega.{arith}
 use native.Mathlib.Numerals.{add-one}
 use borrow.Author.Needs.{needs}
-use Rattle.symbolic.proofs.row_place.Statement.{statement}
-use Rattle.symbolic.proofs.row_place.Tie as tie
+use Rattle.symbolic.proofs.analyze_place_by_row.Statement.{statement}
+use Rattle.symbolic.proofs.analyze_place_by_row.Tie as tie
 
 abbrev Begin : tie.After-place-side → tie.Start
 Begin p = p .before .before .before .before .before .before .before .before .before .before .before .before .before
@@ -84,8 +84,8 @@ returns-3 c =
     upper-next ByRow refl _ _ _ _ _ _ _ _ _ _ _ _ _ _ h (Begin (Ended e) .pre .place) (fits-row _ _ _ _) _ _ (h .begun) _ _ _ _ _ x [] [] [] _ _ _
     (c .before .before .before .before .add-products .ensures _ _ _ _ (adding e o low up h)) (add-one _) (row-counts _ _ _ _ _ _ _ _ _ _ _ h (Begin (Ended e) .pre .place) _ (x .size))
 
-pub row-place-spec : {M : Type 1} → statement M
-row-place-spec =
+pub analyze-place-by-row-spec : {M : Type 1} → statement M
+analyze-place-by-row-spec =
     tie.close
     (tie.spec (λ c. search needs) place-side-requires (λ c. search needs) (λ c. search needs) (λ c. search needs) add-products-requires add-t35
     (λ c. search needs) (λ c. search needs) (λ c. search needs) (λ c. search needs) returns (λ c. search needs) (λ c. search needs) (λ c. search needs) (λ c. search needs) returns-2
