@@ -116,7 +116,11 @@ fn declarations() -> Compared {
 
 fn exports() -> Compared {
     let header = header_signatures(&text_of("include/lilacpliers.h")?);
-    same_signatures(&exported_signatures(&text_of("crates/capi/src/lib.rt")?), &header)
+    // The exports name the index type; base says which it is.
+    let base = text_of("crates/base/src/lib.rt")?;
+    let index = between(&base, "pub type Index = ", ";").unwrap_or_default();
+    let exports = text_of("crates/capi/src/lib.rt")?.replace("[Index]", &format!("[{index}]"));
+    same_signatures(&exported_signatures(&exports), &header)
 }
 
 /// Checks that each declared function has a comment right above it.
