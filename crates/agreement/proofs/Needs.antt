@@ -1,12 +1,10 @@
 -- Slots enough: no form needs more of a store than the counts, and the row form nothing below.
-use mathlib.Core.Path.{_≡_, refl, sym, ap, ap₂, _∙_}
-use mathlib.Core.Bool.{true, _&&_}
+use mathlib.Core.Path.{_≡_, refl, sym, ap, _∙_}
 use mathlib.Core.Logic.{inl, inr}
 use mathlib.Core.List.{List, []}
-use Prim.Native.Nat.{ℕ, zero, suc, _+_, _≤_, _<_}
+use Prim.Native.Nat.{ℕ, zero, suc, _+_, _≤_}
 use native.Mathlib.Omega.{arith}
 use lib.ListN.{length}
-use borrow.Author.Tests.{le-leb}
 use Rattle.base.specs.Lists.{sum}
 use Rattle.base.specs.AscLaws.{sum-ext}
 use Rattle.fill.specs.Fill.{Pattern, flip, upperRow, lowerRow}
@@ -14,9 +12,8 @@ use Rattle.fill.specs.ListLaws.{lower-is-upper, lower-rows-columns}
 use Rattle.placement.specs.Placing.{startOf}
 use Rattle.matrix.specs.Input.{Input, stored}
 use Rattle.outcome.specs.Forms.{indexNeed, valueNeed}
-use Rattle.base.specs.declared.Sizes.{Sizes}
 use Rattle.outcome.specs.Buffers.{Buffers, sizes}
-use Rattle.outcome.specs.Structure.{counts, fits}
+use Rattle.outcome.specs.Structure.{counts}
 use Rattle.outcome.specs.Placed.{lists-kept, value-grows}
 use Rattle.agreement.specs.Demand.{Short, Lacks}
 use Rattle.base.specs.declared.Form.{Form}
@@ -43,14 +40,6 @@ module _ (P : Pattern) (n : ℕ) where
   row-values : (k : ℕ) → valueNeed ByRow Lower P n k ≡ 0
   unfolding valueNeed
   row-values k = none-need k
-
-  -- "The row form keeps no L and never gives it."
-  pub row-fits : (z : Sizes) (k : ℕ) → k < n → fits ByRow Lower P n z k ≡ true
-  unfolding fits
-  row-fits z k l =
-      ap₂ (λ a b. a && b)
-      (le-leb (indexNeed ByRow Lower P n (suc k)) (z .lower .index) (omega (arith, index-le ByRow Lower (suc k) l, row-values (suc k))))
-      (le-leb (valueNeed ByRow Lower P n (suc k)) (z .lower .values) (omega (arith, row-values (suc k))))
 
 -- the value stores hold what is counted
 module _ (i : Input) where

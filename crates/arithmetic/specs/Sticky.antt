@@ -2,19 +2,19 @@
 -- each result does.
 use mathlib.Core.Path.{_≡_, refl, sym, _∙_, ap, subst}
 use mathlib.Core.Logic.{_⊎_, inl, inr, ⊎-elim}
-use mathlib.Core.Bool.{Bool, true, false, cond, not, _&&_, Bool·beq}
+use mathlib.Core.Bool.{Bool, true, false, cond, _&&_, Bool·beq}
 use mathlib.Core.List.{List, [], _∷_, _++_, List·Memᴰ, List·Memᴰ·head, List·Memᴰ·tail, List·Memᴰ·not-nil, List·Memᴰ·cases-cons}
-use Prim.Native.Nat.{ℕ, zero, suc, _<_, _≤_}
+use Prim.Native.Nat.{ℕ, _<_}
 use native.Mathlib.Decide.{ℕ-discrete, decLt}
 use native.Mathlib.Omega.{arith}
 use lib.Dec.{T, eqb}
 use lib.ListN.{length, getD, set, length-set}
 use lib.Seq.{getD-set-same, getD-set-other, set-out}
-use lib.Ieee.{Float, nan, inf, fin, Format, binary64, neg, add, sub, mul, div}
+use lib.Ieee.{Float, nan, inf, fin, Format, binary64, neg, add, sub, mul}
 use lib.Ieee.Scale.{finite}
 use Rattle.arithmetic.specs.RowEnd.{finiteOn, finiteAll, quiet, products}
 use Rattle.arithmetic.specs.Arith.{Out, ok, System, Row, Given, given, Work, met, overflow}
-use Rattle.arithmetic.specs.Stopping.{_>>=_, Check, any, less, subtract, stepAt, scaled, finish, row, rest, at, start, steps}
+use Rattle.arithmetic.specs.Stopping.{_>>=_, any, less, subtract, stepAt, scaled, finish, row, rest, at, start, steps}
 
 -- ---- floats
 
@@ -63,12 +63,6 @@ unfolding sub
 sub-right f a b h = add-right f a (neg b) (neg-finite b ∙ h)
 
 -- ---- v − a·b: the difference alone tells
-
-at-no : (k : ℕ) (x : Float) → finite x ≡ false → at k x ≡ met (overflow k)
-at-no k x h = rw h
-
-at-yes : (k : ℕ) (x : Float) → finite x ≡ true → at k x ≡ ok x
-at-yes k x h = rw h
 
 pub less-at : (k : ℕ) (v a b : Float) → less (at k) v a b ≡ at k (sub binary64 v (mul binary64 a b))
 less-at k v a b = go (mul binary64 a b) (finite (mul binary64 a b)) refl

@@ -1,14 +1,11 @@
 -- The code's test of a float: x - x is zero exactly where x is finite.
-use mathlib.Core.Path.{_≡_, refl, sym, ap, _∙_, subst}
-use Prim.Native.Nat.{ℕ, zero, suc, _+_, _-_, _*_, _^_, _<_, _≤_}
+use mathlib.Core.Path.{_≡_, refl, sym, _∙_}
+use Prim.Native.Nat.{ℕ, _-_, _*_, _<_}
 use native.Mathlib.Nat.{sub-self, zero-mul, mul-one, mul-pos, le-refl, eq-of-mul-eq-mul-right}
-use native.Mathlib.Omega.{arith}
-use mathlib.Core.Bool.{Bool, true, false, cond, _&&_, _||_, Bool·beq}
-use borrow.Author.Tests.{eq-eqb, le-ltb}
-use lib.Dec.{T, eqb, ltb, lit<}
-use lib.Pow.{pow-pos}
-use lib.IntN.{ℤ, pos}
-use lib.Ieee.{Float, nan, inf, fin, Format, binary64, up, down, neg, add, sub, sum, eq, round, level, low, emax, prec}
+use mathlib.Core.Bool.{Bool, true, false, _&&_, Bool·beq}
+use borrow.Author.Tests.{le-ltb}
+use lib.Dec.{lit<}
+use lib.Ieee.{Float, nan, inf, fin, binary64, up, down, neg, add, sub, sum, eq, round}
 use lib.Ieee.Fits.{down-pos}
 use lib.Ieee.Exact.{HasValue, round-exact}
 use lib.Ieee.Scale.{finite}

@@ -12,7 +12,7 @@ use Rattle.base.specs.declared.Asked.the-variants.{Pass, Stop}
 use Rattle.base.specs.declared.Answer.{Answer}
 use Rattle.base.specs.declared.Answer.the-variants.{Done, Refused}
 use Rattle.base.specs.declared.Ended.{Ended}
-use Rattle.base.specs.declared.Ended.the-variants.{Complete, Declined}
+use Rattle.base.specs.declared.Ended.the-variants as ends
 use mathlib.Core.Bool.{Bool, true, false}
 
 -- "Questions, in order": the number of each
@@ -72,12 +72,12 @@ countsOf (Done c) = c
 countsOf (Refused q) = record { lower = 0; upper = 0; products = 0 }
 
 abbrev pub numberOfEnd : Ended → ℕ
-numberOfEnd Complete = 0
-numberOfEnd (Declined q) = numberOf q
+numberOfEnd ends.Done = 0
+numberOfEnd (ends.Refused q) = numberOf q
 
 abbrev pub placeOfEnd : Ended → ℕ
-placeOfEnd Complete = 0
-placeOfEnd (Declined q) = placeOf q
+placeOfEnd ends.Done = 0
+placeOfEnd (ends.Refused q) = placeOf q
 
 -- an own number, and an elimination place
 abbrev pub own : ℕ → OwnNumber

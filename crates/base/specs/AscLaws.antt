@@ -1,14 +1,13 @@
 -- Laws of sums, counts, ascending lists and membership.
-use mathlib.Core.Path.{_≡_, refl, sym, ap, ap₂, _∙_, subst}
-use mathlib.Core.Bool.{Bool, true, false, _&&_, _||_, false≢true, or-assoc, or-false, and-false}
-use mathlib.Core.Logic.{_⊎_, inl, inr, _↔_}
+use mathlib.Core.Path.{_≡_, refl, sym, ap, ap₂, _∙_}
+use mathlib.Core.Bool.{Bool, true, false, _&&_, _||_, or-assoc, or-false, and-false}
 use mathlib.Core.List.{List, [], _∷_, _++_, append-nil, map, map-append}
-use Prim.Native.Nat.{ℕ, zero, suc, _+_, _*_, _≤_, _<_, min}
-use native.Mathlib.Nat.{add-zero, mul-suc, suc-mul, add-mul, zero-mul}
+use Prim.Native.Nat.{ℕ, zero, suc, _+_, _*_, _≤_, _<_}
+use native.Mathlib.Nat.{add-mul}
 use native.Mathlib.Omega.{arith}
 use native.Mathlib.Decide.{decLt, ℕ-discrete}
 use lib.ListN.{length, getD, take, drop, length-append, List·getD-append, drop-of-length-le}
-use lib.Seq.{take-append-le, drop-append-le, getD-append-seam, take-at, take-length, ext-getD, getD-at, take-all}
+use lib.Seq.{take-append-le, drop-append-le, getD-at, take-all}
 use native.Mathlib.Numerals.{add-one}
 use lib.Dec.{ltb, leb, eqb}
 use Rattle.base.specs.Lists.{sum, bit, count, keep, asc, total, has}
@@ -179,12 +178,6 @@ asc-yes p n h = rw (add-one, h)
 pub asc-no : (p : ℕ → Bool) (n : ℕ) → p n ≡ false → asc p (n + 1) ≡ asc p n
 unfolding asc
 asc-no p n h = rw (add-one, h) (append-nil (asc p n))
-
-pub count-yes : (p : ℕ → Bool) (n : ℕ) → p n ≡ true → count p (n + 1) ≡ count p n + 1
-count-yes p n h = rw add-one (count-suc p n ∙ ap (λ b. count p n + bit b) h)
-
-pub count-no : (p : ℕ → Bool) (n : ℕ) → p n ≡ false → count p (n + 1) ≡ count p n
-count-no p n h = rw add-one (count-suc p n ∙ ap (λ b. count p n + bit b) h ∙ add-zero (count p n))
 
 pub count-none : (p : ℕ → Bool) (n : ℕ) → ((j : ℕ) → j < n → p j ≡ false) → count p n ≡ 0
 count-none p n h = sym (length-asc p n) ∙ ap length (asc-none p n h)

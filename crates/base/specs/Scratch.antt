@@ -1,5 +1,5 @@
 -- The regions of scratch. "Scratch: 3n binary64 and 8n + 8 32-bit slots": each region has n slots, and the last eight slots are free. Definitions only.
-use Prim.Native.Nat.{ℕ, _+_, _*_}
+use Prim.Native.Nat.{ℕ, _*_}
 
 -- ---- 32-bit: the marks of the place at work are the first n slots
 

@@ -1,11 +1,11 @@
 -- Laws of clearing: a loop that stores one value in every slot, and padded stores.
-use mathlib.Core.Path.{_≡_, refl, sym, _∙_, ap}
+use mathlib.Core.Path.{_≡_, refl, _∙_, ap}
 use mathlib.Core.List.{List, [], _∷_, _++_, append-nil}
 use Prim.Native.Nat.{ℕ, zero, suc, _+_, _-_, _≤_, _<_}
 use native.Mathlib.Nat.{not-suc-le-zero, le-of-suc-le-suc}
 use native.Mathlib.Omega.{arith}
 use native.Mathlib.Numerals.{add-one}
-use lib.ListN.{length, set, drop, replicate, length-replicate, length-set, length-append, length-drop, drop-of-length-le, getD, getD-replicate}
+use lib.ListN.{length, set, drop, replicate, length-replicate, length-append, drop-of-length-le, getD, getD-replicate}
 use Rattle.base.specs.Lists.{blank, padded}
 
 module _ {A : Type 0} (v : A) where
@@ -25,10 +25,6 @@ module _ {A : Type 0} (v : A) where
   pub filling-more : (d s : List A) (i : ℕ) → i < length d → s ≡ filling d i → set s i v ≡ filling d (i + 1)
   unfolding filling
   filling-more d s i l e = rw (e, add-one) (fill-suc i d l)
-
-  pub filling-length : (d s : List A) (i : ℕ) → i ≤ length d → s ≡ filling d i → length s ≡ length d
-  unfolding filling
-  filling-length d s i l e = rw e (simp (length-append, length-replicate, length-drop) (omega arith))
 
   pub filling-all : (d s : List A) (i : ℕ) → length d ≤ i → i ≤ length d → s ≡ filling d i → s ≡ blank v d
   unfolding filling blank

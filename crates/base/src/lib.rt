@@ -134,8 +134,8 @@ pub enum Answer {
 
 // How a call without counts ends.
 pub enum Ended {
-    Complete,
-    Declined(Refusal),
+    Done,
+    Refused(Refusal),
 }
 
 impl Refusal {
@@ -233,14 +233,14 @@ impl Answer {
 }
 
 impl Ended {
-    // 0 for complete, else the refusal's number.
+    // Gives 0 for done, else the refusal's number.
     pub fn number(self) -> u32
         ensures { λ r. ⌜ r ≡ numberOfEnd self ⌝ }
     {
         let a = self;
         match a {
-            Ended::Complete => 0,
-            Ended::Declined(q) => q.number(),
+            Ended::Done => 0,
+            Ended::Refused(q) => q.number(),
         }
     }
 
@@ -249,8 +249,8 @@ impl Ended {
     {
         let a = self;
         match a {
-            Ended::Complete => 0,
-            Ended::Declined(q) => q.place(),
+            Ended::Done => 0,
+            Ended::Refused(q) => q.place(),
         }
     }
 }

@@ -1,7 +1,6 @@
 -- The file of a stream passes its questions and holds the stream; a file that passes them is the file of its payloads.
 use mathlib.Core.Path.{_≡_, refl, sym, ap, _∙_}
-use mathlib.Core.Logic.{⊎-elim}
-use mathlib.Core.Bool.{Bool, true, false, not, _&&_}
+use mathlib.Core.Bool.{true, false, not, _&&_}
 use mathlib.Core.List.{List, [], _∷_, _++_, append-nil}
 use Prim.Native.Nat.{ℕ, zero, suc, _+_, _-_, _*_, _/_, _%_, _^_, _<_, _≤_}
 use native.Mathlib.Nat.{not-suc-le-zero}
@@ -9,15 +8,15 @@ use native.Mathlib.Omega.{arith}
 use native.Mathlib.Decide.{decLt}
 use borrow.Author.Tests.{eq-eqb, eqb-true, ltb-true, leb-true, lt-ltb, le-leb}
 use lib.Dec.{eqb, ltb, leb}
-use lib.ListN.{length, getD, take, drop, replicate, length-append, length-take, length-drop, List·getD-append, List·getD-eq-default, drop-of-length-le}
-use lib.Seq.{getD-take, getD-drop, length-take-le, ext-getD}
-use Rattle.base.specs.Lists.{table, joined, padded}
+use lib.ListN.{length, getD, take, drop, replicate, length-append, length-take, List·getD-append, List·getD-eq-default, drop-of-length-le}
+use lib.Seq.{getD-take, getD-drop, ext-getD}
+use Rattle.base.specs.Lists.{joined, padded}
 use Rattle.base.specs.First.{first}
 use Rattle.base.specs.FirstLaws.{first-none, first-all, first-found}
 use Rattle.base.specs.TableLaws.{length-table, getD-table}
 use Rattle.base.specs.ZerosLaws.{padded-length}
 use Rattle.base.specs.Tests.{and-cases, not-true, not-false}
-use Rattle.base.specs.Answers.{holds, absent, andThen}
+use Rattle.base.specs.Answers.{holds, absent}
 use Rattle.base.specs.declared.Found.{Found}
 use Rattle.base.specs.declared.Found.the-variants.{At, Nothing}
 use Rattle.base.specs.declared.Asked.the-variants.{Pass, Stop}
@@ -26,7 +25,7 @@ use Rattle.fields.specs.Numbers.{le, bytes}
 use Rattle.fields.specs.Payload.{place, room, payload, payloads, zeroFrom}
 use Rattle.fields.proofs.NumberLaws.{getD-after, length-bytes, le-bytes, byte-le}
 use Rattle.fields.proofs.ZeroLaws.{zero-bytes, zero-yes}
-use Rattle.blocks.specs.Blocks.{byteFrom, checkA, checkB, rightAt, rightBlock, wrongBlock, firstWrong, wholeBlocks, askBlocks, sealBlock, payloadIn, blocksFor, fileOf, endsAt, payloadOf, sealed}
+use Rattle.blocks.specs.Blocks.{byteFrom, checkA, checkB, rightBlock, wrongBlock, firstWrong, wholeBlocks, askBlocks, sealBlock, payloadIn, blocksFor, fileOf, endsAt, payloadOf, sealed}
 use Rattle.blocks.proofs.CheckLaws.{checks-ext, checkA-lt, checkB-lt}
 use Rattle.blocks.proofs.SealLaws.{length-sealBlock, length-payload, sealedAt}
 use Rattle.blocks.proofs.AskLaws.{then-first, then-second, holds-true, absent-none}

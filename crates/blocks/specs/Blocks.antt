@@ -1,12 +1,11 @@
 -- "Blocks of 512 bytes: payload 504, block number from 0 in 4, check A in 2, check B in 2." Definitions only.
 use mathlib.Core.Bool.{Bool, not, _&&_}
-use mathlib.Core.List.{List, [], _∷_, _++_}
+use mathlib.Core.List.{List, _++_}
 use Prim.Native.Nat.{ℕ, _+_, _-_, _*_, _/_, _%_}
 use lib.ListN.{length, getD, take, drop}
 use lib.Dec.{eqb, leb, ltb}
 use Rattle.base.specs.Lists.{sum, joined, padded}
 use Rattle.base.specs.First.{first}
-use Rattle.base.specs.All.{all}
 use Rattle.base.specs.Answers.{holds, absent, andThen}
 use Rattle.base.specs.declared.Found.{Found}
 use Rattle.base.specs.declared.Asked.{Asked}

@@ -10,7 +10,7 @@ ghost use Rattle.outcome.specs.Buffers.{plainBuffers, sharedBuffers, rowBuffers
 ghost use Rattle.outcome.specs.Structure.{structure};
 ghost use Rattle.outcome.specs.Solve.{solve};
 ghost use Rattle.lookup.specs.Lookup.{sideLists};
-ghost use Rattle.matrix_file.specs.MatrixFile.{listsOf, opened, readOutcome, writeOutcome};
+ghost use Rattle.matrix_file.specs.MatrixFile.{matrixLists, opened, readOutcome, writeOutcome};
 ghost use Rattle.report.specs.Report.{Told, ToldEnd, numberOfShape, shapeSlots, listSlots};
 use base::Index;
 
@@ -326,8 +326,8 @@ pub extern "C" fn lp_read_matrix(
     b: &mut [f64],
     report: &mut [u64],
 ) -> u32
-    ensures { λ q. ⌜ ToldEnd (readOutcome (now (file .entry)) (listsOf (now (starts .entry)) (now (columns .entry)) (now (values .entry)) (now (r .entry)) (now (c .entry)) (now (b .entry))))
-        (now (report .entry)) (now (report .exit)) (listsOf (now (starts .exit)) (now (columns .exit)) (now (values .exit)) (now (r .exit)) (now (c .exit)) (now (b .exit))) q ⌝ }
+    ensures { λ q. ⌜ ToldEnd (readOutcome (now (file .entry)) (matrixLists (now (starts .entry)) (now (columns .entry)) (now (values .entry)) (now (r .entry)) (now (c .entry)) (now (b .entry))))
+        (now (report .entry)) (now (report .exit)) (matrixLists (now (starts .exit)) (now (columns .exit)) (now (values .exit)) (now (r .exit)) (now (c .exit)) (now (b .exit))) q ⌝ }
 {
     report::read_matrix(file, starts, columns, values, r, c, b, report)
 }

@@ -1,6 +1,6 @@
 -- The graphs marked P: the table computed, the paper's file, and n = 0, 4,097 and 4,096 in every call.
 use mathlib.Core.Path.{_≡_, refl}
-use mathlib.Core.List.{[], map}
+use mathlib.Core.List.{map}
 use Prim.Native.Nat.{suc}
 use lib.Ieee.{ofBits, toBits, sub, mul, div, eq}
 use Rattle.base.specs.Lists.{sum, count, asc, has, table, joined, listAt, pairs, padded}

@@ -19,7 +19,7 @@ use Rattle.matrix.specs.Questions.{askStructure, askSolve, askRight}
 use Rattle.arithmetic.specs.Again.{wholeAgain}
 use Rattle.arithmetic.specs.Arith.{Fault, zeroPivot, overflow, Out, ok, met, judged, Result}
 use Rattle.blocks.specs.Blocks.{askBlocks, wholeBlocks, firstWrong}
-use Rattle.matrix_file.specs.MatrixFile.{nOf, eOf, fitsShape, fileLength, lengthsRight, listsRight, askHead, askFile, shaped, opened, askRead, askLengths, askWrite, left, outcome, Lists, readOutcome, writeOutcome}
+use Rattle.matrix_file.specs.MatrixFile.{nOf, eOf, fitsShape, fileLength, lengthsRight, listsRight, askHead, askFile, shaped, opened, askRead, askLengths, askWrite, left, outcome, MatrixLists, readOutcome, writeOutcome}
 use Rattle.lookup.specs.Lookup as lookup
 use Rattle.lookup.specs.LookupLaws.{sized-no, span-unfit, part-is}
 use Rattle.outcome.specs.Buffers.{Buffers, sizes, askShape, Outcome, ended, stop}
@@ -40,7 +40,7 @@ use Rattle.base.specs.declared.Refusal.the-variants.{Rows, Lengths, FileShape, 
 use Rattle.base.specs.declared.Asked.{Asked}
 use Rattle.base.specs.declared.Asked.the-variants.{Pass, Stop}
 use Rattle.base.specs.declared.Answer.the-variants.{Refused}
-use Rattle.base.specs.declared.Ended.the-variants.{Declined}
+use Rattle.base.specs.declared.Ended.the-variants as ends
 
 -- ---- an n that is refused
 
@@ -59,7 +59,7 @@ file-1 : (file : List ℕ) → askBlocks file ≡ Pass → rowsWithin (nOf file)
 unfolding askFile
 file-1 file p o = rw p (head-1 file (nOf file) (eOf file) o)
 
-read-1 : (file : List ℕ) (l : Lists) → askFile file ≡ Stop Rows → askRead file l ≡ Stop Rows
+read-1 : (file : List ℕ) (l : MatrixLists) → askFile file ≡ Stop Rows → askRead file l ≡ Stop Rows
 unfolding askRead
 read-1 file l e = rw e
 
@@ -71,7 +71,7 @@ made-1 : (n e : ℕ) → rowsWithin n ≡ false → shapeOf n e ≡ Unshaped Row
 unfolding shapeOf
 made-1 n e o = rw o
 
-declined : {A : Type 0} (a : Asked) (new old : A) (q : Refusal) → a ≡ Stop q → outcome a new old ≡ left (Declined q) old
+declined : {A : Type 0} (a : Asked) (new old : A) (q : Refusal) → a ≡ Stop q → outcome a new old ≡ left (ends.Refused q) old
 declined a new old q e = rw e
 
 span-1 : (f : Form) (side : Side) (k : Place) (n : ℕ) (l u : lookup.SideLists) → rowsWithin n ≡ false → lookup.spanIn f side k n l u ≡ lookup.spanFrom 0 0
@@ -94,8 +94,8 @@ module _ (n : ℕ) (o : rowsWithin n ≡ false) where
       record {
         structures = λ f i s e. first-stop Refused _ s _ Rows (shape-1 (i .n) _ (out (i .n) e));
         solves = λ f i s e. first-stop Refused _ s _ Rows (shape-1 (i .n) _ (out (i .n) e));
-        refactors = λ f i s e. first-stop Declined _ s _ Rows (shape-1 (i .n) _ (out (i .n) e));
-        resolves = λ f i s e. first-stop Declined _ s _ Rows (shape-1 (i .n) _ (out (i .n) e));
+        refactors = λ f i s e. first-stop ends.Refused _ s _ Rows (shape-1 (i .n) _ (out (i .n) e));
+        resolves = λ f i s e. first-stop ends.Refused _ s _ Rows (shape-1 (i .n) _ (out (i .n) e));
         makes = λ e. made-1 n e o;
         opens = λ file p e. ap (λ (a : Asked). shaped a (record { rows = nOf file; entries = eOf file })) (file-1 file p (out (nOf file) e));
         reads = λ file l p e. declined (askRead file l) _ l Rows (read-1 file l (file-1 file p (out (nOf file) e)));
@@ -138,7 +138,7 @@ file-later : (file : List ℕ) → rowsWithin (nOf file) ≡ true → Within 16 
 unfolding askFile
 file-later file o = within-then 16 18 (askBlocks file) (askHead file (nOf file) (eOf file)) (blocks-later file) (head-later file (nOf file) (eOf file) o)
 
-read-later : (file : List ℕ) (l : Lists) → rowsWithin (nOf file) ≡ true → Later (askRead file l)
+read-later : (file : List ℕ) (l : MatrixLists) → rowsWithin (nOf file) ≡ true → Later (askRead file l)
 unfolding askRead
 read-later file l o =
     within-then 2 18 (askFile file) (holds (listsRight (nOf file) (eOf file) l) Lengths) (later 16 18 _ (omega arith) (omega arith) (file-later file o)) (within-holds 2 18 (listsRight (nOf file) (eOf file) l) Lengths (omega arith) (omega arith))
@@ -216,11 +216,11 @@ module _ (f : Form) (i : Input) (s : Buffers) where
 
     refactor-not : numberOfEnd (refactor f i s .answer) ≡ 1 → ⊥
     unfolding refactor shape
-    refactor-not = never numberOfEnd Declined (λ q. refl) _ (askSolve i) _ _ _ _ _ (shape-later (i .n) _ o) solved presented (refactored-not (listed i))
+    refactor-not = never numberOfEnd ends.Refused (λ q. refl) _ (askSolve i) _ _ _ _ _ (shape-later (i .n) _ o) solved presented (refactored-not (listed i))
 
     resolve-not : numberOfEnd (resolve f i s .answer) ≡ 1 → ⊥
     unfolding resolve
-    resolve-not = never numberOfEnd Declined (λ q. refl) _ (askRight (i .n) (i .r) (i .c) (i .b)) _ _ _ _ _ (shape-later (i .n) _ o) (later 5 6 _ (omega arith) (omega arith) (right-within (i .n) (i .r) (i .c) (i .b))) factored (resolved-not (judged (wholeAgain (factorsOf f i s))))
+    resolve-not = never numberOfEnd ends.Refused (λ q. refl) _ (askRight (i .n) (i .r) (i .c) (i .b)) _ _ _ _ _ (shape-later (i .n) _ o) (later 5 6 _ (omega arith) (omega arith) (right-within (i .n) (i .r) (i .c) (i .b))) factored (resolved-not (judged (wholeAgain (factorsOf f i s))))
 
 module _ (n : ℕ) (o : rowsWithin n ≡ true) where
   in-limits : (m : ℕ) → m ≡ n → rowsWithin m ≡ true

@@ -10,7 +10,7 @@ use Rattle.base.specs.Answers.{numberOfAnswer, numberOfEnd}
 use Rattle.matrix.specs.Input.{Input}
 use Rattle.matrix.specs.Shape.{shapeOf}
 use Rattle.blocks.specs.Blocks.{askBlocks}
-use Rattle.matrix_file.specs.MatrixFile.{nOf, opened, left, Lists, readOutcome, writeOutcome, matrixAt, written}
+use Rattle.matrix_file.specs.MatrixFile.{nOf, opened, left, MatrixLists, readOutcome, writeOutcome, matrixAt, written}
 use Rattle.matrix_file.specs.Example.{exampleFile}
 use Rattle.lookup.specs.Lookup as lookup
 use Rattle.outcome.specs.Buffers.{Buffers, ended}
@@ -26,19 +26,19 @@ use Rattle.base.specs.declared.Place.{Place}
 use Rattle.base.specs.declared.Refusal.the-variants.{Rows}
 use Rattle.base.specs.declared.Asked.the-variants.{Pass}
 use Rattle.base.specs.declared.Answer.the-variants.{Refused}
-use Rattle.base.specs.declared.Ended.the-variants.{Declined}
+use Rattle.base.specs.declared.Ended.the-variants as ends
 
 -- every call refuses this n with 1 and writes nothing, whatever else it is lent
 pub record Refuses (n : ℕ) : Type 0 where
   pub structures : (f : Form) (i : Input) (s : Buffers) → i .n ≡ n → structure f i s ≡ ended (Refused Rows) s
   pub solves : (f : Form) (i : Input) (s : Buffers) → i .n ≡ n → solve f i s ≡ ended (Refused Rows) s
-  pub refactors : (f : Form) (i : Input) (s : Buffers) → i .n ≡ n → refactor f i s ≡ ended (Declined Rows) s
-  pub resolves : (f : Form) (i : Input) (s : Buffers) → i .n ≡ n → resolve f i s ≡ ended (Declined Rows) s
+  pub refactors : (f : Form) (i : Input) (s : Buffers) → i .n ≡ n → refactor f i s ≡ ended (ends.Refused Rows) s
+  pub resolves : (f : Form) (i : Input) (s : Buffers) → i .n ≡ n → resolve f i s ≡ ended (ends.Refused Rows) s
   pub makes : (e : ℕ) → shapeOf n e ≡ Unshaped Rows
   -- of a file, once 16 and 17 are passed
   pub opens : (file : List ℕ) → askBlocks file ≡ Pass → nOf file ≡ n → opened file ≡ Unshaped Rows
-  pub reads : (file : List ℕ) (l : Lists) → askBlocks file ≡ Pass → nOf file ≡ n → readOutcome file l ≡ left (Declined Rows) l
-  pub writes : (i : Input) (file : List ℕ) → i .n ≡ n → writeOutcome i file ≡ left (Declined Rows) file
+  pub reads : (file : List ℕ) (l : MatrixLists) → askBlocks file ≡ Pass → nOf file ≡ n → readOutcome file l ≡ left (ends.Refused Rows) l
+  pub writes : (i : Input) (file : List ℕ) → i .n ≡ n → writeOutcome i file ≡ left (ends.Refused Rows) file
   -- "the empty part at that store's start"
   pub looks : (f : Form) (side : Side) (k : Place) (l u : lookup.SideLists) → (lookup.spanIn f side k n l u ≡ lookup.spanFrom 0 0) × (lookup.lookup f side k n l u ≡ [])
 
@@ -50,7 +50,7 @@ pub record Passes (n : ℕ) : Type 0 where
   pub resolves : (f : Form) (i : Input) (s : Buffers) → i .n ≡ n → numberOfEnd (resolve f i s .answer) ≡ 1 → ⊥
   pub makes : (e : ℕ) → e ≤ maxEntries → shapeOf n e ≡ Shape (record { rows = n; entries = e })
   pub opens : (file : List ℕ) → nOf file ≡ n → opened file ≡ Unshaped Rows → ⊥
-  pub reads : (file : List ℕ) (l : Lists) → nOf file ≡ n → numberOfEnd (readOutcome file l .answer) ≡ 1 → ⊥
+  pub reads : (file : List ℕ) (l : MatrixLists) → nOf file ≡ n → numberOfEnd (readOutcome file l .answer) ≡ 1 → ⊥
   pub writes : (i : Input) (file : List ℕ) → i .n ≡ n → numberOfEnd (writeOutcome i file .answer) ≡ 1 → ⊥
   -- with fitting lengths, a list within its store is handed back
   pub looks : (f : Form) (side : Side) (k : Place) (l u : lookup.SideLists) → lookup.sized f n l ≡ true → lookup.sized f n u ≡ true

@@ -9,7 +9,7 @@ use lib.ListN.{length, getD, take, set, length-set}
 use lib.Seq.{getD-set-other, getD-set-same}
 use borrow.Author.Tests.{eq-eqb, ne-eqb}
 use Rattle.marks.specs.Marks.{Room, markAt, stamped}
-use Rattle.columns.specs.Columns.{Kept, Steady, hits, Chain, none, node, HasChain, Lists, Listed, Roomy, pushAt, Offered}
+use Rattle.columns.specs.Columns.{HeadsKept, Steady, hits, Chain, none, node, HasChain, ColumnLists, Listed, Roomy, pushAt, Offered}
 use Rattle.marks.specs.MarkLaws.{unmarked-mark}
 use Rattle.lent.specs.ReadingLaws.{same, then, stored}
 use Rattle.columns.proofs.ColumnLaws.{hits-there, hits-more, hits-part, grown-start, grown-more, grown-end, held-one, held-ext, held-at-most}
@@ -24,16 +24,13 @@ chain-frame {n} k (node {q} {h} lo le ei eh c) =
     node lo le (k (nodesFrom n + (q + q)) (omega arith) (omega arith) ∙ ei) (k (nodesFrom n + (q + q) + 1) (omega arith) (omega arith) ∙ eh)
     (chain-frame (λ x p r. k x p (omega arith)) c)
 
-pub lists-frame : {n lo hi : ℕ} {s u : List ℕ} {f : ℕ → List ℕ} → hi ≤ n → Steady n lo s u → Lists n lo hi s n f → Lists n lo hi u n f
+pub lists-frame : {n lo hi : ℕ} {s u : List ℕ} {f : ℕ → List ℕ} → hi ≤ n → Steady n lo s u → ColumnLists n lo hi s n f → ColumnLists n lo hi u n f
 lists-frame {n} {lo} {hi} {s} {u} l k h = record {
   chain = λ j a b. rw (k .heads j a (omega arith)) (chain-frame (λ x c d. k .nodes x c (omega (arith, h .heads j a b))) (h .chain j a b));
   heads = λ j a b. rw (k .heads j a (omega arith)) (h .heads j a b);
 }
 
 -- ---- the pushing of a node
-
-push-length : (n p i j : ℕ) (s : List ℕ) → length (pushAt n p i j s) ≡ length s
-push-length n p i j s = simp length-set
 
 -- another slot
 push-other : (n p i j x : ℕ) (s : List ℕ) → (x ≡ headsFrom n + j → ⊥) → (x ≡ nodesFrom n + (p + p) → ⊥) → (x ≡ nodesFrom n + (p + p) + 1 → ⊥)
@@ -69,13 +66,13 @@ module _ (n p i j : ℕ) (s : List ℕ) (sp : Room n s) (hj : j < n) (hp : p < n
   push-chain : {h : ℕ} {l : List ℕ} → h ≤ p → Chain n s h l → Chain n (pushAt n p i j s) h l
   push-chain h c = chain-frame (λ x a b. push-other n p i j x s (omega arith) (omega arith) (omega arith)) c
 
-  push-kept : (lo hi : ℕ) → lo ≤ j → j < hi → Kept n lo hi s (pushAt n p i j s)
+  push-kept : (lo hi : ℕ) → lo ≤ j → j < hi → HeadsKept n lo hi s (pushAt n p i j s)
   push-kept lo hi a b =
       then (stored s (nodesFrom n + (p + p)) i (λ y x q e. omega (arith, q (omega arith))))
       (then (stored (set s (nodesFrom n + (p + p)) i) (nodesFrom n + (p + p) + 1) (getD s (headsFrom n + j) 0) (λ y x q e. omega (arith, q (omega arith))))
       (stored (set (set s (nodesFrom n + (p + p)) i) (nodesFrom n + (p + p) + 1) (getD s (headsFrom n + j) 0)) (headsFrom n + j) (p + 1) (λ y x q e. omega (arith, x (omega arith)))))
 
-  push-lists : (lo hi : ℕ) (f : ℕ → List ℕ) → i < n → lo ≤ j → j < hi → hi ≤ n → Lists n lo hi s p f → Lists n lo hi (pushAt n p i j s) (p + 1) (hits i (j ∷ []) f)
+  push-lists : (lo hi : ℕ) (f : ℕ → List ℕ) → i < n → lo ≤ j → j < hi → hi ≤ n → ColumnLists n lo hi s p f → ColumnLists n lo hi (pushAt n p i j s) (p + 1) (hits i (j ∷ []) f)
   unfolding hits
   push-lists lo hi f hi′ hl hh hn l = record { chain = λ x a b. chain-at x a b (ℕ-discrete j x); heads = λ x a b. head-at x a b (ℕ-discrete j x) }
     where

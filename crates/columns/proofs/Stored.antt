@@ -1,8 +1,8 @@
 -- The lists are those of M': a row of places is a row of `stored`, a column of rows is one of its columns.
-use mathlib.Core.Path.{_≡_, refl, sym, ap, ap₂, _∙_}
-use mathlib.Core.Bool.{Bool, true, false, _&&_, _||_, or-false}
+use mathlib.Core.Path.{_≡_, refl, sym, ap, _∙_}
+use mathlib.Core.Bool.{Bool, true, false, _&&_, _||_}
 use mathlib.Core.List.{List, [], _∷_, map}
-use Prim.Native.Nat.{ℕ, zero, suc, _+_, _-_, _*_, _<_, _≤_, _/_}
+use Prim.Native.Nat.{ℕ, zero, suc, _+_, _-_, _<_, _≤_}
 use native.Mathlib.Omega.{arith}
 use native.Mathlib.Decide.{ℕ-discrete, decLt}
 use lib.ListN.{length, getD, take, drop, length-take, length-drop}
@@ -15,10 +15,10 @@ use Rattle.base.specs.declared.Side.the-variants.{Lower, Upper}
 use Rattle.lent.specs.Reading.{Below, orderOf, placed}
 use Rattle.lent.specs.ReadingLaws.{placed-length, placed-at}
 use Rattle.matrix.specs.Input.{Input, ic, stored}
-use Rattle.matrix.specs.OrderLaws.{order-below, place-of, place-hits}
+use Rattle.matrix.specs.OrderLaws.{order-below, place-hits}
 use Rattle.marks.specs.Marks.{Room, stamped, Fresh, Holds}
 use Rattle.marks.specs.MarkLaws.{holds-kept, holds-same, holds-list}
-use Rattle.columns.specs.Columns.{Given, rowsOf, consIf, hits, bare, column}
+use Rattle.columns.specs.Columns.{Given, placesByRow, consIf, hits, bare, column}
 use Rattle.columns.specs.Sides.{sidePattern, sideRow, SideLoaded, Distinct, Inverse, Sound, rowsIn}
 use Rattle.columns.proofs.ColumnLaws.{hits-bit, hits-none, column-zero, column-suc, bare-length}
 use Rattle.columns.proofs.SideLaws.{side-marks, side-below}
@@ -109,11 +109,11 @@ module _ (i : Input) (s : List ℕ) (sound : Sound i) (inverse : Inverse i s) wh
 
   -- row k of M'
   row-stored : (k p : ℕ) → has (rowsIn i s k) p ≡ stored i k p
-  unfolding stored rowsOf
+  unfolding stored placesByRow
   row-stored k p = ap (λ l. has l p) (placed-is (orderOf (i .n) s) (rowOf (i .starts) (i .columns) (getD (i .r) k 0)) (i .n) (ic (i .c) (i .n)) (inverse .place) (row-under k))
 
   row-distinct : (k : ℕ) → k < i .n → Distinct (rowsIn i s k)
-  unfolding rowsOf
+  unfolding placesByRow
   row-distinct k h =
       let cols = rowOf (i .starts) (i .columns) (getD (i .r) k 0) in
       let ic = orderOf (i .n) s in

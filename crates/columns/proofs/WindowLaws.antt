@@ -12,7 +12,7 @@ use Rattle.marks.specs.MarkLaws.{unmarked-stamped, both-stamped}
 use Rattle.lent.specs.ReadingLaws.{same, then, stored}
 use Rattle.lent.specs.Reading.{Below, orderOf}
 use Rattle.marks.specs.Marks.{Room, stamped}
-use Rattle.columns.specs.Columns.{Kept, Steady, rowsOf, hits, bare, column, Counts, Countable, Counted, Tally, Started, Chain, none, HasChain, lengthAt, held, Listed, Roomy, Offered, headAt, Emptied, Filled, Ready, Windowed, Loaded}
+use Rattle.columns.specs.Columns.{HeadsKept, Steady, placesByRow, hits, bare, column, Counts, Countable, Counted, Tally, Started, Chain, none, HasChain, lengthAt, held, Listed, Roomy, Offered, headAt, Emptied, Filled, Ready, Windowed, Loaded}
 use Rattle.columns.proofs.Keeps.{order-kept, kept-wider, steady-unmarked}
 use Rattle.columns.proofs.ColumnLaws.{hits-here, hits-there, hits-more, hits-part, grown-start, grown-more, grown-end, column-zero, column-more, column-part, bare-length, below-column, held-at-most}
 use Rattle.columns.proofs.ListLaws.{lists-frame}
@@ -21,11 +21,11 @@ use Rattle.base.specs.Scratch.{headsFrom}
 -- ---- counting
 
 -- a head written
-head-kept : (n lo hi j v : ℕ) (s : List ℕ) → lo ≤ j → j < hi → hi ≤ n → Kept n lo hi s (set s (headsFrom n + j) v)
+head-kept : (n lo hi j v : ℕ) (s : List ℕ) → lo ≤ j → j < hi → hi ≤ n → HeadsKept n lo hi s (set s (headsFrom n + j) v)
 head-kept n lo hi j v s a b h = stored s (headsFrom n + j) v (λ y p q e. omega (arith, p (omega arith)))
 
 pub record Clearing (n i : ℕ) (s₀ s : List ℕ) : Type 0 where
-  pub kept : Kept n 0 n s₀ s
+  pub kept : HeadsKept n 0 n s₀ s
   pub zero : (j : ℕ) → j < i → getD s (headsFrom n + j) 0 ≡ 0
 
 pub clear-start : (n : ℕ) (s : List ℕ) → Clearing n 0 s s
@@ -95,8 +95,8 @@ tally-more n k R e t c = record {
 pub tally-end : (n k : ℕ) (R : ℕ → List ℕ) {s₀ s : List ℕ} → k ≡ n → Tally n (column R k) s₀ s → Tally n (column R n) s₀ s
 tally-end n k R e t = rw e at t
 
-pub started : (n : ℕ) (starts columns r : List ℕ) {s₀ s u : List ℕ} → Tally n bare s₀ s → Tally n (column (rowsOf (orderOf n s) starts columns r) n) s u
-    → Started n (rowsOf (orderOf n s₀) starts columns r) s₀ u
+pub started : (n : ℕ) (starts columns r : List ℕ) {s₀ s u : List ℕ} → Tally n bare s₀ s → Tally n (column (placesByRow (orderOf n s) starts columns r) n) s u
+    → Started n (placesByRow (orderOf n s₀) starts columns r) s₀ u
 started n starts columns r a b = rw (← order-kept n 0 n (a .kept)) (record {
   kept = then (a .kept) (b .kept);
   ready = record {
@@ -122,7 +122,7 @@ unfolding headAt
 head-is n lo m j s e = rw e
 
 pub record Opening (n lo hi left : ℕ) (s₀ s : List ℕ) : Type 0 where
-  pub kept : Kept n lo hi s₀ s
+  pub kept : HeadsKept n lo hi s₀ s
   pub least : lo ≤ hi
   pub most : hi ≤ n
   pub zero : (j : ℕ) → lo ≤ j → j < hi → getD s (headsFrom n + j) 0 ≡ 0
@@ -175,7 +175,7 @@ open-end h m = record { kept = m .kept; least = m .least; most = m .most; zero =
 -- ---- the window's filling
 
 pub record Filling (n lo hi k : ℕ) (R : ℕ → List ℕ) (s₀ s : List ℕ) (p : ℕ) : Type 0 where
-  pub kept : Kept n lo hi s₀ s
+  pub kept : HeadsKept n lo hi s₀ s
   pub listed : Listed n lo hi s p (column R k)
 
 held-bare : (lo m : ℕ) → sum m (lengthAt bare lo) ≡ 0

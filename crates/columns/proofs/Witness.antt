@@ -8,7 +8,7 @@ use Rattle.base.specs.First.{first}
 use Rattle.matrix.specs.Input.{Input, ic, isOf}
 use Rattle.matrix.specs.Questions.{badIndex, IsOrder}
 use Rattle.lent.specs.Reading.{orderOf, placed}
-use Rattle.columns.specs.Columns.{Given, rowsOf, hits, bare, column, none, node, Ready}
+use Rattle.columns.specs.Columns.{Given, placesByRow, hits, bare, column, none, node, Ready}
 use Rattle.columns.specs.Sides.{Inverse, Sound, rowsIn}
 use Rattle.columns.proofs.Stored.{given-sound}
 
@@ -40,7 +40,7 @@ pub given : Given 1 (0 ∷ 1 ∷ []) (0 ∷ []) (0 ∷ []) scratch
 given = given-sound one scratch sound inverse (record { small = omega arith; long = omega arith })
 
 pub counted : Ready 1 0 0 (rowsIn one scratch) scratch
-unfolding column rowsOf placed orderOf listAt hits bare
+unfolding column placesByRow placed orderOf listAt hits bare
 counted = record {
   least = omega arith;
   most = omega arith;
@@ -49,7 +49,7 @@ counted = record {
 }
 
 pub opened : Ready 1 0 1 (rowsIn one scratch) scratch
-unfolding column rowsOf placed orderOf listAt hits bare
+unfolding column placesByRow placed orderOf listAt hits bare
 opened = record {
   least = omega arith;
   most = omega arith;

@@ -16,8 +16,8 @@ use Rattle.base.specs.Scratch.{upperCuts, headsFrom, listFrom, nodesFrom, regio
 -- ---- scratch
 
 -- only heads of columns lo to hi, and nodes, are written
-abbrev pub Kept : ℕ → ℕ → ℕ → List ℕ → List ℕ → Type 0
-Kept n lo hi s₀ s = Outside (headsFrom n + lo) (headsFrom n + hi) (nodesFrom n) (regionsEnd n) s₀ s
+abbrev pub HeadsKept : ℕ → ℕ → ℕ → List ℕ → List ℕ → Type 0
+HeadsKept n lo hi s₀ s = Outside (headsFrom n + lo) (headsFrom n + hi) (nodesFrom n) (regionsEnd n) s₀ s
 
 -- what others keep in scratch is the same: the order, cuts and heads up to column k, the list
 pub record Untouched (n k : ℕ) (s₀ s : List ℕ) : Type 0 where
@@ -34,8 +34,8 @@ pub record Steady (n k : ℕ) (s₀ s : List ℕ) : Type 0 where
 -- ---- rows and columns of M'
 
 -- "M' is M with entry (k, ic(j)) where M has (r(k), j)": the places of the entries of row k of M'
-unfoldable pub rowsOf : List ℕ → List ℕ → List ℕ → List ℕ → ℕ → List ℕ
-rowsOf ic starts columns r k = placed ic (rowOf starts columns (getD r k 0))
+unfoldable pub placesByRow : List ℕ → List ℕ → List ℕ → List ℕ → ℕ → List ℕ
+placesByRow ic starts columns r k = placed ic (rowOf starts columns (getD r k 0))
 
 abbrev pub consIf : Bool → ℕ → List ℕ → List ℕ
 consIf true i l = i ∷ l
@@ -66,7 +66,7 @@ pub record Given (n : ℕ) (starts columns r s : List ℕ) : Type 0 where
   pub long : n ≤ length r
   pub read : (k : ℕ) → k < n → ListIn starts starts (length columns) (getD r k 0)
   pub below : (k : ℕ) → k < n → Below n (rowOf starts columns (getD r k 0))
-  pub few : (j : ℕ) → length (column (rowsOf (orderOf n s) starts columns r) n j) ≤ n
+  pub few : (j : ℕ) → length (column (placesByRow (orderOf n s) starts columns r) n j) ≤ n
 
 -- ---- counts
 
@@ -83,12 +83,12 @@ pub record Countable (n : ℕ) (xs s : List ℕ) : Type 0 where
 
 -- the places xs of a row were counted
 pub record Counted (n : ℕ) (xs s₀ s : List ℕ) : Type 0 where
-  pub kept : Kept n 0 n s₀ s
+  pub kept : HeadsKept n 0 n s₀ s
   pub grown : (i : ℕ) → Grown (Counts n 0 s₀) (Counts n 0 s) i xs
 
 -- the heads count the lists f, and nothing else changed
 pub record Tally (n : ℕ) (f : ℕ → List ℕ) (s₀ s : List ℕ) : Type 0 where
-  pub kept : Kept n 0 n s₀ s
+  pub kept : HeadsKept n 0 n s₀ s
   pub counts : Counts n 0 s f
 
 -- ---- lists
@@ -105,7 +105,7 @@ pub record HasChain (n : ℕ) (s : List ℕ) (h : ℕ) : Type 0 where
   pub chain : Chain n s h list
 
 -- the heads of columns lo to hi lead to the lists f, in the first p nodes
-pub record Lists (n lo hi : ℕ) (s : List ℕ) (p : ℕ) (f : ℕ → List ℕ) : Type 0 where
+pub record ColumnLists (n lo hi : ℕ) (s : List ℕ) (p : ℕ) (f : ℕ → List ℕ) : Type 0 where
   pub chain : (j : ℕ) → lo ≤ j → j < hi → Chain n s (getD s (headsFrom n + j) 0) (f j)
   pub heads : (j : ℕ) → lo ≤ j → j < hi → getD s (headsFrom n + j) 0 ≤ p
 
@@ -118,7 +118,7 @@ held lo hi f = sum (hi - lo) (lengthAt f lo)
 
 -- the lists f of columns lo to hi take up p nodes
 pub record Listed (n lo hi : ℕ) (s : List ℕ) (p : ℕ) (f : ℕ → List ℕ) : Type 0 where
-  pub lists : Lists n lo hi s p f
+  pub lists : ColumnLists n lo hi s p f
   pub count : p ≡ held lo hi f
 
 -- some lists take up p nodes, and with the places xs of row i at most n
@@ -133,7 +133,7 @@ pushAt n p i j s = set (set (set s (nodesFrom n + (p + p)) i) (nodesFrom n + (p 
 
 -- the places xs of row i went into the lists of lo to hi
 pub record Offered (n lo hi i : ℕ) (xs s₀ s : List ℕ) (p₀ p : ℕ) : Type 0 where
-  pub kept : Kept n lo hi s₀ s
+  pub kept : HeadsKept n lo hi s₀ s
   pub grown : Grown (Listed n lo hi s₀ p₀) (Listed n lo hi s p) i xs
 
 -- ---- windows
@@ -143,7 +143,7 @@ headAt n s lo m = getD s (headsFrom n + (lo + m)) 0
 
 -- the heads of columns lo to hi are zero, what they counted is at most n, and column lo is among them if its count is
 pub record Emptied (n lo hi : ℕ) (s₀ s : List ℕ) : Type 0 where
-  pub kept : Kept n lo hi s₀ s
+  pub kept : HeadsKept n lo hi s₀ s
   pub least : lo ≤ hi
   pub most : hi ≤ n
   pub zero : (j : ℕ) → lo ≤ j → j < hi → getD s (headsFrom n + j) 0 ≡ 0
@@ -152,28 +152,28 @@ pub record Emptied (n lo hi : ℕ) (s₀ s : List ℕ) : Type 0 where
 
 -- the lists f of the columns lo to hi were made
 pub record Filled (n lo hi : ℕ) (f : ℕ → List ℕ) (s₀ s : List ℕ) : Type 0 where
-  pub kept : Kept n lo hi s₀ s
-  pub lists : Lists n lo hi s n f
+  pub kept : HeadsKept n lo hi s₀ s
+  pub lists : ColumnLists n lo hi s n f
 
 -- columns k on can be handed out: the lists of k to hi are at hand, and the counts of those from hi on
 pub record Ready (n k hi : ℕ) (R : ℕ → List ℕ) (s : List ℕ) : Type 0 where
   pub least : k ≤ hi
   pub most : hi ≤ n
-  pub lists : Lists n k hi s n (column R n)
+  pub lists : ColumnLists n k hi s n (column R n)
   pub counts : Counts n hi s (column R n)
 
 -- before the first column
 pub record Started (n : ℕ) (R : ℕ → List ℕ) (s₀ s : List ℕ) : Type 0 where
-  pub kept : Kept n 0 n s₀ s
+  pub kept : HeadsKept n 0 n s₀ s
   pub ready : Ready n 0 0 R s
 
 -- column k is in the window up to hi
 pub record Windowed (n k hi : ℕ) (R : ℕ → List ℕ) (s₀ s : List ℕ) : Type 0 where
-  pub kept : Kept n k n s₀ s
+  pub kept : HeadsKept n k n s₀ s
   pub has : k < hi
   pub ready : Ready n k hi R s
 
 -- column k was handed out, as the buffer before with its rows stamped, and those after it can be
 pub record Loaded (n t k hi : ℕ) (R : ℕ → List ℕ) (s₀ s : List ℕ) : Type 0 where
-  pub marks : Kept n k n (stamped n t s₀ (column R n k)) s
+  pub marks : HeadsKept n k n (stamped n t s₀ (column R n k)) s
   pub ready : Ready n (k + 1) hi R s

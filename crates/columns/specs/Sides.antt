@@ -11,7 +11,7 @@ use Rattle.matrix.specs.Questions.{IsOrder}
 use Rattle.base.specs.Lists.{rowOf}
 use Rattle.lent.specs.Reading.{Below, orderOf}
 use Rattle.marks.specs.Marks.{stamped}
-use Rattle.columns.specs.Columns.{column, rowsOf, Ready, Loaded}
+use Rattle.columns.specs.Columns.{column, placesByRow, Ready, Loaded}
 
 -- "the same three steps with rows and columns exchanged": the pattern whose upper lists are the side's
 abbrev pub sidePattern : Side → Pattern → Pattern
@@ -43,7 +43,7 @@ pub record Inverse (i : Input) (s : List ℕ) : Type 0 where
 
 -- the places of the entries of the rows of M', by the inverse order in scratch
 abbrev pub rowsIn : Input → List ℕ → ℕ → List ℕ
-rowsIn i s = rowsOf (orderOf (i .n) s) (i .starts) (i .columns) (i .r)
+rowsIn i s = placesByRow (orderOf (i .n) s) (i .starts) (i .columns) (i .r)
 
 -- what questions 2 to 5 and 8 settle
 pub record Sound (i : Input) : Type 0 where

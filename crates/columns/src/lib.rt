@@ -7,7 +7,7 @@ ghost use lib.ListN.{length, getD, set};
 ghost use Rattle.base.specs.Lists.{rowOf};
 ghost use Rattle.lent.specs.Reading.{ListIn, Below, orderOf, placed};
 ghost use Rattle.marks.specs.Marks.{Room, Order, stamped};
-ghost use Rattle.columns.specs.Columns.{Given, rowsOf, bare, column, Countable, Counted, Counts, Tally, Started, Emptied, Roomy, Offered, pushAt, held, Filled, Ready, Windowed, Chain, HasChain, Loaded};
+ghost use Rattle.columns.specs.Columns.{Given, placesByRow, bare, column, Countable, Counted, Counts, Tally, Started, Emptied, Roomy, Offered, pushAt, held, Filled, Ready, Windowed, Chain, HasChain, Loaded};
 ghost use Rattle.columns.specs.Sides.{SideReady, SideLoaded};
 ghost use Rattle.base.specs.Scratch.{headsFrom};
 ghost use Rattle.base.specs.Limits.{maxRows};
@@ -70,7 +70,7 @@ fn count_row(marks: &mut [u32], n: usize, cols: &[Index])
 fn count_columns(marks: &mut [u32], n: usize, starts: &[u32], columns: &[Index], r: &[Index])
     requires { ⌜ Given n (now starts) (now columns) (now r) (now marks) ⌝ }
     requires { ⌜ Counts n 0 (now marks) bare ⌝ }
-    ensures { λ _. ⌜ Tally n (column (rowsOf (orderOf n (now (marks .entry))) (now (starts .entry)) (now (columns .entry)) (now (r .entry))) n) (now (marks .entry)) (now (marks .exit)) ⌝ }
+    ensures { λ _. ⌜ Tally n (column (placesByRow (orderOf n (now (marks .entry))) (now (starts .entry)) (now (columns .entry)) (now (r .entry))) n) (now (marks .entry)) (now (marks .exit)) ⌝ }
 {
     let mut k = 0;
     while k < n {
@@ -83,7 +83,7 @@ fn count_columns(marks: &mut [u32], n: usize, starts: &[u32], columns: &[Index],
 // Before the first column: no window is open.
 pub fn start_columns(marks: &mut [u32], n: usize, starts: &[u32], columns: &[Index], r: &[Index])
     requires { ⌜ Given n (now starts) (now columns) (now r) (now marks) ⌝ }
-    ensures { λ _. ⌜ Started n (rowsOf (orderOf n (now (marks .entry))) (now (starts .entry)) (now (columns .entry)) (now (r .entry))) (now (marks .entry)) (now (marks .exit)) ⌝ }
+    ensures { λ _. ⌜ Started n (placesByRow (orderOf n (now (marks .entry))) (now (starts .entry)) (now (columns .entry)) (now (r .entry))) (now (marks .entry)) (now (marks .exit)) ⌝ }
 {
     clear_heads(marks, n);
     count_columns(marks, n, starts, columns, r);
@@ -186,9 +186,9 @@ fn fill_window(
     r: &[Index],
 )
     requires { ⌜ Given n (now starts) (now columns) (now r) (now marks) ⌝ }
-    requires { ⌜ (hi ≤ n) × (held lo hi (column (rowsOf (orderOf n (now marks)) (now starts) (now columns) (now r)) n) ≤ n) ⌝ }
+    requires { ⌜ (hi ≤ n) × (held lo hi (column (placesByRow (orderOf n (now marks)) (now starts) (now columns) (now r)) n) ≤ n) ⌝ }
     requires { ⌜ ((j : ℕ) → lo ≤ j → j < hi → getD (now marks) (headsFrom n + j) 0 ≡ 0) ⌝ }
-    ensures { λ _. ⌜ Filled n lo hi (column (rowsOf (orderOf n (now (marks .entry))) (now (starts .entry)) (now (columns .entry)) (now (r .entry))) n) (now (marks .entry)) (now (marks .exit)) ⌝ }
+    ensures { λ _. ⌜ Filled n lo hi (column (placesByRow (orderOf n (now (marks .entry))) (now (starts .entry)) (now (columns .entry)) (now (r .entry))) n) (now (marks .entry)) (now (marks .exit)) ⌝ }
 {
     let mut p = 0;
     let mut k = 0;
@@ -210,9 +210,9 @@ fn window_at(
     r: &[Index],
 ) -> usize
     requires { ⌜ Given n (now starts) (now columns) (now r) (now marks) ⌝ }
-    requires { ⌜ Ready n k hi (rowsOf (orderOf n (now marks)) (now starts) (now columns) (now r)) (now marks) ⌝ }
+    requires { ⌜ Ready n k hi (placesByRow (orderOf n (now marks)) (now starts) (now columns) (now r)) (now marks) ⌝ }
     requires { ⌜ k < n ⌝ }
-    ensures { λ end. ⌜ Windowed n k end (rowsOf (orderOf n (now (marks .entry))) (now (starts .entry)) (now (columns .entry)) (now (r .entry))) (now (marks .entry)) (now (marks .exit)) ⌝ }
+    ensures { λ end. ⌜ Windowed n k end (placesByRow (orderOf n (now (marks .entry))) (now (starts .entry)) (now (columns .entry)) (now (r .entry))) (now (marks .entry)) (now (marks .exit)) ⌝ }
 {
     if k < hi {
         return hi;
@@ -252,9 +252,9 @@ pub fn load_column(
     r: &[Index],
 ) -> usize
     requires { ⌜ Given n (now starts) (now columns) (now r) (now marks) ⌝ }
-    requires { ⌜ Ready n k hi (rowsOf (orderOf n (now marks)) (now starts) (now columns) (now r)) (now marks) ⌝ }
+    requires { ⌜ Ready n k hi (placesByRow (orderOf n (now marks)) (now starts) (now columns) (now r)) (now marks) ⌝ }
     requires { ⌜ k < n ⌝ }
-    ensures { λ end. ⌜ Loaded n stamp k end (rowsOf (orderOf n (now (marks .entry))) (now (starts .entry)) (now (columns .entry)) (now (r .entry))) (now (marks .entry)) (now (marks .exit)) ⌝ }
+    ensures { λ end. ⌜ Loaded n stamp k end (placesByRow (orderOf n (now (marks .entry))) (now (starts .entry)) (now (columns .entry)) (now (r .entry))) (now (marks .entry)) (now (marks .exit)) ⌝ }
 {
     let end = window_at(marks, n, k, hi, starts, columns, r);
     let head = base::slot(marks[scratch::HEADS * n + k]);
@@ -275,9 +275,9 @@ pub fn load(
     r: &[Index],
 ) -> usize
     requires { ⌜ Given n (now starts) (now columns) (now r) (now marks) ⌝ }
-    requires { ⌜ SideReady side n k hi (rowsOf (orderOf n (now marks)) (now starts) (now columns) (now r)) (now marks) ⌝ }
+    requires { ⌜ SideReady side n k hi (placesByRow (orderOf n (now marks)) (now starts) (now columns) (now r)) (now marks) ⌝ }
     requires { ⌜ k < n ⌝ }
-    ensures { λ end. ⌜ SideLoaded side n stamp k hi end (rowsOf (orderOf n (now (marks .entry))) (now (starts .entry)) (now (columns .entry)) (now (r .entry))) (now (marks .entry)) (now (marks .exit)) ⌝ }
+    ensures { λ end. ⌜ SideLoaded side n stamp k hi end (placesByRow (orderOf n (now (marks .entry))) (now (starts .entry)) (now (columns .entry)) (now (r .entry))) (now (marks .entry)) (now (marks .exit)) ⌝ }
 {
     match side {
         Side::Lower => load_column(marks, n, stamp, k, hi, starts, columns, r),

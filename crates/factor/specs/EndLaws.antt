@@ -32,9 +32,9 @@ use Rattle.numeric.specs.Rows.{uOf, lOf, columnOf}
 use Rattle.numeric.specs.KeepLaws.{columns-start, columns-end}
 use Rattle.numeric.specs.StoreLaws.{stacked-none, stacked-all}
 use Rattle.numeric.specs.PassLaws.{held-start, held-y, held-solved, held-stopped}
-use Rattle.factor.specs.Factoring.{Factors, FactoredAs, Lists, Written, LowerPlaced, Factorable, LowerHeld, Inverse, Finding, Going, backAs, BackReady}
+use Rattle.factor.specs.Factoring.{Factors, FactoredAs, PlacedLists, Workspace, LowerPlaced, Factorable, LowerHeld, Inverse, Finding, Going, backAs, BackReady}
 use Rattle.factor.specs.SystemLaws.{placed-shape}
-use Rattle.factor.specs.TurnLaws.{Sizes, none-left, same-given}
+use Rattle.factor.specs.TurnLaws.{SameSizes, none-left, same-given}
 use Rattle.factor.specs.ColumnLaws.{shared-side, shared-fits, column-is}
 use Rattle.factor.specs.declared.Factored.{Factored}
 use Rattle.factor.specs.declared.Factored.the-variants.{Solved, Zero, Overflow}
@@ -51,7 +51,7 @@ inverse-start i m s h e j b =
     rw e (sym (getD-drop (i .n) (invertedAt (i .c) (i .n) s) j 0) ∙ sym (getD-take (i .n) (drop (i .n) (invertedAt (i .c) (i .n) s)) j 0 b)
     ∙ ap (λ (l : List ℕ). getD l j 0) (placed-inverse (i .c) (i .n) s (omega arith)) ∙ getD-table (ic (i .c) (i .n)) (i .n) 0 j b)
 
-pub going-start : {f : Form} {i : Input} {L : Lists} {w : Written} → Factorable f i L w → w .upper ≡ replicate (length (w .upper)) nought → w .work ≡ replicate (length (w .work)) nought
+pub going-start : {f : Form} {i : Input} {L : PlacedLists} {w : Workspace} → Factorable f i L w → w .upper ≡ replicate (length (w .upper)) nought → w .work ≡ replicate (length (w .work)) nought
     → LowerHeld f (system i) [] 0 (L .lower-starts) (drop (cursorsFrom (i .n)) (w .marks)) (w .lower) → Inverse i (w .marks) → Finding f i L 0 (w .marks) → Going f i L 0 w
 unfolding system
 going-start {f} {i} {L} {w} F eu ew lower inv find = record {
@@ -67,7 +67,7 @@ going-start {f} {i} {L} {w} F eu ew lower inv find = record {
 }
 
 -- w as it was lent, and x once all is cleared and the inverse order written
-module _ (i : Input) (L : Lists) {w : Written} (x : Written) (s : Sizes w x) (slots : regionsEnd (i .n) ≤ length (w .marks)) (el : x .lower ≡ blank nought (w .lower))
+module _ (i : Input) (L : PlacedLists) {w : Workspace} (x : Workspace) (s : SameSizes w x) (slots : regionsEnd (i .n) ≤ length (w .marks)) (el : x .lower ≡ blank nought (w .lower))
     (em : x .marks ≡ invertedAt (i .c) (i .n) (blank 0 (w .marks))) where
   long : length (blank 0 (w .marks)) ≡ length (w .marks)
   unfolding blank
@@ -105,7 +105,7 @@ module _ (i : Input) (L : Lists) {w : Written} (x : Written) (s : Sizes w x) (sl
       (shared-fits i (L .lower-starts) (length (x .lower)) S) [] (drop (cursorsFrom (i .n)) (x .marks)) (x .lower) cursor-at (cleared (x .lower) (w .lower) (s .lower-size) el)
   lower-start ByRow S = S
 
-pub form-start : (f : Form) {i : Input} {L : Lists} {w : Written} (x : Written) → Factorable f i L w → Sizes w x → x .lower ≡ blank nought (w .lower) → x .upper ≡ blank nought (w .upper)
+pub form-start : (f : Form) {i : Input} {L : PlacedLists} {w : Workspace} (x : Workspace) → Factorable f i L w → SameSizes w x → x .lower ≡ blank nought (w .lower) → x .upper ≡ blank nought (w .upper)
     → x .work ≡ blank nought (w .work) → x .marks ≡ invertedAt (i .c) (i .n) (blank 0 (w .marks)) → Going f i L 0 x
 unfolding blank
 form-start f {i} {L} {w} x F s el eu ew em =
@@ -183,7 +183,7 @@ joined-same f g zero e = refl
 joined-same f g (suc n) e = rw (joined-same f g n (λ k h. e k (omega arith)), e n (omega arith))
 
 -- L by form
-lower-kept : (f : Form) (i : Input) (L : Lists) (rows : List Row) (cursors : List ℕ) (l : List Float) → LowerPlaced f (stored i) (i .n) L l
+lower-kept : (f : Form) (i : Input) (L : PlacedLists) (rows : List Row) (cursors : List ℕ) (l : List Float) → LowerPlaced f (stored i) (i .n) L l
     → LowerHeld f (system i) rows (i .n) (L .lower-starts) cursors l → l ≡ padded nought (length l) (valuesKept f Lower (stored i) (i .n) rows)
 unfolding system valuesKept valueNeed startOf padded
 lower-kept Plain i L rows cursors l S h =
@@ -204,7 +204,7 @@ lower-kept ByRow i L rows cursors l S h = rw (h, joined-none (i .n))
 
 -- ---- the answer
 
-module _ {f : Form} {i : Input} {L : Lists} {w : Written} (G : Going f i L (i .n) w) where
+module _ {f : Form} {i : Input} {L : PlacedLists} {w : Workspace} (G : Going f i L (i .n) w) where
   -- what the back steps ask
   pub back-ready : BackReady (i .n) (L .upper-starts) (L .upper-runs) (L .upper-index) (length (w .upper)) (w .work)
   back-ready = record {

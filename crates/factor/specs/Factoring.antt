@@ -47,25 +47,25 @@ FactoredAs f i (Overflow k) lower upper d z = listed i ≡ met (overflow (k .0))
 -- ---- what is lent
 
 -- the lists that the arithmetic reads; a form that does not read one has [] for it
-pub record Lists : Type 0 where
+pub record PlacedLists : Type 0 where
   pub lower-starts : List ℕ
   pub lower-index : List ℕ
   pub upper-starts : List ℕ
   pub upper-runs : List ℕ
   pub upper-index : List ℕ
 
-abbrev pub lists : List ℕ → List ℕ → List ℕ → List ℕ → List ℕ → Lists
+abbrev pub lists : List ℕ → List ℕ → List ℕ → List ℕ → List ℕ → PlacedLists
 lists ls li us ur ui = record { lower-starts = ls; lower-index = li; upper-starts = us; upper-runs = ur; upper-index = ui }
 
 -- and what it writes
-pub record Written : Type 0 where
+pub record Workspace : Type 0 where
   pub lower : List Float
   pub upper : List Float
   pub d : List Float
   pub work : List Float
   pub marks : List ℕ
 
-abbrev pub written : List Float → List Float → List Float → List Float → List ℕ → Written
+abbrev pub written : List Float → List Float → List Float → List Float → List ℕ → Workspace
 written l u d w m = record { lower = l; upper = u; d = d; work = w; marks = m }
 
 -- the lower side: all of it in the plain form, its list starts and the room for its values in the shared form
@@ -73,13 +73,13 @@ pub record Starts (f : Form) (P : Pattern) (n : ℕ) (starts : List ℕ) (values
   pub starts-are : starts ≡ table (valueNeed f Lower P n) (n + 1)
   pub values-in : valueNeed f Lower P n n ≤ values
 
-abbrev pub LowerPlaced : Form → Pattern → ℕ → Lists → List Float → Type 0
+abbrev pub LowerPlaced : Form → Pattern → ℕ → PlacedLists → List Float → Type 0
 LowerPlaced Plain P n L l = PlacedSide Plain Lower P n (L .lower-starts) (L .lower-starts) (L .lower-index) (length l)
 LowerPlaced Shared P n L l = Starts Shared P n (L .lower-starts) (length l)
 LowerPlaced ByRow P n L l = l ≡ []
 
 -- questions 1 to 11 are passed, and the lists of every place stand in their stores
-pub record Factorable (f : Form) (i : Input) (L : Lists) (w : Written) : Type 0 where
+pub record Factorable (f : Form) (i : Input) (L : PlacedLists) (w : Workspace) : Type 0 where
   pub lent : SolveLent i (length (w .marks))
   pub settled : Settled i
   pub lower-side : LowerPlaced f (stored i) (i .n) L (w .lower)
@@ -101,13 +101,13 @@ abbrev pub Inverse : Input → List ℕ → Type 0
 Inverse i s = (j : ℕ) → j < i .n → getD s (i .n + j) 0 ≡ ic (i .c) (i .n) j
 
 -- by which lower row k is found: the plain form reads it
-abbrev pub Finding : Form → Input → Lists → ℕ → List ℕ → Type 0
+abbrev pub Finding : Form → Input → PlacedLists → ℕ → List ℕ → Type 0
 Finding Plain i L k s = Unit {0}
-Finding Shared i L k s = found.Held (stored i) (i .n) k (k + 1) (3 * i .n) s (L .upper-starts) (L .upper-runs) (L .upper-index)
-Finding ByRow i L k s = found.Held (stored i) (i .n) k (k + 1) (3 * i .n) s (L .upper-starts) (L .upper-runs) (L .upper-index)
+Finding Shared i L k s = found.PlaceReady (stored i) (i .n) k (k + 1) (3 * i .n) s (L .upper-starts) (L .upper-runs) (L .upper-index)
+Finding ByRow i L k s = found.PlaceReady (stored i) (i .n) k (k + 1) (3 * i .n) s (L .upper-starts) (L .upper-runs) (L .upper-index)
 
 -- rows 0 to k - 1 are done
-pub record Going (f : Form) (i : Input) (L : Lists) (k : ℕ) (w : Written) : Type 0 where
+pub record Going (f : Form) (i : Input) (L : PlacedLists) (k : ℕ) (w : Workspace) : Type 0 where
   pub given : Factorable f i L w
   pub rows : List Row
   pub held : RowsHeld (system i) rows (i .n) k (w .work) (L .upper-starts) (L .upper-runs) (L .upper-index) (w .upper)
@@ -117,7 +117,7 @@ pub record Going (f : Form) (i : Input) (L : Lists) (k : ℕ) (w : Written) : Ty
   pub finding : Finding f i L k (w .marks)
 
 -- rows 0 to k - 1 are done, or the listed operations meet a fault in one of them
-unfoldable pub CameTo : Form → Input → Lists → ℕ → Factored → Written → Type 0
+unfoldable pub CameTo : Form → Input → PlacedLists → ℕ → Factored → Workspace → Type 0
 CameTo f i L k Solved w = Going f i L k w
 CameTo f i L k (Zero p) w = listed i ≡ met (zeroPivot (p .0))
 CameTo f i L k (Overflow p) w = listed i ≡ met (overflow (p .0))
@@ -146,12 +146,12 @@ pub record Findable (P : Pattern) (n k : ℕ) (starts columns r ustarts runs ind
   pub columns-below : Below n (rowOf starts columns (getD r k 0))
   pub inverse : marking.Order n s
   pub entries : (j : ℕ) → j < n → has (placed (orderOf n s) (rowOf starts columns (getD r k 0))) j ≡ P k j
-  pub held : found.Held P n k (k + 1) (3 * n) s ustarts runs index
+  pub held : found.PlaceReady P n k (k + 1) (3 * n) s ustarts runs index
   pub store : found.Stored P n (k + 1) ustarts runs index
 
 -- lower row k, so long, stands from slot 5n on; the inverse order and the cursors are as they were, and row k + 1 can be found
 pub record LowerFound (P : Pattern) (n k below : ℕ) (ustarts runs index s₀ s : List ℕ) : Type 0 where
-  pub next : found.Held P n (k + 1) (k + 1 + 1) (3 * n) s ustarts runs index
+  pub next : found.PlaceReady P n (k + 1) (k + 1 + 1) (3 * n) s ustarts runs index
   pub size : below ≡ length (lowerRow P k)
   pub lower : lowerIn n below s ≡ lowerRow P k
   pub inverse : (j : ℕ) → j < n → getD s (n + j) 0 ≡ getD s₀ (n + j) 0
@@ -163,12 +163,12 @@ readsLower Plain = true
 readsLower Shared = false
 readsLower ByRow = false
 
-unfoldable pub LowerAsked : Bool → ℕ → ℕ → List ℕ → List ℕ → List ℕ → Lists → List ℕ → Type 0
+unfoldable pub LowerAsked : Bool → ℕ → ℕ → List ℕ → List ℕ → List ℕ → PlacedLists → List ℕ → Type 0
 LowerAsked true n k starts columns r L s =
     ListIn (L .lower-starts) (L .lower-starts) (length (L .lower-index)) k × LowerAt n (length (rowOf (L .lower-starts) (L .lower-index) k)) (length s)
 LowerAsked false n k starts columns r L s = (P : Pattern) × Findable P n k starts columns r (L .upper-starts) (L .upper-runs) (L .upper-index) s
 
-unfoldable pub LowerGiven : Bool → ℕ → ℕ → ℕ → List ℕ → List ℕ → List ℕ → Lists → List ℕ → List ℕ → Type 0
+unfoldable pub LowerGiven : Bool → ℕ → ℕ → ℕ → List ℕ → List ℕ → List ℕ → PlacedLists → List ℕ → List ℕ → Type 0
 LowerGiven true n k below starts columns r L s₀ s =
     (below ≡ length (rowOf (L .lower-starts) (L .lower-index) k)) × (s ≡ sets s₀ (listFrom n) (rowOf (L .lower-starts) (L .lower-index) k))
 LowerGiven false n k below starts columns r L s₀ s =
@@ -191,7 +191,7 @@ pub record RowAt (i : Input) (k below : ℕ) (starts runs index marks : List ℕ
   pub lower : lowerIn (i .n) below marks ≡ lowerRow (stored i) k
 
 -- once its lower row stands there
-pub record RowReady (f : Form) (i : Input) (L : Lists) (k upper work : ℕ) (s : List ℕ) : Type 0 where
+pub record RowReady (f : Form) (i : Input) (L : PlacedLists) (k upper work : ℕ) (s : List ℕ) : Type 0 where
   pub asked : LowerAsked (readsLower f) (i .n) k (i .starts) (i .columns) (i .r) L s
   pub row : (m : List ℕ) (below : ℕ) → length m ≡ length s → LowerGiven (readsLower f) (i .n) k below (i .starts) (i .columns) (i .r) L s m
       → RowAt i k below (L .upper-starts) (L .upper-runs) (L .upper-index) m upper work

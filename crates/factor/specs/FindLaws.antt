@@ -18,11 +18,11 @@ use Rattle.lent.specs.Reading.{Below, But, orderOf, placed}
 use Rattle.lent.specs.ReadingLaws.{order-read}
 use Rattle.marks.specs.Marks.{Holds, Base, Parts, Blocks, members}
 use Rattle.marks.specs.MarkLaws.{holds-same}
-use Rattle.marks.specs.Rows.{Stored, Held, Loaded, LowerListed, Closing, Renewed}
+use Rattle.marks.specs.Rows.{Stored, PlaceReady, Loaded, LowerListed, Closing, Renewed}
 use Rattle.marks.specs.FillLaws.{held-parts}
 use Rattle.marks.specs.ListLaws.{lower-members, lower-marks, lower-read, lower-but, lower-le}
 use Rattle.marks.specs.Turn.{loaded-cuts, closed-marks, place-turn}
-use Rattle.factor.specs.Factoring.{Lists, Written, Going, Findable, LowerFound, lowerIn}
+use Rattle.factor.specs.Factoring.{PlacedLists, Workspace, Going, Findable, LowerFound, lowerIn}
 use Rattle.base.specs.Scratch.{cursorsFrom, listFrom, zFrom}
 
 -- ---- one finding, from what its calls leave
@@ -116,8 +116,8 @@ placed-stored f P n k starts runs index size h S = record {
   };
 }
 
-module _ {f : Form} {i : Input} {L : Lists} {k : ℕ} {w : Written} (G : Going f i L k w) (h : k < i .n)
-    (H : Held (stored i) (i .n) k (k + 1) (3 * i .n) (w .marks) (L .upper-starts) (L .upper-runs) (L .upper-index)) where
+module _ {f : Form} {i : Input} {L : PlacedLists} {k : ℕ} {w : Workspace} (G : Going f i L k w) (h : k < i .n)
+    (H : PlaceReady (stored i) (i .n) k (k + 1) (3 * i .n) (w .marks) (L .upper-starts) (L .upper-runs) (L .upper-index)) where
   abbrev own : ℕ
   own = getD (i .r) k 0
 

@@ -31,24 +31,24 @@ use Rattle.numeric.specs.StoreLaws.{Rising, rises-to, gathered-length, sets-par
 use Rattle.numeric.specs.RowLaws.{has-at}
 use Rattle.numeric.specs.KeepLaws.{stacked-row, column-length, column-below, column-room, columns-more}
 use Rattle.numeric.specs.PassLaws.{forward-length}
-use Rattle.factor.specs.Factoring.{Lists, Written, written, Inverse, Finding, LowerHeld, Going, lowerIn, LowerAt, RowAt, LowerFound, readsLower, LowerAsked, LowerGiven, RowReady, Spread, KeepAsked, LowerKept, KeepGiven}
+use Rattle.factor.specs.Factoring.{PlacedLists, Workspace, written, Inverse, Finding, LowerHeld, Going, lowerIn, LowerAt, RowAt, LowerFound, readsLower, LowerAsked, LowerGiven, RowReady, Spread, KeepAsked, LowerKept, KeepGiven}
 use Rattle.factor.specs.SystemLaws.{lower-ascends, system-closed}
 use Rattle.factor.specs.ColumnLaws.{shared-side, shared-fits}
 use Rattle.factor.specs.FindLaws.{findable}
-use Rattle.factor.specs.TurnLaws.{Sizes, row-at, row-room, lower-in, row-closable, going-more}
+use Rattle.factor.specs.TurnLaws.{SameSizes, row-at, row-room, lower-in, row-closable, going-more}
 use Rattle.base.specs.Scratch.{cursorsFrom, listFrom}
 use Rattle.base.specs.Limits.{maxRows}
 
 -- ---- lower row k in the marks
 
-pub record Lowered (f : Form) (i : Input) (L : Lists) (k below : ℕ) (m : List ℕ) : Type 0 where
+pub record Lowered (f : Form) (i : Input) (L : PlacedLists) (k below : ℕ) (m : List ℕ) : Type 0 where
   pub size : below ≡ length (lowerRow (stored i) k)
   pub lower : lowerIn (i .n) below m ≡ lowerRow (stored i) k
   pub inverse : Inverse i m
   pub finding : Finding f i L (k + 1) m
 
 -- the plain form reads it
-module _ {i : Input} {L : Lists} {k : ℕ} {w : Written} (G : Going Plain i L k w) (h : k < i .n) where
+module _ {i : Input} {L : PlacedLists} {k : ℕ} {w : Workspace} (G : Going Plain i L k w) (h : k < i .n) where
   abbrev side : PlacedSide Plain Lower (stored i) (i .n) (L .lower-starts) (L .lower-starts) (L .lower-index) (length (w .lower))
   side = G .given .lower-side
 
@@ -98,13 +98,13 @@ module _ {i : Input} {L : Lists} {k : ℕ} {w : Written} (G : Going Plain i L k 
       (λ j b. omega (arith, size-at Plain Lower (stored i) (i .n) (L .lower-starts) (L .lower-starts) (L .lower-index) (length (w .lower)) side j (omega arith)))
       (omega (arith, plain-size, plain-room)) (omega (arith, plain-size, gathered-length lower g, ap length el)) en (G .lower)
 
-lower-asked : {i : Input} {L : Lists} {k : ℕ} {w : Written} (f : Form) → Going f i L k w → k < i .n → LowerAsked (readsLower f) (i .n) k (i .starts) (i .columns) (i .r) L (w .marks)
+lower-asked : {i : Input} {L : PlacedLists} {k : ℕ} {w : Workspace} (f : Form) → Going f i L k w → k < i .n → LowerAsked (readsLower f) (i .n) k (i .starts) (i .columns) (i .r) L (w .marks)
 unfolding LowerAsked
 lower-asked Plain G h = plain-asked G h
 lower-asked {i = i} Shared G h = (stored i, findable G h (G .finding))
 lower-asked {i = i} ByRow G h = (stored i, findable G h (G .finding))
 
-lower-given : {i : Input} {L : Lists} {k : ℕ} {w : Written} (f : Form) (G : Going f i L k w) → k < i .n → (m : List ℕ) (below : ℕ)
+lower-given : {i : Input} {L : PlacedLists} {k : ℕ} {w : Workspace} (f : Form) (G : Going f i L k w) → k < i .n → (m : List ℕ) (below : ℕ)
     → LowerGiven (readsLower f) (i .n) k below (i .starts) (i .columns) (i .r) L (w .marks) m → Lowered f i L k below m
 unfolding LowerGiven
 lower-given Plain G h m below e = plain-given G h e
@@ -112,17 +112,17 @@ lower-given {i = i} Shared G h m below e = let F = e (stored i) (findable G h (G
 lower-given {i = i} ByRow G h m below e = let F = e (stored i) (findable G h (G .finding)) in record { size = F .size; lower = F .lower; inverse = λ j l. F .inverse j l ∙ G .inverse j l; finding = F .next }
 
 -- what row k's steps find
-lowered-row : {f : Form} {i : Input} {L : Lists} {k : ℕ} {w : Written} {m : List ℕ} {below : ℕ} → Going f i L k w → k < i .n → length m ≡ length (w .marks) → Lowered f i L k below m
+lowered-row : {f : Form} {i : Input} {L : PlacedLists} {k : ℕ} {w : Workspace} {m : List ℕ} {below : ℕ} → Going f i L k w → k < i .n → length m ≡ length (w .marks) → Lowered f i L k below m
     → RowAt i k below (L .upper-starts) (L .upper-runs) (L .upper-index) m (length (w .upper)) (length (w .work))
 lowered-row G h em D = row-at G h _ _ em (D .inverse) (D .size) (D .lower)
 
 -- what row k asks
-pub row-ready : {i : Input} {L : Lists} {k : ℕ} {w : Written} (f : Form) → Going f i L k w → k < i .n → RowReady f i L k (length (w .upper)) (length (w .work)) (w .marks)
+pub row-ready : {i : Input} {L : PlacedLists} {k : ℕ} {w : Workspace} (f : Form) → Going f i L k w → k < i .n → RowReady f i L k (length (w .upper)) (length (w .work)) (w .marks)
 row-ready f G h = record { asked = lower-asked f G h; row = λ m below em e. lowered-row G h em (lower-given f G h m below e) }
 
 -- ---- L by columns
 
-module _ {i : Input} {L : Lists} {k : ℕ} {w : Written} (G : Going Shared i L k w) (h : k < i .n) {m : List ℕ} {below : ℕ}
+module _ {i : Input} {L : PlacedLists} {k : ℕ} {w : Workspace} (G : Going Shared i L k w) (h : k < i .n) {m : List ℕ} {below : ℕ}
     (F : LowerFound (stored i) (i .n) k below (L .upper-starts) (L .upper-runs) (L .upper-index) (w .marks) m) (em : length m ≡ length (w .marks)) where
   abbrev column-side : PlacedSide Shared Lower (stored i) (i .n) (L .lower-starts) (placedTo Shared Lower (stored i) (i .n) (i .n) .runs) (placedTo Shared Lower (stored i) (i .n) (i .n) .slots) (length (w .lower))
   column-side = shared-side (stored i) (i .n) (L .lower-starts) (length (w .lower)) (G .given .lower-side)
@@ -188,7 +188,7 @@ module _ {i : Input} {L : Lists} {k : ℕ} {w : Written} (G : Going Shared i L k
 
 -- ---- L of row k by form
 
-pub keep-asked : {i : Input} {L : Lists} {k : ℕ} {w : Written} (f : Form) (G : Going f i L k w) (h : k < i .n) (m : List ℕ) (below : ℕ)
+pub keep-asked : {i : Input} {L : PlacedLists} {k : ℕ} {w : Workspace} (f : Form) (G : Going f i L k w) (h : k < i .n) (m : List ℕ) (below : ℕ)
     → LowerGiven (readsLower f) (i .n) k below (i .starts) (i .columns) (i .r) L (w .marks) m → length m ≡ length (w .marks) → (g : List Float) → length g ≡ length (w .work)
     → KeepAsked f (i .n) k below (L .lower-starts) (length (w .lower)) (length g) m
 unfolding KeepAsked LowerGiven
@@ -196,7 +196,7 @@ keep-asked Plain G h m below e em g lg = let D = lower-given Plain G h m below e
 keep-asked {i = i} Shared G h m below e em g lg = (omega (arith, G .given .scratch, lg), spread G h (e (stored i) (findable G h (G .finding))) em (lowered-row G h em (lower-given Shared G h m below e)))
 keep-asked ByRow G h m below e em g lg = tt
 
-kept-held : {i : Input} {L : Lists} {k : ℕ} {w : Written} (f : Form) (G : Going f i L k w) (h : k < i .n) (m : List ℕ) (below : ℕ)
+kept-held : {i : Input} {L : PlacedLists} {k : ℕ} {w : Workspace} (f : Form) (G : Going f i L k w) (h : k < i .n) (m : List ℕ) (below : ℕ)
     → LowerGiven (readsLower f) (i .n) k below (i .starts) (i .columns) (i .r) L (w .marks) m → length m ≡ length (w .marks)
     → (next : Row) (g l : List Float) (x : List ℕ) → next .l ≡ gathered (lowerRow (stored i) k) g → LowerKept f (i .n) k below (L .lower-starts) g (w .lower) l m x
     → LowerHeld f (system i) (G .rows ++ (next ∷ [])) (k + 1) (L .lower-starts) (drop (cursorsFrom (i .n)) x) l
@@ -211,12 +211,12 @@ kept-held {i = i} ByRow G h m below e em next g l x en K = K ∙ G .lower
 
 -- ---- keeping L writes the cursors alone
 
-held-stays : (i : Input) (L : Lists) (k : ℕ) (m x : List ℕ) → k < i .n → But (cursorsFrom (i .n)) (listFrom (i .n)) m x → Finding ByRow i L (k + 1) m → Finding ByRow i L (k + 1) x
+held-stays : (i : Input) (L : PlacedLists) (k : ℕ) (m x : List ℕ) → k < i .n → But (cursorsFrom (i .n)) (listFrom (i .n)) m x → Finding ByRow i L (k + 1) m → Finding ByRow i L (k + 1) x
 held-stays i L k m x h same F =
     held-kept (stored i) (i .n) (k + 1) (k + 1 + 1) (k + 1 + 1) (3 * i .n) m x (L .upper-starts) (L .upper-runs) (L .upper-index)
     (λ j b. same (3 * i .n + j) (λ e. absurd (omega arith))) (λ j b. rw (same j (λ e. absurd (omega arith))) (F .fresh j b)) F
 
-finding-stays : (f : Form) (i : Input) (L : Lists) (k : ℕ) (m x : List ℕ) → k < i .n → But (cursorsFrom (i .n)) (listFrom (i .n)) m x → Finding f i L (k + 1) m → Finding f i L (k + 1) x
+finding-stays : (f : Form) (i : Input) (L : PlacedLists) (k : ℕ) (m x : List ℕ) → k < i .n → But (cursorsFrom (i .n)) (listFrom (i .n)) m x → Finding f i L (k + 1) m → Finding f i L (k + 1) x
 finding-stays Plain i L k m x h same F = tt
 finding-stays Shared i L k m x h same F = held-stays i L k m x h same F
 finding-stays ByRow i L k m x h same F = held-stays i L k m x h same F
@@ -231,7 +231,7 @@ lower-stays n below m x r ex same =
 
 -- ---- row k, from what its calls leave
 
-module _ {i : Input} {L : Lists} {k : ℕ} {w : Written} (f : Form) (G : Going f i L k w) (h : k < i .n) (m : List ℕ) (below : ℕ)
+module _ {i : Input} {L : PlacedLists} {k : ℕ} {w : Workspace} (f : Form) (G : Going f i L k w) (h : k < i .n) (m : List ℕ) (below : ℕ)
     (e : LowerGiven (readsLower f) (i .n) k below (i .starts) (i .columns) (i .r) L (w .marks) m) (em : length m ≡ length (w .marks)) where
   abbrev D : Lowered f i L k below m
   D = lower-given f G h m below e
@@ -253,7 +253,7 @@ module _ {i : Input} {L : Lists} {k : ℕ} {w : Written} (f : Form) (G : Going f
     pub close-asked : LowerAt (i .n) below (length x) × Closable (i .n) k (length g) (lowerIn (i .n) below x) (L .upper-starts) (L .upper-runs) (L .upper-index) (length (w .d))
     close-asked = row-closable G h g lg (lowered-row G h (ex ∙ em) row-kept)
 
-    pub row-more : (u d v : List Float) → Sizes w (written l u d v x) → (t : RowSums) (p : Pivot) → p ≡ pivot.Usable t
+    pub row-more : (u d v : List Float) → SameSizes w (written l u d v x) → (t : RowSums) (p : Pivot) → p ≡ pivot.Usable t
         → Reduced (system i) (G .rows) (i .n) k (L .upper-starts) (w .work) g (w .upper) u p
         → Shut (i .n) k (lowerIn (i .n) below x) (listAt (L .upper-starts) (L .upper-runs) (L .upper-index) k) g v (w .d) d t
         → Going f i L (k + 1) (written l u d v x)
@@ -265,11 +265,11 @@ module _ {i : Input} {L : Lists} {k : ℕ} {w : Written} (f : Form) (G : Going f
 
 -- ---- what a test of the form, or a match on it, shows
 
-pub asked-as : (f : Form) (n k : ℕ) (starts columns r : List ℕ) (L : Lists) (s : List ℕ) (t x : Bool) → t ≡ readsLower f → t ≡ x
+pub asked-as : (f : Form) (n k : ℕ) (starts columns r : List ℕ) (L : PlacedLists) (s : List ℕ) (t x : Bool) → t ≡ readsLower f → t ≡ x
     → LowerAsked (readsLower f) n k starts columns r L s → LowerAsked x n k starts columns r L s
 asked-as f n k starts columns r L s t x e q = subst (λ b. LowerAsked b n k starts columns r L s) (sym e ∙ q)
 
-pub given-as : (f : Form) (n k below : ℕ) (starts columns r : List ℕ) (L : Lists) (s₀ s : List ℕ) (t x : Bool) → t ≡ readsLower f → t ≡ x
+pub given-as : (f : Form) (n k below : ℕ) (starts columns r : List ℕ) (L : PlacedLists) (s₀ s : List ℕ) (t x : Bool) → t ≡ readsLower f → t ≡ x
     → LowerGiven x n k below starts columns r L s₀ s → LowerGiven (readsLower f) n k below starts columns r L s₀ s
 given-as f n k below starts columns r L s₀ s t x e q = subst (λ b. LowerGiven b n k below starts columns r L s₀ s) (sym q ∙ e)
 

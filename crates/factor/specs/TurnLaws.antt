@@ -28,23 +28,23 @@ use Rattle.numeric.specs.PassLaws.{forward-length, held-more, held-zero, held-o
 use Rattle.factor.specs.declared.Factored.{Factored}
 use Rattle.factor.specs.declared.Factored.the-variants.{Solved}
 use Rattle.factor.specs.declared.Factored.the-variants as done
-use Rattle.factor.specs.Factoring.{FactoredAs, CameTo, isFault, Lists, Written, LowerPlaced, Factorable, LowerHeld, Inverse, Finding, Going, RowAt, lowerIn, LowerAt}
+use Rattle.factor.specs.Factoring.{FactoredAs, CameTo, isFault, PlacedLists, Workspace, LowerPlaced, Factorable, LowerHeld, Inverse, Finding, Going, RowAt, lowerIn, LowerAt}
 use Rattle.factor.specs.SystemLaws.{lower-below, system-closed, placed-shape}
 use Rattle.base.specs.Scratch.{cursorsFrom}
 
 -- ---- what is lent stays so: it depends on what is written by lengths alone
 
-pub record Sizes (w x : Written) : Type 0 where
+pub record SameSizes (w x : Workspace) : Type 0 where
   pub lower-size : length (x .lower) ≡ length (w .lower)
   pub upper-size : length (x .upper) ≡ length (w .upper)
   pub d-size : length (x .d) ≡ length (w .d)
   pub work-size : length (x .work) ≡ length (w .work)
   pub marks-size : length (x .marks) ≡ length (w .marks)
 
-pub sizes-none : (w : Written) → Sizes w w
+pub sizes-none : (w : Workspace) → SameSizes w w
 sizes-none w = record { lower-size = refl; upper-size = refl; d-size = refl; work-size = refl; marks-size = refl }
 
-pub sizes-then : {w x y : Written} → Sizes w x → Sizes x y → Sizes w y
+pub sizes-then : {w x y : Workspace} → SameSizes w x → SameSizes x y → SameSizes w y
 sizes-then s r = record {
   lower-size = r .lower-size ∙ s .lower-size;
   upper-size = r .upper-size ∙ s .upper-size;
@@ -57,12 +57,12 @@ pub none-left : (l m : List Float) → length m ≡ length l → l ≡ [] → m 
 none-left l [] e h = refl
 none-left l (x ∷ m) e h = absurd (omega (arith, e, ap length h))
 
-lower-same : (f : Form) (P : Pattern) (n : ℕ) (L : Lists) (l m : List Float) → length m ≡ length l → LowerPlaced f P n L l → LowerPlaced f P n L m
+lower-same : (f : Form) (P : Pattern) (n : ℕ) (L : PlacedLists) (l m : List Float) → length m ≡ length l → LowerPlaced f P n L l → LowerPlaced f P n L m
 lower-same Plain P n L l m e h = rw e h
 lower-same Shared P n L l m e h = rw e h
 lower-same ByRow P n L l m e h = none-left l m e h
 
-pub same-given : {f : Form} {i : Input} {L : Lists} {w x : Written} → Sizes w x → Factorable f i L w → Factorable f i L x
+pub same-given : {f : Form} {i : Input} {L : PlacedLists} {w x : Workspace} → SameSizes w x → Factorable f i L w → Factorable f i L x
 same-given {f} {i} {L} {w} {x} s F = record {
   lent = rw (s .marks-size) (F .lent);
   settled = F .settled;
@@ -75,24 +75,24 @@ same-given {f} {i} {L} {w} {x} s F = record {
 
 -- ---- the answer of a row, t being whether it is a fault
 
-pub came-on : {f : Form} {i : Input} {L : Lists} {k : ℕ} {w : Written} (a : Factored) (t : Bool) → t ≡ isFault a → t ≡ false → CameTo f i L k a w → Going f i L k w
+pub came-on : {f : Form} {i : Input} {L : PlacedLists} {k : ℕ} {w : Workspace} (a : Factored) (t : Bool) → t ≡ isFault a → t ≡ false → CameTo f i L k a w → Going f i L k w
 unfolding CameTo
 came-on Solved t e q h = h
 came-on (done.Zero k) t e q h = absurd (true≢false (sym e ∙ q))
 came-on (done.Overflow k) t e q h = absurd (true≢false (sym e ∙ q))
 
-pub came-done : {f : Form} {i : Input} {L : Lists} {k : ℕ} {w : Written} (j : ℕ) → k ≡ j → Going f i L k w → CameTo f i L j Solved w
+pub came-done : {f : Form} {i : Input} {L : PlacedLists} {k : ℕ} {w : Workspace} (j : ℕ) → k ≡ j → Going f i L k w → CameTo f i L j Solved w
 unfolding CameTo
 came-done j e h = rw (← e) h
 
 -- a fault is the answer whatever follows
-pub came-off : (f : Form) (i : Input) (L : Lists) (k : ℕ) (w : Written) (a : Factored) (t : Bool) (j : ℕ) (x : Written) → t ≡ isFault a → t ≡ true → CameTo f i L k a w → CameTo f i L j a x
+pub came-off : (f : Form) (i : Input) (L : PlacedLists) (k : ℕ) (w : Workspace) (a : Factored) (t : Bool) (j : ℕ) (x : Workspace) → t ≡ isFault a → t ≡ true → CameTo f i L k a w → CameTo f i L j a x
 unfolding CameTo
 came-off f i L p w Solved t j x e q h = absurd (true≢false (sym q ∙ e))
 came-off f i L p w (done.Zero k) t j x e q h = h
 came-off f i L p w (done.Overflow k) t j x e q h = h
 
-pub came-end : (f : Form) (i : Input) (L : Lists) (k : ℕ) (w : Written) (a : Factored) (t : Bool) (l u d z : List Float) → t ≡ isFault a → t ≡ true → CameTo f i L k a w → FactoredAs f i a l u d z
+pub came-end : (f : Form) (i : Input) (L : PlacedLists) (k : ℕ) (w : Workspace) (a : Factored) (t : Bool) (l u d z : List Float) → t ≡ isFault a → t ≡ true → CameTo f i L k a w → FactoredAs f i a l u d z
 unfolding CameTo FactoredAs
 came-end f i L p w Solved t l u d z e q h = absurd (true≢false (sym q ∙ e))
 came-end f i L p w (done.Zero k) t l u d z e q h = h
@@ -107,7 +107,7 @@ module _ {i : Input} {k below : ℕ} {us ur ui m : List ℕ} {upper work : ℕ} 
   pub row-room : LowerAt (i .n) below (length m)
   row-room = record { few = omega (arith, R .lent .lent .orders .few); room = omega (arith, R .short, R .slots) }
 
-module _ {f : Form} {i : Input} {L : Lists} {k : ℕ} {w : Written} (G : Going f i L k w) (h : k < i .n) where
+module _ {f : Form} {i : Input} {L : PlacedLists} {k : ℕ} {w : Workspace} (G : Going f i L k w) (h : k < i .n) where
   -- what its steps find, once its lower row stands in the marks
   pub row-at : (m : List ℕ) (below : ℕ) → length m ≡ length (w .marks) → Inverse i m → below ≡ length (lowerRow (stored i) k) → lowerIn (i .n) below m ≡ lowerRow (stored i) k
       → RowAt i k below (L .upper-starts) (L .upper-runs) (L .upper-index) m (length (w .upper)) (length (w .work))
@@ -149,7 +149,7 @@ module _ {f : Form} {i : Input} {L : Lists} {k : ℕ} {w : Written} (G : Going f
   )
 
   -- a row that is kept: its steps left g and x .upper, its closing x .work and x .d
-  module _ (x : Written) (s : Sizes w x) (lower : List ℕ) (el : lower ≡ lowerRow (stored i) k) (g : List Float) (lg : length g ≡ length (w .work)) (t : RowSums) (p : Pivot) (ep : p ≡ Usable t)
+  module _ (x : Workspace) (s : SameSizes w x) (lower : List ℕ) (el : lower ≡ lowerRow (stored i) k) (g : List Float) (lg : length g ≡ length (w .work)) (t : RowSums) (p : Pivot) (ep : p ≡ Usable t)
       (R : Reduced (system i) (G .rows) (i .n) k (L .upper-starts) (w .work) g (w .upper) (x .upper) p)
       (Q : Shut (i .n) k lower (listAt (L .upper-starts) (L .upper-runs) (L .upper-index) k) g (x .work) (w .d) (x .d) t) where
     abbrev pub next : Row

@@ -1,5 +1,5 @@
 -- A binary64 number and its bits, where a NaN may stand.
-use mathlib.Core.Path.{_≡_, refl, sym, subst, _∙_, ap}
+use mathlib.Core.Path.{_≡_, refl, sym, subst, _∙_}
 use mathlib.Core.Bool.{Bool, true, false, not}
 use Prim.Native.Nat.{ℕ, _<_, _≤_, _%_}
 use lib.Dec.{T}

@@ -1,14 +1,14 @@
 -- Parts of a file: what is read of a stream is its parts, and the stream of what is read is the bytes read.
-use mathlib.Core.Path.{_≡_, refl, sym, ap, ap₂, _∙_}
+use mathlib.Core.Path.{_≡_, refl, ap, ap₂, _∙_}
 use mathlib.Core.List.{List, [], _∷_, _++_, append-nil, append-assoc, map, map-append}
 use Prim.Native.Nat.{ℕ, zero, suc, _+_, _*_, _^_, _<_, _≤_}
-use native.Mathlib.Nat.{add-zero, mul-zero, mul-suc, mul-le-mul-left}
+use native.Mathlib.Nat.{mul-zero, mul-suc, mul-le-mul-left}
 use native.Mathlib.Omega.{arith}
 use lib.ListN.{length, getD, length-append, List·getD-append}
 use lib.Seq.{ext-getD}
 use Rattle.base.specs.Lists.{table}
 use Rattle.base.specs.TableLaws.{length-table, getD-table, table-ext, table-add}
-use Rattle.fields.specs.Numbers.{le, bytes, fields, Part, part, stream, Span, span, spansOf, extent}
+use Rattle.fields.specs.Numbers.{fields, Part, part, stream, Span, spansOf, extent}
 use Rattle.fields.specs.Payload.{place, payload, payloads, fieldAt, fieldsAt, partsAt}
 use Rattle.fields.proofs.NumberLaws.{getD-after, le-bytes, bytes-le, le-lt, fields-append, length-fields, getD-fields}
 

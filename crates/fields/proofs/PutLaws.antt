@@ -1,13 +1,13 @@
 -- Laws of bytes laid down one after another in the joined payloads.
-use mathlib.Core.Path.{_≡_, refl, sym, ap, _∙_}
+use mathlib.Core.Path.{_≡_, refl, ap, _∙_}
 use mathlib.Core.List.{List, [], _∷_, _++_, append-nil, append-assoc}
-use Prim.Native.Nat.{ℕ, zero, suc, _+_, _-_, _*_, _/_, _%_, _<_, _≤_}
+use Prim.Native.Nat.{ℕ, suc, _+_, _-_, _*_, _/_, _%_, _<_, _≤_}
 use native.Mathlib.Nat.{add-zero, mul-zero, mul-suc}
 use native.Mathlib.Numerals.{add-one}
 use native.Mathlib.Omega.{arith}
-use lib.ListN.{length, getD, take, set, replicate, replicate-append-replicate, length-append, length-set}
+use lib.ListN.{length, getD, take, set, replicate, replicate-append-replicate, length-set}
 use lib.Seq.{getD-set-same, getD-set-other, take-length}
-use Rattle.base.specs.Lists.{table, padded}
+use Rattle.base.specs.Lists.{padded}
 use Rattle.base.specs.TableLaws.{table-more, table-ext, length-table}
 use Rattle.fields.specs.Numbers.{bytes, fields}
 use Rattle.fields.specs.Payload.{place, room, payload, payloads}

@@ -105,7 +105,7 @@ fn main() {
     again[700] = other(again[700]);
     let shape = matrix_file::matrix_file_shape(&again);
     match shape {
-        Shaped::Shape(_) => print_end(Ended::Complete),
-        Shaped::Unshaped(q) => print_end(Ended::Declined(q)),
+        Shaped::Shape(_) => print_end(Ended::Done),
+        Shaped::Unshaped(q) => print_end(Ended::Refused(q)),
     }
 }

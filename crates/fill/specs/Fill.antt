@@ -1,11 +1,11 @@
 -- The fill of a sparse pattern, its lists and its counts. `stored i j` says that row i has an entry in column j. Definitions only.
 use mathlib.Core.Path.{_≡_}
 use mathlib.Core.Bool.{Bool, true, _&&_, _||_}
-use mathlib.Core.List.{List, map}
+use mathlib.Core.List.{List}
 use Prim.Native.Nat.{ℕ, zero, suc, _*_, _<_, min}
 use lib.ListN.{length}
 use lib.Dec.{ltb}
-use Rattle.base.specs.Lists.{sum, asc, total}
+use Rattle.base.specs.Lists.{sum, asc}
 
 abbrev pub Pattern : Type 0
 Pattern = ℕ → ℕ → Bool

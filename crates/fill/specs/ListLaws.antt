@@ -1,18 +1,18 @@
 -- Laws of the fill's lists: the transposed side, tails, and the count of products by rows.
-use mathlib.Core.Path.{_≡_, refl, sym, ap, ap₂, _∙_, subst}
-use mathlib.Core.Bool.{Bool, true, false, _&&_, _||_, false≢true}
-use mathlib.Core.List.{List, [], _∷_, _++_, map}
-use Prim.Native.Nat.{ℕ, zero, suc, _+_, _*_, _≤_, _<_, min}
+use mathlib.Core.Path.{_≡_, refl, sym, ap, _∙_}
+use mathlib.Core.Bool.{Bool, true, false, _&&_}
+use mathlib.Core.List.{map}
+use Prim.Native.Nat.{ℕ, suc, _*_, _≤_, _<_}
 use native.Mathlib.Nat.{mul-le-mul}
 use native.Mathlib.Omega.{arith}
-use lib.ListN.{length, getD, take, drop}
+use lib.ListN.{length, drop}
 use lib.Dec.{ltb, leb}
-use borrow.Author.Tests.{lt-ltb, le-ltb, ltb-true, ltb-false}
-use Rattle.fill.specs.Fill.{Pattern, reach, filled, upper, flip, upperRow, lowerColumn, products, lowerRow}
-use Rattle.base.specs.Tests.{or-cases, or-right, and-cases, true-ext}
+use borrow.Author.Tests.{lt-ltb, le-ltb, ltb-true}
+use Rattle.fill.specs.Fill.{Pattern, filled, upper, flip, upperRow, lowerColumn, products, lowerRow}
+use Rattle.base.specs.Tests.{and-cases}
 use Rattle.fill.specs.RowRule.{filled-through, filled-flip}
 use Rattle.base.specs.Lists.{sum, bit, count, asc, total}
-use Rattle.base.specs.AscLaws.{sum-ext, sum-mul, sum-swap, sum-le, sum-part, total-asc, length-asc, asc-ext, asc-drop, count-le, count-ext, count-same}
+use Rattle.base.specs.AscLaws.{sum-ext, sum-mul, sum-swap, sum-le, sum-part, total-asc, length-asc, asc-ext, asc-drop, count-le, count-same}
 
 -- The transposed side is the same theory.
 pub lower-is-upper : (stored : Pattern) (n k : ℕ) → lowerColumn stored n k ≡ upperRow (flip stored) n k

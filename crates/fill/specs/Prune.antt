@@ -1,12 +1,12 @@
 -- Symmetric pruning: a row k merges T(i) only as far as the first place p below k with (i, p) and (p, i) filled.
-use mathlib.Core.Path.{_≡_, refl, sym, ap, ap₂, _∙_, subst}
-use mathlib.Core.Bool.{Bool, true, false, _&&_, _||_, and-false, or-false, false≢true}
+use mathlib.Core.Path.{_≡_, refl, sym, _∙_}
+use mathlib.Core.Bool.{Bool, true, false, _&&_, _||_, false≢true}
 use mathlib.Core.Logic.{_⊎_, inl, inr}
 use Prim.Native.Nat.{ℕ, zero, suc, _+_, _-_, _≤_, _<_, min}
 use native.Mathlib.Omega.{arith}
 use native.Mathlib.Decide.{decLt}
-use lib.Dec.{ltb, leb}
-use borrow.Author.Tests.{lt-ltb, le-ltb, ltb-true, le-leb, lt-leb}
+use lib.Dec.{ltb}
+use borrow.Author.Tests.{lt-ltb, ltb-true}
 use Rattle.fill.specs.Fill.{Pattern, filled, upper}
 use Rattle.base.specs.Tests.{or-cases, or-right, and-cases, true-ext, by-test}
 use Rattle.fill.specs.RowRule.{someBelow, some→, →some, merged, merged-filled, filled-cases, filled-stored, filled-through}
@@ -148,7 +148,3 @@ module _ (stored : Pattern) where
     | inl a ↦ entire (λ j h. rw (some-less (pair i) (min k j) k (omega arith) a))
     | inr r ↦ short (r .0) (r .1) (pair→ i (r .0) (r .2)) (λ j l h. rw (some-less (pair i) (min k j) (r .0) (omega arith) (r .3)))
   ]
-
-  -- The claim: with each T(i) cut behind its first place p, i < p < k, that has both (i, p) and (p, i), row k comes out the same.
-  pub first-pruned : (k j : ℕ) → pruned (firstPart k) k k j ≡ filled stored k j
-  first-pruned k j = pruned-filled (firstPart k) k (λ i l. first-cut k i) j

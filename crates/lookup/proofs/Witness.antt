@@ -5,7 +5,7 @@ use mathlib.Core.List.{[], _∷_}
 use native.Mathlib.Omega.{arith}
 use Rattle.base.specs.Answers.{spot}
 use Rattle.base.specs.declared.Form.the-variants.{Shared}
-use Rattle.base.specs.declared.Side.the-variants.{Lower, Upper}
+use Rattle.base.specs.declared.Side.the-variants.{Upper}
 use Rattle.lookup.specs.Lookup.{SideLent, sideLists, sized, bothFit, runSpan, spanOf, spanIn, within, lookup}
 
 pub lent : SideLent true 1 (0 ∷ 1 ∷ []) (0 ∷ [])

@@ -9,7 +9,7 @@ use Rattle.base.specs.Lists.{listAt, asc}
 use Rattle.fill.specs.Fill.{Pattern, reach, filled, upper, upperRow, lowerRow}
 use Rattle.lent.specs.Reading.{ListIn}
 use Rattle.marks.specs.Marks.{Room, Base, Fresh, chosen, members, Parts, Walk}
-use Rattle.marks.specs.Rows.{CutAt, uncut, Held, Countable}
+use Rattle.marks.specs.Rows.{CutAt, uncut, PlaceReady, Countable}
 use Rattle.marks.specs.FillLaws.{held-parts}
 use Rattle.marks.specs.ListLaws.{held-countable}
 
@@ -51,7 +51,7 @@ first-cut : CutAt full 2 1 0 (getD scratch 6 0)
 unfolding upperRow asc upper filled reach
 first-cut = uncut refl
 
-held : Held full 2 1 3 6 scratch starts runs index
+held : PlaceReady full 2 1 3 6 scratch starts runs index
 held = record {
   fresh = fresh;
   store = record {

@@ -15,7 +15,7 @@ use Rattle.lent.specs.Reading.{But}
 use Rattle.marks.specs.Marks.{Room, marked, Fresh, Holds, Unmarked, Base, upto, cutOne, visited, newCuts}
 use Rattle.marks.specs.VisitLaws.{visited-keeps}
 use Rattle.marks.specs.CutLaws.{cut-other, cut-length, cut-unmarked}
-use Rattle.marks.specs.Rows.{Stored, CutAt, uncut, behind, Cuts, Held, Renewed}
+use Rattle.marks.specs.Rows.{Stored, CutAt, uncut, behind, Cuts, PlaceReady, Renewed}
 use Rattle.marks.specs.AscCuts.{upto-none}
 use Rattle.marks.specs.FillLaws.{has-upper, upper-length}
 
@@ -38,11 +38,11 @@ holds-fresh n t later s p l h j q = omega (arith, h .last j q)
 
 -- what another side writes keeps what a place finds
 pub held-kept : (P : Pattern) (n k t later cuts : ℕ) (s u starts runs index : List ℕ) → ((i : ℕ) → i < k → getD u (cuts + i) 0 ≡ getD s (cuts + i) 0) → Fresh n later u
-    → Held P n k t cuts s starts runs index → Held P n k later cuts u starts runs index
+    → PlaceReady P n k t cuts s starts runs index → PlaceReady P n k later cuts u starts runs index
 held-kept P n k t later cuts s u starts runs index e f h = record { fresh = f; store = h .store; cut = cuts-kept P n k cuts s u e (h .cut) }
 
 -- before place 0
-pub held-start : (P : Pattern) (n t cuts : ℕ) (s starts runs index : List ℕ) → Fresh n t s → Held P n 0 t cuts s starts runs index
+pub held-start : (P : Pattern) (n t cuts : ℕ) (s starts runs index : List ℕ) → Fresh n t s → PlaceReady P n 0 t cuts s starts runs index
 held-start P n t cuts s starts runs index f = record {
   fresh = f;
   store = record { list = λ i l. absurd (omega arith); read = λ i l. absurd (omega arith) };

@@ -28,7 +28,7 @@ abbrev pub Cuts : Pattern → ℕ → ℕ → ℕ → List ℕ → Type 0
 Cuts P n k cuts s = (i : ℕ) → i < k → CutAt P n k i (getD s (cuts + i) 0)
 
 -- what place k finds: no mark with its stamp, the lists of the places before it in the store, and their cuts
-pub record Held (P : Pattern) (n k t cuts : ℕ) (s starts runs index : List ℕ) : Type 0 where
+pub record PlaceReady (P : Pattern) (n k t cuts : ℕ) (s starts runs index : List ℕ) : Type 0 where
   pub fresh : Fresh n t s
   pub store : Stored P n k starts runs index
   pub cut : Cuts P n k cuts s
@@ -70,7 +70,7 @@ pub record Listed (P : Pattern) (n k at : ℕ) (s₀ s : List ℕ) (below above 
 pub record Renewed (n t k cuts : ℕ) (starts runs index s₀ s : List ℕ) : Type 0 where
   pub kept : But cuts (cuts + k + 1) s₀ s
   pub held : (P : Pattern) → Holds n t s₀ (filled P k) → Stored P n (k + 1) starts runs index → Cuts P n k cuts s₀
-      → (later : ℕ) → t < later → Held P n (k + 1) later cuts s starts runs index
+      → (later : ℕ) → t < later → PlaceReady P n (k + 1) later cuts s starts runs index
 
 -- the products of row k: for each i of lower row k, the length of T(i)
 unfoldable pub rowSteps : Pattern → ℕ → ℕ → ℕ

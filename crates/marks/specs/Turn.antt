@@ -6,11 +6,11 @@ use Rattle.fill.specs.Fill.{Pattern, filled}
 use Rattle.lent.specs.Reading.{But}
 use Rattle.marks.specs.Marks.{Holds, Unmarked, Base}
 use Rattle.marks.specs.MarkLaws.{holds-kept}
-use Rattle.marks.specs.Rows.{Stored, Cuts, Held, Closed, Renewed}
+use Rattle.marks.specs.Rows.{Stored, Cuts, PlaceReady, Closed, Renewed}
 use Rattle.marks.specs.RenewLaws.{cuts-same, cuts-but}
 
 module _ (P : Pattern) (n k t cuts at : ℕ) (h : k < n) (base : Base n cuts) (apart : cuts + n ≤ at) (starts runs index s₀ s₁ s₂ : List ℕ)
-    (held : Held P n k t cuts s₀ starts runs index) (loaded : Unmarked n s₀ s₁) (entries : Holds n t s₁ (P k)) where
+    (held : PlaceReady P n k t cuts s₀ starts runs index) (loaded : Unmarked n s₀ s₁) (entries : Holds n t s₁ (P k)) where
   -- the cuts that closing finds
   pub loaded-cuts : Cuts P n k cuts s₁
   loaded-cuts = cuts-same P n k cuts s₀ s₁ base loaded (held .cut)
@@ -31,5 +31,5 @@ module _ (P : Pattern) (n k t cuts at : ℕ) (h : k < n) (base : Base n cuts) (a
 
       -- T(k) is put in the store, and the cuts are renewed
       pub place-turn : (s₄ starts′ runs′ index′ : List ℕ) → Stored P n (k + 1) starts′ runs′ index′ → Renewed n t k cuts starts′ runs′ index′ s₃ s₄
-          → (later : ℕ) → t < later → Held P n (k + 1) later cuts s₄ starts′ runs′ index′
+          → (later : ℕ) → t < later → PlaceReady P n (k + 1) later cuts s₄ starts′ runs′ index′
       place-turn s₄ starts′ runs′ index′ store renewed later l = renewed .held P listed-marks store listed-cuts later l

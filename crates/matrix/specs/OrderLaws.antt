@@ -1,14 +1,13 @@
 -- Orders: their entries are below n, no number stands twice, every number below n stands at its place.
-use mathlib.Core.Path.{_≡_, refl, sym, _∙_, ap}
-use mathlib.Core.Bool.{Bool, true, false, cond, true≢false}
+use mathlib.Core.Path.{_≡_, refl, ap}
+use mathlib.Core.Bool.{true, false, cond, true≢false}
 use mathlib.Core.List.{List}
-use Prim.Native.Nat.{ℕ, zero, suc, pred, _+_, _-_, _≤_, _<_}
+use Prim.Native.Nat.{ℕ, zero, suc, _-_, _≤_, _<_}
 use native.Mathlib.Omega.{arith}
 use native.Mathlib.Nat.{not-suc-le-zero}
-use native.Mathlib.Decide.{ℕ-discrete, decLt}
-use lib.ListN.{length, getD, set, drop}
-use lib.Seq.{getD-set-same, getD-set-other, drop-set-lt}
-use lib.Dec.{leb, ltb, eqb}
+use native.Mathlib.Decide.{decLt}
+use lib.ListN.{getD}
+use lib.Dec.{leb, ltb}
 use mathlib.Core.Logic.{_≢_}
 use borrow.Author.Tests.{leb-false, lt-ltb, le-ltb, eq-eqb, eqb-true, eqb-false}
 use Rattle.base.specs.First.{first, isAt}

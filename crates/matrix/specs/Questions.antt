@@ -10,12 +10,9 @@ use lib.Ieee.Scale.{finite}
 use Rattle.base.specs.Lists.{rowOf}
 use Rattle.base.specs.First.{first, isAt}
 use Rattle.base.specs.Answers.{own, absent, andThen}
-use Rattle.base.specs.declared.Found.{Found}
-use Rattle.base.specs.declared.Found.the-variants.{At, Nothing}
-use Rattle.base.specs.declared.Refusal.{Refusal}
+use Rattle.base.specs.declared.Found.the-variants.{Nothing}
 use Rattle.base.specs.declared.Refusal.the-variants.{Starts, Column, Order, NotFinite, EmptyRow, Repeated}
 use Rattle.base.specs.declared.Asked.{Asked}
-use Rattle.base.specs.declared.Asked.the-variants.{Pass, Stop}
 use Rattle.matrix.specs.Input.{Input, isOf}
 
 -- 3: the starts fall after row i, or it is row 0 and they do not begin at 0, or it is the last row and they do not end at e

@@ -3,9 +3,7 @@ use Prim.Native.Nat.{ℕ}
 use mathlib.Core.Bool.{cond}
 use lib.Dec.{leb}
 use Rattle.base.specs.Limits.{maxEntries, rowsWithin}
-use Rattle.base.specs.declared.Refusal.{Refusal}
 use Rattle.base.specs.declared.Refusal.the-variants.{Rows, Lengths}
-use Rattle.matrix.specs.declared.Matrix.{Matrix}
 use Rattle.matrix.specs.declared.Shaped.{Shaped}
 use Rattle.matrix.specs.declared.Shaped.the-variants.{Shape, Unshaped}
 

@@ -13,11 +13,11 @@ use Rattle.base.specs.Tests.{and-cases, not-true, not-false}
 use Rattle.base.specs.Answers.{holds, andThen}
 use Rattle.base.specs.declared.Asked.{Asked}
 use Rattle.base.specs.declared.Asked.the-variants.{Pass, Stop}
-use Rattle.base.specs.declared.Ended.the-variants.{Complete, Declined}
+use Rattle.base.specs.declared.Ended.the-variants.{Done, Refused}
 use Rattle.base.specs.declared.Refusal.{Refusal}
 use Rattle.base.specs.declared.Refusal.the-variants.{Rows, Lengths, FileShape}
 use Rattle.base.specs.Limits.{maxRows, maxEntries, rowsWithin}
-use Rattle.matrix.specs.Input.{Input, inputOf}
+use Rattle.matrix.specs.Input.{Input}
 use Rattle.matrix.specs.declared.Matrix.{Matrix}
 use Rattle.matrix.specs.declared.Shaped.{Shaped}
 use Rattle.matrix.specs.declared.Shaped.the-variants.{Shape, Unshaped}
@@ -27,7 +27,7 @@ use Rattle.fields.proofs.PartLaws.{stream-append}
 use Rattle.blocks.specs.Blocks.{blocksFor, fileOf, endsAt, askBlocks}
 use Rattle.blocks.proofs.FileLaws.{asked-whole}
 use Rattle.blocks.proofs.AskLaws.{then-no, then-first, then-second, holds-true}
-use Rattle.matrix_file.specs.MatrixFile.{matrixParts, orderParts, partsOf, written, sizeOf, fileLength, nOf, eOf, shapeIn, Lists, listsOf, listsIn, withRows, listsAt, listsFor, matrixAt, fitsShape, askHead, askFile, shaped, opened, lengthsRight, listsRight, askRead, askLengths, askWrite, Left, left, outcome, readOutcome, writeOutcome}
+use Rattle.matrix_file.specs.MatrixFile.{matrixParts, orderParts, written, sizeOf, fileLength, nOf, eOf, shapeIn, MatrixLists, matrixLists, listsAt, matrixAt, fitsShape, askHead, askFile, shaped, opened, lengthsRight, listsRight, askRead, askLengths, askWrite, left, readOutcome, writeOutcome}
 
 pub rows-range : (n : ℕ) → rowsWithin n ≡ true → (1 ≤ n) × (n ≤ maxRows)
 rows-range n t = let a = and-cases (leb 1 n) (leb n maxRows) t in (leb-true 1 n (a .0), leb-true n maxRows (a .1))
@@ -129,8 +129,8 @@ rows-most file f m o p =
 
 -- ---- reading
 
-module _ (file : List ℕ) (l : Lists) (f : Shaped) (o : f ≡ opened file) where
-  pub read-stop : (q : Refusal) → f ≡ Unshaped q → left (Declined q) l ≡ readOutcome file l
+module _ (file : List ℕ) (l : MatrixLists) (f : Shaped) (o : f ≡ opened file) where
+  pub read-stop : (q : Refusal) → f ≡ Unshaped q → left (Refused q) l ≡ readOutcome file l
   unfolding readOutcome askRead opened
   read-stop q p = rw (shaped-stop (askFile file) q (shapeIn file) (sym p ∙ o))
 
@@ -141,7 +141,7 @@ module _ (file : List ℕ) (l : Lists) (f : Shaped) (o : f ≡ opened file) wher
     right-is : listsRight (nOf file) (eOf file) l ≡ x
     right-is = ap (λ (m : Matrix). listsRight (m .rows) (m .entries) l) (sym (passed .1)) ∙ sym ex
 
-    pub read-lengths : not x ≡ true → left (Declined Lengths) l ≡ readOutcome file l
+    pub read-lengths : not x ≡ true → left (Refused Lengths) l ≡ readOutcome file l
     unfolding readOutcome askRead
     read-lengths n = rw (passed .0, right-is, not-false x n)
 
@@ -151,14 +151,14 @@ module _ (file : List ℕ) (l : Lists) (f : Shaped) (o : f ≡ opened file) wher
     pub read-room : not x ≡ false → 8 + 4 * length (l .starts) + 2 * length (l .columns) + 8 * length (l .values) + 2 * length (l .r) + 2 * length (l .c) + 8 * length (l .b) ≤ room file
     read-room n = let g = long-are n in let h = fitting file (passed .0) in omega arith
 
-    pub read-done : (l′ : Lists) → not x ≡ false
+    pub read-done : (l′ : MatrixLists) → not x ≡ false
         → l′ ≡ listsAt file (length (l .starts)) (length (l .columns)) (length (l .values)) (length (l .r)) (length (l .c)) (length (l .b))
-        → left Complete l′ ≡ readOutcome file l
+        → left Done l′ ≡ readOutcome file l
     unfolding readOutcome askRead matrixAt
     read-done l′ n e =
         let g = long-are n in
         rw (passed .0, right-is, not-true x n)
-        (ap (λ (y : Lists). left Complete y) (e ∙ rw (g .starts-long, g .columns-long, g .values-long, g .r-long, g .c-long, g .b-long)))
+        (ap (λ (y : MatrixLists). left Done y) (e ∙ rw (g .starts-long, g .columns-long, g .values-long, g .r-long, g .c-long, g .b-long)))
 
 -- ---- writing
 
@@ -210,11 +210,11 @@ module _ (i : Input) (len : ℕ) (p : askWrite i len ≡ Pass) where
   file-long = eqb-true len (fileLength (i .n) e) (both .1)
 
 module _ (i : Input) (file : List ℕ) (a : Asked) (ask : a ≡ askWrite i (length file)) where
-  pub write-stop : (q : Refusal) → a ≡ Stop q → left (Declined q) file ≡ writeOutcome i file
+  pub write-stop : (q : Refusal) → a ≡ Stop q → left (Refused q) file ≡ writeOutcome i file
   unfolding writeOutcome
   write-stop q p = rw (← ask, p)
 
-  pub write-done : (file′ : List ℕ) → a ≡ Pass → file′ ≡ written i → left Complete file′ ≡ writeOutcome i file
+  pub write-done : (file′ : List ℕ) → a ≡ Pass → file′ ≡ written i → left Done file′ ≡ writeOutcome i file
   unfolding writeOutcome
   write-done file′ p w = rw (← ask, p, w)
 
@@ -226,7 +226,7 @@ pub loaded : (file : List ℕ) (s j v r c b a₁ a₂ a₃ a₄ a₅ : ℕ) (xs 
     → a₃ ≡ a₂ + 8 * v → xv ≡ floatsAt file a₂ v
     → a₄ ≡ a₃ + 2 * r → xr ≡ fieldsAt 2 file a₃ r
     → a₅ ≡ a₄ + 2 * c → xc ≡ fieldsAt 2 file a₄ c
-    → xb ≡ floatsAt file a₅ b → listsOf xs xj xv xr xc xb ≡ listsAt file s j v r c b
+    → xb ≡ floatsAt file a₅ b → matrixLists xs xj xv xr xc xb ≡ listsAt file s j v r c b
 unfolding listsAt
 loaded file s j v r c b a₁ a₂ a₃ a₄ a₅ xs xj xv xr xc xb p₁ e₁ p₂ e₂ p₃ e₃ p₄ e₄ p₅ e₅ e₆ = rw (e₁, e₂, e₃, e₄, e₅, e₆, p₅, p₄, p₃, p₂, p₁)
 

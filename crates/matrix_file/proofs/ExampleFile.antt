@@ -1,7 +1,5 @@
 -- The example's file opens to n = 2 and e = 4, holds the example's matrix, and is what that is written as: all computed.
 use mathlib.Core.Path.{_≡_, refl}
-use mathlib.Core.List.{List, []}
-use lib.ListN.{length, getD, take, drop}
 use lib.Ieee.{ofBits, toBits}
 use Rattle.base.specs.Lists.{sum, table, joined, padded}
 use Rattle.base.specs.First.{first}

@@ -1,35 +1,33 @@
 -- What is written is read, what is read is written: the three theorems of the matrix file.
 use mathlib.Core.Path.{_≡_, refl, sym, ap, ap₂, _∙_}
 use mathlib.Core.Logic.{_↔_}
-use mathlib.Core.Bool.{Bool, true, false, not}
-use mathlib.Core.List.{List, [], _∷_, _++_, map}
-use Prim.Native.Nat.{ℕ, zero, suc, _+_, _-_, _*_, _/_, _^_, _<_, _≤_}
+use mathlib.Core.Bool.{true}
+use mathlib.Core.List.{List, [], _∷_, map}
+use Prim.Native.Nat.{ℕ, zero, suc, _+_, _-_, _*_, _^_, _<_, _≤_}
 use native.Mathlib.Omega.{arith}
 use native.Mathlib.Nat.{not-suc-le-zero}
 use borrow.Author.Tests.{le-leb, eq-eqb}
-use lib.Dec.{T, leb}
+use lib.Dec.{T}
 use lib.ListN.{length, getD, drop, length-map}
-use lib.Seq.{ext-getD}
-use lib.Ieee.{Float, nan, binary64, ofBits, toBits, nanBits, fits}
+use lib.Ieee.{Float, binary64, ofBits, toBits, nanBits, fits}
 use lib.Ieee.Bits.{ofBits-toBits, toBits-lt, toBits-ofBits, nanBits-is, ofBits-fits}
 use Rattle.base.specs.Lists.{table}
-use Rattle.base.specs.TableLaws.{getD-table, length-table, getD-map-lt}
+use Rattle.base.specs.TableLaws.{getD-table}
 use Rattle.base.specs.Tests.{by-test}
-use Rattle.base.specs.Answers.{holds, andThen}
 use Rattle.base.specs.declared.Asked.the-variants.{Pass}
-use Rattle.base.specs.declared.Ended.the-variants.{Complete}
+use Rattle.base.specs.declared.Ended.the-variants.{Done}
 use Rattle.base.specs.Limits.{maxRows, maxEntries}
 use Rattle.matrix.specs.Input.{Input, inputOf}
 use Rattle.matrix.specs.declared.Matrix.{Matrix}
 use Rattle.matrix.specs.declared.Shaped.the-variants.{Shape}
-use Rattle.fields.specs.Numbers.{le, Part, part, stream, Span, span, spansOf, extent}
-use Rattle.fields.specs.Payload.{payload, payloads, fieldAt, fieldsAt, floatsAt, bitsOf, quiet, partsAt}
+use Rattle.fields.specs.Numbers.{Part, stream, Span, span, spansOf, extent}
+use Rattle.fields.specs.Payload.{payload, fieldAt, fieldsAt, floatsAt, bitsOf, quiet, partsAt}
 use Rattle.fields.proofs.FloatLaws.{nan-from, toBits-nan}
 use Rattle.fields.proofs.PartLaws.{Fits, parts-back, stream-of-parts, length-stream, length-fieldsAt, fields-fit}
 use Rattle.blocks.specs.Blocks.{blocksFor, fileOf}
 use Rattle.blocks.proofs.FileLaws.{payload-fileOf, fileOf-asked, fileOf-ends, asked-whole, file-back}
-use Rattle.matrix_file.specs.MatrixFile.{partsOf, written, Lists, listsIn, listsRight, left, askRead, readOutcome, sizeOf, fileLength, nOf, eOf, shapeIn, listsAt, listsFor, withRows, matrixAt, askHead, askFile, shaped, opened, askLengths, askWrite}
-use Rattle.matrix_file.proofs.CallLaws.{Long, n-range, e-most, written-long, Fitting, fitting, opened-pass}
+use Rattle.matrix_file.specs.MatrixFile.{partsOf, written, MatrixLists, listsIn, listsRight, left, askRead, readOutcome, sizeOf, fileLength, nOf, eOf, shapeIn, listsAt, listsFor, withRows, matrixAt, askHead, askFile, opened, askLengths, askWrite}
+use Rattle.matrix_file.proofs.CallLaws.{n-range, e-most, written-long, fitting, opened-pass}
 
 -- ---- the words of the theorems
 
@@ -291,11 +289,11 @@ unfolding opened matrixAt
 written-read i w len p = (rw (written-asked i w len p, n-is i w len p, e-is i w len p), rw (n-is i w len p, e-is i w len p) (lists-are i w len p))
 
 -- The same of the calls: what was written is read into lists of the right lengths, whatever these held.
-pub written-read-call : (i : Input) (l : Lists) → Widths i → (len : ℕ) → askWrite i len ≡ Pass → listsRight (i .n) (length (i .columns)) l ≡ true
-    → readOutcome (written i) l ≡ left Complete (listsIn i)
+pub written-read-call : (i : Input) (l : MatrixLists) → Widths i → (len : ℕ) → askWrite i len ≡ Pass → listsRight (i .n) (length (i .columns)) l ≡ true
+    → readOutcome (written i) l ≡ left Done (listsIn i)
 unfolding readOutcome askRead
 written-read-call i l w len p right =
-    rw (written-asked i w len p, n-is i w len p, e-is i w len p, right) (ap (λ (m : Input). left Complete (listsIn m)) (written-read i w len p .1))
+    rw (written-asked i w len p, n-is i w len p, e-is i w len p, right) (ap (λ (m : Input). left Done (listsIn m)) (written-read i w len p .1))
 
 -- A file that opens is what its matrix is written as exactly if each of its NaNs has the pattern of a written one.
 pub file-written : (file : List ℕ) → Bytes file → (m : Matrix) → opened file ≡ Shape m → (written (matrixAt file) ≡ file) ↔ QuietNaNs file

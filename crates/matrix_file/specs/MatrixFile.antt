@@ -9,7 +9,7 @@ use Rattle.base.specs.Answers.{holds, andThen}
 use Rattle.base.specs.declared.Asked.{Asked}
 use Rattle.base.specs.declared.Asked.the-variants.{Pass, Stop}
 use Rattle.base.specs.declared.Ended.{Ended}
-use Rattle.base.specs.declared.Ended.the-variants.{Complete, Declined}
+use Rattle.base.specs.declared.Ended.the-variants.{Done, Refused}
 use Rattle.base.specs.declared.Refusal.the-variants.{Rows, Lengths, FileShape}
 use Rattle.base.specs.Limits.{maxEntries, rowsWithin}
 use Rattle.matrix.specs.Input.{Input, inputOf}
@@ -54,7 +54,7 @@ abbrev pub shapeIn : List ℕ → Matrix
 shapeIn file = record { rows = nOf file; entries = eOf file }
 
 -- the lists of a matrix
-pub record Lists : Type 0 where
+pub record MatrixLists : Type 0 where
   pub starts : List ℕ
   pub columns : List ℕ
   pub values : List Float
@@ -62,26 +62,26 @@ pub record Lists : Type 0 where
   pub c : List ℕ
   pub b : List Float
 
-abbrev pub listsOf : List ℕ → List ℕ → List Float → List ℕ → List ℕ → List Float → Lists
-listsOf s j v r c b = record { starts = s; columns = j; values = v; r = r; c = c; b = b }
+abbrev pub matrixLists : List ℕ → List ℕ → List Float → List ℕ → List ℕ → List Float → MatrixLists
+matrixLists s j v r c b = record { starts = s; columns = j; values = v; r = r; c = c; b = b }
 
-abbrev pub listsIn : Input → Lists
-listsIn i = listsOf (i .starts) (i .columns) (i .values) (i .r) (i .c) (i .b)
+abbrev pub listsIn : Input → MatrixLists
+listsIn i = matrixLists (i .starts) (i .columns) (i .values) (i .r) (i .c) (i .b)
 
-abbrev pub withRows : ℕ → Lists → Input
+abbrev pub withRows : ℕ → MatrixLists → Input
 withRows n l = inputOf n (l .starts) (l .columns) (l .values) (l .r) (l .c) (l .b)
 
 -- the lists of the given lengths that stand one after another from payload byte 8 on
-unfoldable pub listsAt : List ℕ → ℕ → ℕ → ℕ → ℕ → ℕ → ℕ → Lists
+unfoldable pub listsAt : List ℕ → ℕ → ℕ → ℕ → ℕ → ℕ → ℕ → MatrixLists
 listsAt file s j v r c b =
-    listsOf (fieldsAt 4 file 8 s)
+    matrixLists (fieldsAt 4 file 8 s)
     (fieldsAt 2 file (8 + 4 * s) j)
     (floatsAt file (8 + 4 * s + 2 * j) v)
     (fieldsAt 2 file (8 + 4 * s + 2 * j + 8 * v) r)
     (fieldsAt 2 file (8 + 4 * s + 2 * j + 8 * v + 2 * r) c)
     (floatsAt file (8 + 4 * s + 2 * j + 8 * v + 2 * r + 2 * c) b)
 
-abbrev pub listsFor : List ℕ → ℕ → ℕ → Lists
+abbrev pub listsFor : List ℕ → ℕ → ℕ → MatrixLists
 listsFor file n e = listsAt file (n + 1) e e n n n
 
 -- what a file holds
@@ -115,11 +115,11 @@ opened file = shaped (askFile file) (shapeIn file)
 abbrev pub lengthsRight : ℕ → ℕ → ℕ → ℕ → ℕ → ℕ → ℕ → ℕ → Bool
 lengthsRight n e s j v r c b = eqb s (n + 1) && eqb j e && eqb v e && eqb r n && eqb c n && eqb b n
 
-abbrev pub listsRight : ℕ → ℕ → Lists → Bool
+abbrev pub listsRight : ℕ → ℕ → MatrixLists → Bool
 listsRight n e l = lengthsRight n e (length (l .starts)) (length (l .columns)) (length (l .values)) (length (l .r)) (length (l .c)) (length (l .b))
 
 -- the reader's: 16, 17, 1, 18 and 2
-unfoldable pub askRead : List ℕ → Lists → Asked
+unfoldable pub askRead : List ℕ → MatrixLists → Asked
 askRead file l = andThen (askFile file) (holds (listsRight (nOf file) (eOf file) l) Lengths)
 
 -- "The writer puts 1, then 18 for e over its limit, then 2", of the file's own length too
@@ -144,10 +144,10 @@ left a h = record { answer = a; held = h }
 
 -- "refusals write nothing": the new contents, or the old
 abbrev pub outcome : {A : Type 0} → Asked → A → A → Left A
-outcome Pass new old = left Complete new
-outcome (Stop q) new old = left (Declined q) old
+outcome Pass new old = left Done new
+outcome (Stop q) new old = left (Refused q) old
 
-unfoldable pub readOutcome : List ℕ → Lists → Left Lists
+unfoldable pub readOutcome : List ℕ → MatrixLists → Left MatrixLists
 readOutcome file l = outcome (askRead file l) (listsIn (matrixAt file)) l
 
 unfoldable pub writeOutcome : Input → List ℕ → Left (List ℕ)

@@ -8,7 +8,7 @@ ghost use Rattle.base.specs.Limits.{maxRows};
 ghost use Rattle.matrix.specs.Input.{inputOf};
 ghost use Rattle.fields.specs.Numbers.{stream};
 ghost use Rattle.fields.specs.Payload.{room, payloads};
-ghost use Rattle.matrix_file.specs.MatrixFile.{nOf, eOf, shapeIn, shaped, fitsShape, askHead, opened, lengthsRight, listsOf, listsAt, matrixParts, orderParts, written, askLengths, askWrite, left, readOutcome, writeOutcome};
+ghost use Rattle.matrix_file.specs.MatrixFile.{nOf, eOf, shapeIn, shaped, fitsShape, askHead, opened, lengthsRight, matrixLists, listsAt, matrixParts, orderParts, written, askLengths, askWrite, left, readOutcome, writeOutcome};
 use base::Asked;
 use base::Ended;
 use base::Index;
@@ -114,7 +114,7 @@ fn load(
     b: &mut [f64],
 )
     requires { ⌜ 8 + 4 * length (now starts) + 2 * length (now columns) + 8 * length (now values) + 2 * length (now r) + 2 * length (now c) + 8 * length (now b) ≤ room (now file) ⌝ }
-    ensures { λ _. ⌜ listsOf (now (starts .exit)) (now (columns .exit)) (now (values .exit)) (now (r .exit)) (now (c .exit)) (now (b .exit)) ≡ listsAt (now (file .entry)) (length (now (starts .entry))) (length (now (columns .entry))) (length (now (values .entry))) (length (now (r .entry))) (length (now (c .entry))) (length (now (b .entry))) ⌝ }
+    ensures { λ _. ⌜ matrixLists (now (starts .exit)) (now (columns .exit)) (now (values .exit)) (now (r .exit)) (now (c .exit)) (now (b .exit)) ≡ listsAt (now (file .entry)) (length (now (starts .entry))) (length (now (columns .entry))) (length (now (values .entry))) (length (now (r .entry))) (length (now (c .entry))) (length (now (b .entry))) ⌝ }
 {
     let at = fields::read_u32s(file, 8, starts);
     let at = fields::read_indices(file, at, columns);
@@ -134,11 +134,11 @@ pub fn read_matrix(
     c: &mut [Index],
     b: &mut [f64],
 ) -> Ended
-    ensures { λ a. ⌜ left a (listsOf (now (starts .exit)) (now (columns .exit)) (now (values .exit)) (now (r .exit)) (now (c .exit)) (now (b .exit))) ≡ readOutcome (now (file .entry)) (listsOf (now (starts .entry)) (now (columns .entry)) (now (values .entry)) (now (r .entry)) (now (c .entry)) (now (b .entry))) ⌝ }
+    ensures { λ a. ⌜ left a (matrixLists (now (starts .exit)) (now (columns .exit)) (now (values .exit)) (now (r .exit)) (now (c .exit)) (now (b .exit))) ≡ readOutcome (now (file .entry)) (matrixLists (now (starts .entry)) (now (columns .entry)) (now (values .entry)) (now (r .entry)) (now (c .entry)) (now (b .entry))) ⌝ }
 {
     let found = matrix_file_shape(file);
     match found {
-        Shaped::Unshaped(q) => Ended::Declined(q),
+        Shaped::Unshaped(q) => Ended::Refused(q),
         Shaped::Shape(m) => {
             if !lengths_right(
                 m.rows,
@@ -150,10 +150,10 @@ pub fn read_matrix(
                 c.len(),
                 b.len(),
             ) {
-                return Ended::Declined(Refusal::Lengths);
+                return Ended::Refused(Refusal::Lengths);
             }
             load(file, starts, columns, values, r, c, b);
-            Ended::Complete
+            Ended::Done
         }
     }
 }
@@ -249,10 +249,10 @@ pub fn write_matrix(
         file.len(),
     );
     match asked {
-        Asked::Stop(q) => Ended::Declined(q),
+        Asked::Stop(q) => Ended::Refused(q),
         Asked::Pass => {
             store(n, starts, columns, values, r, c, b, file);
-            Ended::Complete
+            Ended::Done
         }
     }
 }

@@ -9,8 +9,8 @@ use lib.Seq.{sets}
 use lib.Ieee.{Float, nan, binary64, mul, div}
 use lib.Ieee.Scale.{finite}
 use Rattle.base.specs.declared.RowSums.{RowSums}
-use Rattle.arithmetic.specs.Arith.{Out, ok, met, overflow, zeroPivot, vanishes, one}
-use Rattle.arithmetic.specs.Stopping.{at, finish, scaled}
+use Rattle.arithmetic.specs.Arith.{met, overflow, vanishes, one}
+use Rattle.arithmetic.specs.Stopping.{finish}
 use Rattle.arithmetic.specs.RowEnd.{finiteOn, finiteAll, products, rowEnd}
 use Rattle.arithmetic.specs.Sticky.{scaled-at}
 use Rattle.numeric.specs.Stores.{work, Finished}

@@ -15,7 +15,7 @@ use Rattle.base.specs.Tests.{by-test}
 use Rattle.base.specs.TableLaws.{getD-map-lt}
 use Rattle.base.specs.declared.RowSums.{RowSums}
 use Rattle.lent.specs.Reading.{Below}
-use Rattle.arithmetic.specs.Arith.{Fault, Out, ok, met, overflow, zeroPivot, one, System, Row, none, Given, given, Work, Result}
+use Rattle.arithmetic.specs.Arith.{Fault, Out, ok, met, overflow, zeroPivot, one, System, Row, none, Given, given, Work}
 use Rattle.arithmetic.specs.Stopping.{_>>=_, any, at, pivot, load, start, steps, scaled, finish, row, forward, rest, back, solved}
 use Rattle.arithmetic.specs.RowEnd.{products}
 use Rattle.arithmetic.specs.Factors.{bind-ok, ok-inj}

@@ -16,8 +16,8 @@ use borrow.Author.Tests.{eq-eqb, ne-eqb}
 use Rattle.base.specs.Lists.{has, asc, keep}
 use Rattle.base.specs.Tests.{by-test, or-right}
 use Rattle.lent.specs.Reading.{Below}
-use Rattle.arithmetic.specs.Arith.{Out, ok}
-use Rattle.arithmetic.specs.Stopping.{_>>=_, any, less, subtract, rest}
+use Rattle.arithmetic.specs.Arith.{ok}
+use Rattle.arithmetic.specs.Stopping.{any, subtract, rest}
 use Rattle.arithmetic.specs.Sticky.{ok-inj}
 use Rattle.numeric.specs.Stores.{Ascending}
 use Rattle.numeric.specs.Rows.{only, beside}

@@ -16,10 +16,9 @@ use borrow.Author.Tests.{eqb-true, eq-eqb}
 use Rattle.base.specs.Lists.{has, pairs, nought}
 use Rattle.base.specs.Tests.{by-test, or-cases, or-right}
 use Rattle.base.specs.AscLaws.{has-append}
-use Rattle.base.specs.declared.RowSums.{RowSums}
-use Rattle.arithmetic.specs.Arith.{Out, ok, met, System, Row, none, Given, given, Work}
-use Rattle.arithmetic.specs.Stopping.{_>>=_, Check, any, at, load, start, row, subtract, stepAt, steps, rest, finish}
-use Rattle.arithmetic.specs.RowEnd.{finiteOn, rowEnd, quiet}
+use Rattle.arithmetic.specs.Arith.{Out, ok, met, System, Row, Given, given, Work}
+use Rattle.arithmetic.specs.Stopping.{_>>=_, Check, any, at, load, start, row, subtract, stepAt, steps}
+use Rattle.arithmetic.specs.RowEnd.{finiteOn, rowEnd}
 use Rattle.arithmetic.specs.Sticky.{ok-inj, subtract-any, after, step-any, row-at, sub-left, sub-right, mul-left}
 use Rattle.numeric.specs.Stores.{Ascending, gathered, work}
 use Rattle.numeric.specs.Rows.{filledRow, Closed, RowLent}

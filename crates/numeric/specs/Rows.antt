@@ -10,7 +10,7 @@ use lib.Ieee.{Float, nan}
 use lib.Ieee.Scale.{finite}
 use Rattle.base.specs.Lists.{listAt, rowOf, has, count, pairs, nought}
 use Rattle.base.specs.declared.RowSums.{RowSums}
-use Rattle.arithmetic.specs.Arith.{Out, ok, System, Row, none}
+use Rattle.arithmetic.specs.Arith.{ok, System, Row, none}
 use Rattle.arithmetic.specs.Stopping.{row, forward}
 use Rattle.numeric.specs.Stores.{Ascending, numbered, gathered, zeroed}
 use Rattle.numeric.specs.declared.Pivot.{Pivot}

@@ -1,23 +1,18 @@
 -- The answer by the verdicts of the chain, and which numbers each verdict can give.
-use mathlib.Core.Path.{_≡_, refl, sym, ap, _∙_}
-use mathlib.Core.Bool.{Bool, true, false, _&&_}
-use mathlib.Core.Logic.{_⊎_, inl, inr}
-use mathlib.Core.List.{List, [], _∷_, _++_}
-use Prim.Native.Nat.{ℕ, zero, suc, _+_, _≤_, _<_}
+use mathlib.Core.Path.{_≡_, refl, ap, _∙_}
+use mathlib.Core.Bool.{Bool, true}
+use mathlib.Core.List.{List, _++_}
+use Prim.Native.Nat.{ℕ, zero, suc, _+_}
 use native.Mathlib.Omega.{arith}
 use lib.ListN.{length, getD}
-use lib.Dec.{leb}
 use lib.Ieee.{Float}
-use Rattle.fill.specs.Fill.{Pattern, filled, upper}
+use Rattle.fill.specs.Fill.{Pattern, filled}
 use Rattle.base.specs.First.{first}
-use Rattle.base.specs.All.{all, allWith}
+use Rattle.base.specs.All.{all}
 use Rattle.matrix.specs.Questions.{badStart, badColumn, badIndex, notFinite, emptyRow, repeatRow, askSolve, ask3, ask4, ask5, ask6, ask7, ask8, askFinite, askPattern, askRows, askStructure, askRight}
-use Rattle.arithmetic.specs.Arith.{Fault, zeroPivot, overflow, Out, ok, met, Result}
-use Rattle.base.specs.declared.Found.{Found}
-use Rattle.base.specs.declared.Found.the-variants.{At, Nothing}
+use Rattle.arithmetic.specs.Arith.{Out, ok, met, Result}
 use Rattle.base.specs.declared.Counts.{Counts}
-use Rattle.base.specs.declared.Refusal.{Refusal}
-use Rattle.base.specs.declared.Refusal.the-variants.{Rows, Lengths, Starts, Column, Order, NotFinite, EmptyRow, Repeated, NullPivot, LowerSlots, UpperSlots, ZeroPivot, Overflow}
+use Rattle.base.specs.declared.Refusal.the-variants.{Rows, Lengths, Starts, Column, Order, NotFinite, EmptyRow, Repeated, NullPivot, LowerSlots, UpperSlots}
 use Rattle.base.specs.declared.Asked.{Asked}
 use Rattle.base.specs.declared.Asked.the-variants.{Pass, Stop}
 use Rattle.base.specs.declared.Answer.{Answer}
@@ -27,9 +22,9 @@ use Rattle.outcome.specs.Structure.{counts, fits, askPlace, askPlaces}
 use Rattle.outcome.specs.Solve.{listed, faultOf, shape, earlier, kept, left, concluded, solve}
 use Rattle.base.specs.declared.Form.{Form}
 use Rattle.base.specs.declared.Form.the-variants.{Plain, Shared, ByRow}
-use Rattle.outcome.specs.Buffers.{Buffers, sizes, matrixTests, bufferTests, Outcome, ended, stop, scratchCleared, cleared, askShape}
+use Rattle.outcome.specs.Buffers.{Buffers, sizes, matrixTests, bufferTests, stop, cleared, askShape}
 use Rattle.base.specs.declared.Sizes.{Sizes}
-use Rattle.base.specs.Answers.{numberOf, placeOf, numberOfAnswer, own, spot, andThen, holds, absent}
+use Rattle.base.specs.Answers.{numberOfAnswer, own, spot, andThen, holds, absent}
 use Rattle.outcome.proofs.Asking.{number-some, Within, within-wide, within-pass, within-holds, within-absent, within-then, all-append}
 use Rattle.base.specs.Limits.{rowsWithin}
 use Rattle.base.specs.declared.Side.the-variants.{Lower, Upper}

@@ -1,30 +1,27 @@
 -- What each refusal leaves in the buffers, by its number, in every call.
-use mathlib.Core.Path.{_≡_, refl, sym, ap, _∙_}
+use mathlib.Core.Path.{_≡_, refl}
 use mathlib.Core.List.{List, _++_}
-use Prim.Native.Nat.{ℕ, _≤_, _<_}
+use Prim.Native.Nat.{ℕ, _≤_}
 use native.Mathlib.Omega.{arith}
 use lib.Ieee.{Float}
-use Rattle.base.specs.Answers.{numberOf, numberOfAnswer, numberOfEnd, spot, absent}
+use Rattle.base.specs.Answers.{numberOf, numberOfAnswer, numberOfEnd, spot}
 use Rattle.base.specs.First.{first}
 use Rattle.base.specs.declared.Form.{Form}
 use Rattle.base.specs.declared.Refusal.{Refusal}
 use Rattle.base.specs.declared.Refusal.the-variants.{OtherStructure, BadFactors}
 use Rattle.base.specs.declared.Asked.{Asked}
 use Rattle.base.specs.declared.Asked.the-variants.{Pass, Stop}
-use Rattle.base.specs.declared.Answer.{Answer}
 use Rattle.base.specs.declared.Answer.the-variants.{Done, Refused}
-use Rattle.base.specs.declared.Ended.{Ended}
-use Rattle.base.specs.declared.Ended.the-variants.{Complete, Declined}
+use Rattle.base.specs.declared.Ended.the-variants as ends
 use Rattle.matrix.specs.Input.{Input, stored}
 use Rattle.matrix.specs.Questions.{askStructure, askSolve, askRight}
 use Rattle.arithmetic.specs.Arith.{Fault, zeroPivot, overflow, Out, ok, met, judged, Result}
 use Rattle.arithmetic.specs.Again.{wholeAgain}
 use Rattle.outcome.specs.Buffers.{Buffers, sizes, patternTests, structureTests, rightTests, bufferTests, askShape, scratchCleared, cleared, Outcome, ended, stop}
-use Rattle.base.specs.declared.Sizes.{Sizes}
 use Rattle.outcome.specs.Structure.{askPlaces, counts, structured, structure}
 use Rattle.outcome.specs.Solve.{listed, faultOf, left, concluded, shape, solve}
-use Rattle.outcome.specs.Refactor.{differs, askPresented, refilled, emptied, refactored, refactor}
-use Rattle.outcome.specs.Resolve.{badAt, askFactors, factorsOf, withSolution, resolved, resolve}
+use Rattle.outcome.specs.Refactor.{differs, askPresented, emptied, refactored, refactor}
+use Rattle.outcome.specs.Resolve.{badAt, askFactors, factorsOf, resolved, resolve}
 use Rattle.outcome.proofs.Asking.{Within, within-wide, within-stop, within-absent}
 use Rattle.outcome.proofs.Answers.{ask-shape-within, shape-within, structure-within, solve-within, right-within, places-within}
 
@@ -87,7 +84,7 @@ fault-within q = within-stop 9 13 (faultOf q) (fault-range q .0) (fault-range q 
 answer-told : (q : Refusal) → numberOfAnswer (Refused q) ≡ numberOf q
 answer-told q = refl
 
-end-told : (q : Refusal) → numberOfEnd (Declined q) ≡ numberOf q
+end-told : (q : Refusal) → numberOfEnd (ends.Refused q) ≡ numberOf q
 end-told q = refl
 
 module _ (f : Form) (i : Input) (s : Buffers) where
@@ -121,9 +118,9 @@ module _ (f : Form) (i : Input) (s : Buffers) where
 
   refactored-ends : (o : Out Result) → Ends numberOfEnd s (emptied s) (refactored f i s o)
   unfolding emptied
-  refactored-ends (ok a) = done numberOfEnd Declined end-told s (emptied s) refl Complete _ refl
+  refactored-ends (ok a) = done numberOfEnd ends.Refused end-told s (emptied s) refl ends.Done _ refl
   refactored-ends (met q) =
-      stop-all numberOfEnd Declined end-told s (emptied s) refl (Stop (faultOf q)) (ended Complete s) (fault-within q) (done numberOfEnd Declined end-told s (emptied s) refl Complete s refl)
+      stop-all numberOfEnd ends.Refused end-told s (emptied s) refl (Stop (faultOf q)) (ended ends.Done s) (fault-within q) (done numberOfEnd ends.Refused end-told s (emptied s) refl ends.Done s refl)
 
   presented : Within 14 15 (askPresented f (stored i) (i .n) s)
   unfolding askPresented
@@ -132,16 +129,16 @@ module _ (f : Form) (i : Input) (s : Buffers) where
   pub refactor-ends : Ends numberOfEnd s (emptied s) (refactor f i s)
   unfolding refactor emptied
   refactor-ends =
-      stop-first numberOfEnd Declined end-told s (emptied s) refl (shape f i (sizes s)) _ (shape-within f i (sizes s))
-      (stop-scratch numberOfEnd Declined end-told s (emptied s) refl (askSolve i) _ (solve-within i)
-      (stop-checked numberOfEnd Declined end-told s (emptied s) refl (askPresented f (stored i) (i .n) s) _ presented
+      stop-first numberOfEnd ends.Refused end-told s (emptied s) refl (shape f i (sizes s)) _ (shape-within f i (sizes s))
+      (stop-scratch numberOfEnd ends.Refused end-told s (emptied s) refl (askSolve i) _ (solve-within i)
+      (stop-checked numberOfEnd ends.Refused end-told s (emptied s) refl (askPresented f (stored i) (i .n) s) _ presented
       (refactored-ends (listed i))))
 
   resolved-ends : (o : Out (List Float)) → Ends numberOfEnd s (scratchCleared s) (resolved i s o)
   unfolding scratchCleared
-  resolved-ends (ok z) = done numberOfEnd Declined end-told s (scratchCleared s) refl Complete _ refl
+  resolved-ends (ok z) = done numberOfEnd ends.Refused end-told s (scratchCleared s) refl ends.Done _ refl
   resolved-ends (met q) =
-      stop-all numberOfEnd Declined end-told s (scratchCleared s) refl (Stop (faultOf q)) (ended Complete s) (fault-within q) (done numberOfEnd Declined end-told s (scratchCleared s) refl Complete s refl)
+      stop-all numberOfEnd ends.Refused end-told s (scratchCleared s) refl (Stop (faultOf q)) (ended ends.Done s) (fault-within q) (done numberOfEnd ends.Refused end-told s (scratchCleared s) refl ends.Done s refl)
 
   factored : Within 14 15 (askFactors f (i .n) s)
   unfolding askFactors
@@ -150,7 +147,7 @@ module _ (f : Form) (i : Input) (s : Buffers) where
   pub resolve-ends : Ends numberOfEnd s (scratchCleared s) (resolve f i s)
   unfolding resolve scratchCleared
   resolve-ends =
-      stop-first numberOfEnd Declined end-told s (scratchCleared s) refl (askShape (i .n) (rightTests i ++ bufferTests f (i .n) (sizes s))) _ (ask-shape-within (i .n) (rightTests i ++ bufferTests f (i .n) (sizes s)))
-      (stop-scratch numberOfEnd Declined end-told s (scratchCleared s) refl (askRight (i .n) (i .r) (i .c) (i .b)) _ (within-wide 5 6 3 8 _ (omega arith) (omega arith) (right-within (i .n) (i .r) (i .c) (i .b)))
-      (stop-checked numberOfEnd Declined end-told s (scratchCleared s) refl (askFactors f (i .n) s) _ factored
+      stop-first numberOfEnd ends.Refused end-told s (scratchCleared s) refl (askShape (i .n) (rightTests i ++ bufferTests f (i .n) (sizes s))) _ (ask-shape-within (i .n) (rightTests i ++ bufferTests f (i .n) (sizes s)))
+      (stop-scratch numberOfEnd ends.Refused end-told s (scratchCleared s) refl (askRight (i .n) (i .r) (i .c) (i .b)) _ (within-wide 5 6 3 8 _ (omega arith) (omega arith) (right-within (i .n) (i .r) (i .c) (i .b)))
+      (stop-checked numberOfEnd ends.Refused end-told s (scratchCleared s) refl (askFactors f (i .n) s) _ factored
       (resolved-ends (judged (wholeAgain (factorsOf f i s))))))

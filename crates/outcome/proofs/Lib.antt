@@ -2,6 +2,5 @@ pub mod Asking
 pub mod Places
 pub mod Answers
 pub mod Ends
-pub mod Stages
 pub mod Lengths
 pub mod Meaning

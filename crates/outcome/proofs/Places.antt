@@ -1,8 +1,7 @@
 -- Questions 9 to 11: what stops them, and that without a lack of slots only 9 does.
 use mathlib.Core.Path.{_≡_, refl, sym, ap, _∙_}
-use mathlib.Core.Bool.{Bool, true, false, not, _&&_, true≢false}
+use mathlib.Core.Bool.{Bool, true, false, not, true≢false}
 use mathlib.Core.Logic.{_⊎_, inl, inr}
-use mathlib.Core.List.{List}
 use Prim.Native.Nat.{ℕ, zero, suc, _+_, _≤_, _<_}
 use native.Mathlib.Omega.{arith}
 use native.Mathlib.Decide.{decLt, le-ind}
@@ -14,8 +13,7 @@ use Rattle.base.specs.declared.Side.the-variants.{Lower, Upper}
 use Rattle.fill.specs.Fill.{Pattern, filled}
 use Rattle.base.specs.First.{first}
 use Rattle.base.specs.FirstLaws.{first-at, first-all}
-use Rattle.base.specs.declared.Found.{Found}
-use Rattle.base.specs.declared.Found.the-variants.{At, Nothing}
+use Rattle.base.specs.declared.Found.the-variants.{Nothing}
 use Rattle.base.specs.declared.Refusal.{Refusal}
 use Rattle.base.specs.declared.Refusal.the-variants.{NullPivot, LowerSlots, UpperSlots}
 use Rattle.base.specs.declared.Asked.{Asked}
@@ -25,9 +23,9 @@ use Rattle.base.specs.declared.Sizes.{Sizes}
 use Rattle.outcome.specs.Forms.{indexNeed, valueNeed}
 use Rattle.base.specs.Answers.{holds, absent, andThen, spot, numberOf}
 use Rattle.outcome.proofs.Asking.{stop-pass, stop-inj}
-use Rattle.base.specs.Tests.{by-test, and-split, and-left, and-right}
+use Rattle.base.specs.Tests.{and-split, and-left, and-right}
 use Rattle.outcome.specs.Structure.{fits, askPlace, askPlaces}
-use borrow.Author.Tests.{leb-true, leb-false, le-leb, lt-leb}
+use borrow.Author.Tests.{leb-false, lt-leb}
 
 -- (k, k) is not filled
 abbrev pub null : Pattern → ℕ → Bool

@@ -1,18 +1,18 @@
 -- A side's lists as a success leaves them in its stores, and the laws by which they are read. What the structure pass leaves and the arithmetic finds.
 use mathlib.Core.Path.{_≡_, refl, sym, ap, _∙_}
-use mathlib.Core.List.{List, [], _∷_, _++_, List·Memᴰ·not-nil}
-use Prim.Native.Nat.{ℕ, zero, suc, _+_, _-_, _≤_, _<_}
+use mathlib.Core.List.{List, [], List·Memᴰ·not-nil}
+use Prim.Native.Nat.{ℕ, suc, _+_, _-_, _≤_, _<_}
 use native.Mathlib.Omega.{arith}
 use native.Mathlib.Numerals.{add-one}
-use lib.ListN.{length, getD, take, drop, replicate, length-append}
+use lib.ListN.{length, getD, take, drop, replicate}
 use Rattle.base.specs.Lists.{table, listAt, padded}
 use Rattle.base.specs.TableLaws.{getD-table, length-table}
-use Rattle.fill.specs.Fill.{Pattern, upperRow, lowerRow, flip}
-use Rattle.placement.specs.Placing.{shared, plain, placed, runOf, startOf}
+use Rattle.fill.specs.Fill.{Pattern, lowerRow, flip}
+use Rattle.placement.specs.Placing.{shared, runOf, startOf}
 use Rattle.placement.specs.ListLaws.{part-append}
-use Rattle.placement.specs.PlacingLaws.{Nested, Holds, Kept, plain-starts, start-grows, shared-way, placed-kept}
+use Rattle.placement.specs.PlacingLaws.{Nested, Kept, plain-starts, start-grows, shared-way, placed-kept}
 use Rattle.placement.specs.FillNested.{fill-nested, fill-kept, plain-kept}
-use Rattle.outcome.specs.Forms.{wayOf, listsOf, rowsOf, placedTo, indexNeed, valueNeed}
+use Rattle.outcome.specs.Forms.{listsOf, rowsOf, placedTo, indexNeed, valueNeed}
 use Rattle.base.specs.declared.Form.{Form}
 use Rattle.base.specs.declared.Form.the-variants.{Plain, Shared, ByRow}
 use Rattle.base.specs.declared.Side.{Side}

@@ -1,6 +1,6 @@
 -- Refactor: new values over a structure found before, in the plain or the shared form. Definitions only.
 use mathlib.Core.Bool.{Bool, true, false, not, _&&_}
-use mathlib.Core.List.{List, [], _∷_, _++_}
+use mathlib.Core.List.{List, [], _∷_}
 use Prim.Native.Nat.{ℕ, suc, _+_}
 use lib.ListN.{length, getD, take, drop, replicate}
 use lib.Dec.{eqb}
@@ -17,15 +17,13 @@ use Rattle.base.specs.declared.Form.{Form}
 use Rattle.base.specs.declared.Form.the-variants.{Plain, Shared, ByRow}
 use Rattle.base.specs.declared.Side.{Side}
 use Rattle.base.specs.declared.Side.the-variants.{Lower, Upper}
-use Rattle.base.specs.declared.Refusal.{Refusal}
 use Rattle.base.specs.declared.Refusal.the-variants.{OtherStructure}
 use Rattle.base.specs.declared.Asked.{Asked}
 use Rattle.base.specs.declared.Asked.the-variants.{Pass, Stop}
 use Rattle.base.specs.declared.Ended.{Ended}
-use Rattle.base.specs.declared.Ended.the-variants.{Complete, Declined}
+use Rattle.base.specs.declared.Ended.the-variants.{Done, Refused}
 use Rattle.outcome.specs.Forms.{listsOf, placedTo, valueNeed}
-use Rattle.outcome.specs.Buffers.{SideBuffers, sideBuffers, Buffers, allBuffers, sizes, buffersOf, scratchCleared, Outcome, ended, stop}
-use Rattle.base.specs.declared.Sizes.{Sizes}
+use Rattle.outcome.specs.Buffers.{SideBuffers, sideBuffers, Buffers, allBuffers, sizes, scratchCleared, Outcome, ended, stop}
 use Rattle.outcome.specs.Structure.{askPlace}
 use Rattle.outcome.specs.Solve.{shape, listed, faultOf, valuesKept, pivotsKept}
 
@@ -78,13 +76,13 @@ emptied s =
     (replicate (length (s .work)) nought) (replicate (length (s .marks)) 0)
 
 abbrev pub refactored : Form → Input → Buffers → Out Result → Outcome Ended
-refactored f i s (ok a) = ended Complete (refilled f (stored i) (i .n) s (a .rows) (pivotsKept (i .n) (a .rows)) (ownOrder (i .c) (i .n) (a .z)))
-refactored f i s (met q) = ended (Declined (faultOf q)) (emptied s)
+refactored f i s (ok a) = ended Done (refilled f (stored i) (i .n) s (a .rows) (pivotsKept (i .n) (a .rows)) (ownOrder (i .c) (i .n) (a .z)))
+refactored f i s (met q) = ended (Refused (faultOf q)) (emptied s)
 
 -- refactor: 1 to 8, 14, then 12 and 13
 unfoldable pub refactor : Form → Input → Buffers → Outcome Ended
 refactor f i s =
-    stop Declined (shape f i (sizes s)) s
-    (stop Declined (askSolve i) (scratchCleared s)
-    (stop Declined (askPresented f (stored i) (i .n) s) (scratchCleared s)
+    stop Refused (shape f i (sizes s)) s
+    (stop Refused (askSolve i) (scratchCleared s)
+    (stop Refused (askPresented f (stored i) (i .n) s) (scratchCleared s)
     (refactored f i s (listed i))))

@@ -1,5 +1,5 @@
 -- Another right side: factors found before, a new b, in the plain or the shared form. Definitions only.
-use mathlib.Core.Bool.{Bool, true, false, not, cond, _&&_, _||_}
+use mathlib.Core.Bool.{Bool, true, not, cond, _&&_, _||_}
 use mathlib.Core.List.{List, [], _∷_, _++_}
 use Prim.Native.Nat.{ℕ, suc, _+_, _-_}
 use lib.ListN.{length, getD, replicate}
@@ -19,12 +19,11 @@ use Rattle.base.specs.declared.Form.{Form}
 use Rattle.base.specs.declared.Form.the-variants.{Plain, Shared, ByRow}
 use Rattle.base.specs.declared.Side.{Side}
 use Rattle.base.specs.declared.Side.the-variants.{Lower, Upper}
-use Rattle.base.specs.declared.Refusal.{Refusal}
 use Rattle.base.specs.declared.Refusal.the-variants.{BadFactors}
 use Rattle.base.specs.declared.Asked.{Asked}
 use Rattle.base.specs.declared.Ended.{Ended}
-use Rattle.base.specs.declared.Ended.the-variants.{Complete, Declined}
-use Rattle.outcome.specs.Buffers.{SideBuffers, Buffers, allBuffers, sizes, buffersOf, rightTests, bufferTests, askShape, scratchCleared, Outcome, ended, stop}
+use Rattle.base.specs.declared.Ended.the-variants.{Done, Refused}
+use Rattle.outcome.specs.Buffers.{SideBuffers, Buffers, allBuffers, sizes, rightTests, bufferTests, askShape, scratchCleared, Outcome, ended, stop}
 use Rattle.outcome.specs.Solve.{faultOf}
 
 -- where the lists of a side begin: the plain form's at their list starts
@@ -97,13 +96,13 @@ unfoldable pub withSolution : Buffers → List Float → Buffers
 withSolution s x = allBuffers (s .lower) (s .upper) (s .d) x (replicate (length (s .work)) nought) (replicate (length (s .marks)) 0)
 
 abbrev pub resolved : Input → Buffers → Out (List Float) → Outcome Ended
-resolved i s (ok z) = ended Complete (withSolution s (ownOrder (i .c) (i .n) z))
-resolved i s (met q) = ended (Declined (faultOf q)) (scratchCleared s)
+resolved i s (ok z) = ended Done (withSolution s (ownOrder (i .c) (i .n) z))
+resolved i s (met q) = ended (Refused (faultOf q)) (scratchCleared s)
 
 -- "Another right side puts 1, 2, 5, 6 (b only, its index), 15, 13"; the input's matrix is not lent
 unfoldable pub resolve : Form → Input → Buffers → Outcome Ended
 resolve f i s =
-    stop Declined (askShape (i .n) (rightTests i ++ bufferTests f (i .n) (sizes s))) s
-    (stop Declined (askRight (i .n) (i .r) (i .c) (i .b)) (scratchCleared s)
-    (stop Declined (askFactors f (i .n) s) (scratchCleared s)
+    stop Refused (askShape (i .n) (rightTests i ++ bufferTests f (i .n) (sizes s))) s
+    (stop Refused (askRight (i .n) (i .r) (i .c) (i .b)) (scratchCleared s)
+    (stop Refused (askFactors f (i .n) s) (scratchCleared s)
     (resolved i s (judged (wholeAgain (factorsOf f i s))))))

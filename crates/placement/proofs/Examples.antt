@@ -1,8 +1,8 @@
 -- Document 01's boundary graph: row 0 full, column 0 full, diagonal full, n = 3.
-use Prim.Native.Nat.{ℕ, zero, suc, _+_}
+use Prim.Native.Nat.{ℕ, zero, suc}
 use mathlib.Core.Path.{_≡_, refl}
 use mathlib.Core.List.{List, [], _∷_}
-use Rattle.placement.specs.Placing.{countAbove, tails, bestFrom, firstAt, agree, appendAll, fresh, meets, overlap, tailOr, shared, plain, after, placed, startOf, State}
+use Rattle.placement.specs.Placing.{countAbove, tails, bestFrom, firstAt, agree, appendAll, fresh, meets, overlap, tailOr, shared, plain, after, placed}
 
 upper : ℕ → List ℕ
 upper zero = 1 ∷ 2 ∷ []

@@ -1,21 +1,20 @@
 -- The lists of a fill are nested, for every pattern: by the exchanged pattern on the lower side too.
 use Prim.Native.Nat.{ℕ, zero, suc, _+_, _-_, _≤_, _<_}
-use mathlib.Core.Path.{_≡_, refl, sym, ap, _∙_}
-use mathlib.Core.Logic.{_⊎_, inl, inr, ⊎-elim}
-use mathlib.Core.Bool.{Bool, true, false, _&&_}
-use mathlib.Core.List.{List, [], _∷_, _++_, append-nil, List·Memᴰ, List·Memᴰ·head, List·Memᴰ·tail, List·Memᴰ·cases-cons, List·Memᴰ·not-nil, Memᴰ·append-left, Memᴰ·append-right, List·Memᴰ·append-cases, List·Memᴰ·eq-of-singleton}
+use mathlib.Core.Path.{_≡_, refl}
+use mathlib.Core.Logic.{_⊎_, ⊎-elim}
+use mathlib.Core.Bool.{Bool, true, false}
+use mathlib.Core.List.{List, [], _∷_, _++_, append-nil, List·Memᴰ, List·Memᴰ·head, List·Memᴰ·tail, List·Memᴰ·not-nil, Memᴰ·append-left, Memᴰ·append-right, List·Memᴰ·append-cases, List·Memᴰ·eq-of-singleton}
 use native.Mathlib.Omega.{arith}
 use native.Mathlib.Decide.{decLt}
-use lib.ListN.{length, take, drop}
 use lib.Dec.{ltb}
 use borrow.Author.Tests.{ltb-true, lt-ltb}
 use Rattle.base.specs.Lists.{asc, keep}
 use Rattle.base.specs.Tests.{by-test, and-cases}
 use Rattle.fill.specs.Fill.{Pattern, filled, upper, upperRow, lowerRow}
 use Rattle.fill.specs.RowRule.{filled-through}
-use Rattle.placement.specs.Placing.{Way, plain, shared, placed, runOf, startOf}
-use Rattle.placement.specs.PlacingLaws.{Nested, Holds, Kept, SoundWay, shared-way, plain-way, placed-kept}
-use Rattle.placement.specs.ListLaws.{Ascends, asc-weaken}
+use Rattle.placement.specs.Placing.{plain, shared, placed}
+use Rattle.placement.specs.PlacingLaws.{Nested, Kept, shared-way, plain-way, placed-kept}
+use Rattle.placement.specs.ListLaws.{Ascends}
 
 -- ---- the members of an ascending list are the numbers that pass
 

@@ -1,15 +1,15 @@
 -- Laws of lists that the placing needs: strictly ascending lists, a list among another, a part that an append leaves alone.
-use Prim.Native.Nat.{ℕ, zero, suc, _+_, _-_, _≤_, _<_, min}
-use mathlib.Core.Path.{_≡_, refl, sym, ap, ap₂, _∙_, subst}
-use mathlib.Core.Logic.{_⊎_, inl, inr, ⊎-elim}
-use mathlib.Core.Bool.{Bool, true, false, true≢false}
-use mathlib.Core.List.{List, [], _∷_, _++_, append-nil, List·Memᴰ, List·Memᴰ·head, List·Memᴰ·tail, List·Memᴰ·cases-cons, List·Memᴰ·not-nil}
+use Prim.Native.Nat.{ℕ, zero, suc, _+_, _-_, _≤_, _<_}
+use mathlib.Core.Path.{_≡_, refl, sym, ap, ap₂, _∙_}
+use mathlib.Core.Logic.{_⊎_, ⊎-elim}
+use mathlib.Core.Bool.{true, false, true≢false}
+use mathlib.Core.List.{List, [], _∷_, _++_, List·Memᴰ, List·Memᴰ·head, List·Memᴰ·tail, List·Memᴰ·cases-cons, List·Memᴰ·not-nil}
 use native.Mathlib.Omega.{arith}
-use native.Mathlib.Nat.{suc-sub-suc, sub-zero, sub-self, zero-add, suc-add}
-use lib.ListN.{length, take, drop, getD, length-append, length-take, length-drop, take-append-drop}
-use lib.Seq.{take-append-le, drop-append-le, take-all, drop-drop, take-take, take-length, drop-length, take-append-seam, length-take-le, take-add, take-nil, drop-nil}
+use native.Mathlib.Nat.{suc-sub-suc, sub-self, zero-add, suc-add}
+use lib.ListN.{length, take, drop, getD, length-drop}
+use lib.Seq.{take-append-le, drop-append-le, take-length, take-nil}
 use lib.Dec.{ltb, eqb}
-use borrow.Author.Tests.{ltb-true, ltb-false, eqb-true, eqb-false, lt-ltb, le-ltb, eq-eqb}
+use borrow.Author.Tests.{ltb-true, eqb-true, lt-ltb, eq-eqb}
 use Rattle.placement.specs.Placing.{countAbove, agree}
 use Rattle.base.specs.Tests.{by-test}
 

@@ -1,18 +1,17 @@
 -- Laws of the placing, for any way of placing whose plans are sound; the shared and the plain way are.
 use Prim.Native.Nat.{ℕ, zero, suc, _+_, _-_, _≤_, _<_, min}
-use mathlib.Core.Path.{_≡_, refl, sym, ap, ap₂, _∙_, subst}
+use mathlib.Core.Path.{_≡_, refl, sym, ap, _∙_}
 use mathlib.Core.Logic.{_⊎_, inl, inr, ⊎-elim}
-use mathlib.Core.Bool.{Bool, true, false, true≢false, _&&_, and-false}
+use mathlib.Core.Bool.{Bool, false, _&&_}
 use mathlib.Core.List.{List, [], _∷_, _++_, append-nil, append-assoc, List·Memᴰ, List·Memᴰ·head, List·Memᴰ·tail, List·Memᴰ·cases-cons, List·Memᴰ·not-nil}
 use native.Mathlib.Omega.{arith}
-use native.Mathlib.Nat.{suc-sub-suc, sub-zero, sub-self, zero-add, suc-add, add-zero, add-suc, min-le-left, min-le-right}
-use native.Mathlib.Decide.{decLt}
-use lib.ListN.{length, take, drop, getD, length-append, length-take, length-drop, take-append-drop, List·getD-append, List·getD-eq-default}
-use lib.Seq.{take-append-le, drop-append-le, take-all, drop-drop, take-take, take-length, drop-length, take-append-seam, length-take-le, take-add, take-nil, drop-nil, getD-append-seam, getD-at}
+use native.Mathlib.Nat.{add-zero, add-suc}
+use lib.ListN.{length, take, drop, getD, length-append, length-drop, take-append-drop, List·getD-append}
+use lib.Seq.{drop-append-le, take-all, drop-drop, take-length, getD-at}
 use lib.Dec.{ltb, leb, eqb}
-use borrow.Author.Tests.{ltb-true, ltb-false, eqb-true, eqb-false, lt-ltb, le-ltb, le-leb, lt-leb, leb-true, leb-false}
-use Rattle.placement.specs.Placing.{countAbove, tails, Tail, bestFrom, best, firstAt, agree, Plan, appendAll, fresh, meets, overlap, tailOr, shared, plain, Way, State, runOf, planAt, placed, startOf, after}
-use Rattle.placement.specs.ListLaws.{asc-least, Ascends, Among, among-asc, among-drop, count-tail, take-drop, part-append, agree-take, count-le}
+use borrow.Author.Tests.{ltb-true, ltb-false, eqb-true, eqb-false, lt-ltb, leb-false}
+use Rattle.placement.specs.Placing.{countAbove, tails, Tail, bestFrom, best, agree, Plan, appendAll, fresh, meets, overlap, tailOr, shared, plain, Way, State, runOf, planAt, placed, startOf, after}
+use Rattle.placement.specs.ListLaws.{asc-least, Ascends, among-asc, among-drop, count-tail, take-drop, part-append, agree-take, count-le}
 use Rattle.base.specs.Tests.{by-test}
 
 -- a plan for a list over the used slots: what is said to stand there does, and unless that is all of the list, it ends where the used slots do
@@ -267,17 +266,6 @@ pub after-length : (s : State) (list : List ℕ) (p : Plan) → length (after s 
 unfolding after
 after-length s list p = simp (length-append, length-drop)
 
--- the first number at which a test fails
-pub first-no : (t : ℕ → Bool) (k : ℕ) → t k ≡ false → (j : ℕ) × (j ≤ k) × (t j ≡ false) × ((i : ℕ) → i < j → t i ≡ true)
-first-no t k e = go k (λ i l. absurd (omega arith))
-  where
-    go : (d : ℕ) → ((i : ℕ) → i < k - d → t i ≡ true) → (j : ℕ) × (j ≤ k) × (t j ≡ false) × ((i : ℕ) → i < j → t i ≡ true)
-    go zero h = (k, omega arith, e, λ i l. h i (omega arith))
-    go (suc d) h =
-        by-test (t (k - suc d))
-        (λ y. go d (λ i l. by-test (ltb i (k - suc d)) (λ z. h i (ltb-true i (k - suc d) z)) (λ z. let q : i ≡ k - suc d = omega (arith, ltb-false i (k - suc d) z) in rw q y)))
-        (λ y. (k - suc d, omega arith, y, h))
-
 module _ (way : Way) (T R : ℕ → List ℕ) (cap vals : ℕ) where
   -- questions 10 and 11: the lists of places 0 to k, placed this way, fit the index and the value store
   abbrev pub room : ℕ → Bool
@@ -288,24 +276,11 @@ module _ (way : Way) (T R : ℕ → List ℕ) (cap vals : ℕ) where
   Short filled n =
       (k : ℕ) × (k < n) × ((i : ℕ) → i ≤ k → filled i) × ((cap < length (placed way T R (suc k) .slots)) ⊎ (vals < startOf T (suc k)))
 
-  pub room-no : (k : ℕ) → (cap < length (placed way T R (suc k) .slots)) ⊎ (vals < startOf T (suc k)) → room k ≡ false
-  room-no k h = ⊎-elim (λ p. rw (lt-leb (length (placed way T R (suc k) .slots)) cap p)) (λ p. rw (lt-leb (startOf T (suc k)) vals p) (and-false (leb (length (placed way T R (suc k) .slots)) cap))) h
-
   pub no-room : (k : ℕ) → room k ≡ false → (cap < length (placed way T R (suc k) .slots)) ⊎ (vals < startOf T (suc k))
   no-room k e =
       by-test (leb (length (placed way T R (suc k) .slots)) cap)
       (λ t. inr (leb-false (startOf T (suc k)) vals (rw t at e)))
       (λ t. inl (leb-false (length (placed way T R (suc k) .slots)) cap t))
-
-  -- a side is short of slots exactly if the test fails at some place with all diagonal positions to there filled, and then the first such place is where it is refused
-  pub short-first : (filled : ℕ → Type 0) (n : ℕ) → Short filled n
-      → (k : ℕ) × (k < n) × ((i : ℕ) → i ≤ k → filled i) × (room k ≡ false) × ((i : ℕ) → i < k → room i ≡ true)
-  short-first filled n s =
-      let f = first-no room (s .0) (room-no (s .0) (s .3)) in
-      (f .0, omega arith, λ i l. s .2 i (omega arith), f .2, f .3)
-
-  pub first-short : (filled : ℕ → Type 0) (n k : ℕ) → k < n → ((i : ℕ) → i ≤ k → filled i) → room k ≡ false → Short filled n
-  first-short filled n k l f e = (k, l, f, no-room k e)
 
 -- the plain way: a list's run starts where the entries of the lists before it end
 pub plain-starts : (T R : ℕ → List ℕ) (k : ℕ) →

@@ -1,6 +1,6 @@
 -- The paper's three lines, and a refusal's.
 use mathlib.Core.Path.{_≡_, refl}
-use mathlib.Core.List.{List, [], _∷_}
+use mathlib.Core.List.{[], _∷_}
 use Rattle.printing.specs.Print.{digit, digits, widthIn, decimal, hexadecimal, labelled, bitsEnd, countsLine, valueLine, refusedLine}
 
 -- `n 2 lower 1 upper 1 products 1`

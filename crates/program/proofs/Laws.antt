@@ -4,7 +4,6 @@ use mathlib.Core.Bool.{Bool, true, false, _&&_}
 use mathlib.Core.List.{List, [], _∷_, _++_}
 use Prim.Native.Nat.{ℕ, zero, suc, _+_, _*_, _≤_, _<_}
 use native.Mathlib.Numerals.{add-one}
-use native.Mathlib.Nat.{add-zero}
 use native.Mathlib.Omega.{arith}
 use native.Mathlib.Nat.{not-suc-le-zero}
 use lib.ListN.{length, getD, take, drop, replicate, length-append, drop-of-length-le}
@@ -28,7 +27,7 @@ use Rattle.matrix.specs.Input.{Input, inputOf}
 use Rattle.matrix.specs.declared.Matrix.{Matrix}
 use Rattle.matrix.specs.declared.Shaped.{Shaped}
 use Rattle.matrix.specs.declared.Shaped.the-variants.{Shape, Unshaped}
-use Rattle.matrix_file.specs.MatrixFile.{Lists, listsOf, listsIn, nOf, eOf, shapeIn, matrixAt, askFile, askRead, shaped, opened, Left, left, outcome, readOutcome, withRows}
+use Rattle.matrix_file.specs.MatrixFile.{MatrixLists, matrixLists, listsIn, nOf, eOf, shapeIn, matrixAt, askFile, askRead, shaped, opened, Left, left, outcome, readOutcome, withRows}
 use Rattle.outcome.specs.Buffers.{Buffers, Outcome, ended, plainBuffers}
 use Rattle.outcome.specs.Solve.{solve}
 use Rattle.program.specs.Program.{valueLines, answerLines, outcomeLines, zeros, noughts, lent, solvedLines, Fitting, printed}
@@ -124,15 +123,15 @@ shape-rows : (a : Asked) (m o : Matrix) → shaped a m ≡ Shape o → (a ≡ Pa
 shape-rows Pass m o e = (refl, cc)
 shape-rows (Stop q) m o e = let z : _≡_ {A = ℕ} 0 1 = cc in absurd (omega arith)
 
-pub read-input : (file : List ℕ) (n : ℕ) (l₀ : Lists) (a : Ended) (s j : List ℕ) (v : List Float) (r c : List ℕ) (b : List Float) → Fitting file n l₀
-    → left a (listsOf s j v r c b) ≡ readOutcome file l₀ → inputOf n s j v r c b ≡ matrixAt file
+pub read-input : (file : List ℕ) (n : ℕ) (l₀ : MatrixLists) (a : Ended) (s j : List ℕ) (v : List Float) (r c : List ℕ) (b : List Float) → Fitting file n l₀
+    → left a (matrixLists s j v r c b) ≡ readOutcome file l₀ → inputOf n s j v r c b ≡ matrixAt file
 unfolding opened readOutcome askRead matrixAt
 read-input file n l₀ a s j v r c b f e =
     let h = shape-rows (askFile file) (shapeIn file) (record { rows = n; entries = f .entries }) (f .shape) in
     let en : nOf file ≡ n = ap (λ (m : Matrix). m .rows) (h .1) in
     let ee : eOf file ≡ f .entries = ap (λ (m : Matrix). m .entries) (h .1) in
     let p : askRead file l₀ ≡ Pass = rw (h .0, en, ee, f .lengths) in
-    let q : listsOf s j v r c b ≡ listsIn (matrixAt file) = ap (λ (x : Left Lists). x .held) (e ∙ ap (λ (x : Asked). outcome x (listsIn (matrixAt file)) l₀) p) in
+    let q : matrixLists s j v r c b ≡ listsIn (matrixAt file) = ap (λ (x : Left MatrixLists). x .held) (e ∙ ap (λ (x : Asked). outcome x (listsIn (matrixAt file)) l₀) p) in
     ap (withRows n) q ∙ ap (λ (m : ℕ). withRows m (listsIn (matrixAt file))) (sym en)
 
 pub read-lines : (i j : Input) (out p : List ℕ) (r : ℕ) → i ≡ j → Written (solvedLines i) out 0 p r × (r ≤ 4096) → Written (solvedLines j) out 0 p r × (r ≤ 4096)
@@ -143,7 +142,7 @@ eqb-same a b e = eq-eqb b a (sym e)
 
 pub fitting : (file : List ℕ) (m : Matrix) (s j : List ℕ) (v : List Float) (r c : List ℕ) (b : List Float) (n e : ℕ) → (m .rows ≤ 64) × (m .entries ≤ 1024) × (opened file ≡ Shape m)
     → 520 ≡ length s → 2016 ≡ length j → 2016 ≡ length v → 2016 ≡ length r → 2016 ≡ length c → 2016 ≡ length b
-    → (m .rows ≤ 64) × Fitting file (m .rows) (listsOf (take (m .rows + 1) s) (take (m .entries) j) (take (m .entries) v) (take (m .rows) r) (take (m .rows) c) (take (m .rows) b))
+    → (m .rows ≤ 64) × Fitting file (m .rows) (matrixLists (take (m .rows + 1) s) (take (m .entries) j) (take (m .entries) v) (take (m .rows) r) (take (m .rows) c) (take (m .rows) b))
 fitting file m s j v r c b n e h hs hj hv hr hc hb = (
   h .0,
   record {

@@ -1,6 +1,6 @@
 -- What the program prints for a file, as bytes. Definitions only.
 use mathlib.Core.Path.{_≡_}
-use mathlib.Core.Bool.{Bool, true, _&&_, cond}
+use mathlib.Core.Bool.{true, _&&_, cond}
 use mathlib.Core.List.{List, [], _∷_, _++_}
 use Prim.Native.Nat.{ℕ, suc, _+_, _*_}
 use lib.ListN.{length, replicate}
@@ -16,7 +16,7 @@ use Rattle.matrix.specs.declared.Shaped.{Shaped}
 use Rattle.matrix.specs.declared.Shaped.the-variants.{Shape, Unshaped}
 use Rattle.outcome.specs.Buffers.{Buffers, Outcome, plainBuffers}
 use Rattle.outcome.specs.Solve.{solve}
-use Rattle.matrix_file.specs.MatrixFile.{Lists, listsRight, matrixAt, opened}
+use Rattle.matrix_file.specs.MatrixFile.{MatrixLists, listsRight, matrixAt, opened}
 use Rattle.printing.specs.Print.{countsLine, valueLine, refusedLine, tooLargeLine}
 
 -- "It gives 2,016 slots a store": what the solve is lent, all zero
@@ -57,7 +57,7 @@ unfoldable pub printed : List ℕ → List ℕ
 printed file = cond (leb (length file) 11776) (shapedLines file (opened file)) tooLargeLine
 
 -- ---- what the reading wants: buffers of the lengths that the file's shape asks for
-pub record Fitting (file : List ℕ) (n : ℕ) (l : Lists) : Type 0 where
+pub record Fitting (file : List ℕ) (n : ℕ) (l : MatrixLists) : Type 0 where
   pub entries : ℕ
   pub shape : opened file ≡ Shape (record { rows = n; entries = entries })
   pub lengths : listsRight n entries l ≡ true

@@ -9,7 +9,7 @@ ghost use Rattle.outcome.specs.Solve.{solve};
 ghost use Rattle.printing.specs.Written.{Written};
 ghost use Rattle.program.specs.Program.{valueLines, answerLines, outcomeLines, zeros, noughts, solvedLines, Fitting, printed};
 ghost use Rattle.matrix.specs.declared.Shaped.the-variants.{Shape};
-ghost use Rattle.matrix_file.specs.MatrixFile.{listsOf, matrixAt, opened};
+ghost use Rattle.matrix_file.specs.MatrixFile.{matrixLists, matrixAt, opened};
 use base::Answer;
 use base::Index;
 use matrix::Matrix;
@@ -171,7 +171,7 @@ fn read_lines(
     b: &mut [f64],
     out: &mut [u8],
 ) -> usize
-    requires { ⌜ (n ≤ 64) × Fitting (now file) n (listsOf (now starts) (now columns) (now values) (now r) (now c) (now b)) ⌝ }
+    requires { ⌜ (n ≤ 64) × Fitting (now file) n (matrixLists (now starts) (now columns) (now values) (now r) (now c) (now b)) ⌝ }
     ensures { λ k. ⌜ Written (solvedLines (matrixAt (now (file .entry)))) (now (out .entry)) 0 (now (out .exit)) k × (k ≤ 4096) ⌝ }
 {
     matrix_file::read_matrix(file, starts, columns, values, r, c, b);

@@ -1,5 +1,5 @@
 -- What the questions settle when they are passed, and M' by the inverse order.
-use mathlib.Core.Path.{_≡_, refl, sym, _∙_, ap}
+use mathlib.Core.Path.{_≡_, refl, sym, _∙_}
 use mathlib.Core.Bool.{true, false, not, _&&_, _||_}
 use mathlib.Core.List.{List}
 use Prim.Native.Nat.{ℕ, zero, suc, _+_, _-_, _≤_, _<_}
@@ -166,24 +166,12 @@ module _ (i : Input) (g : Readable i) where
   place-at : (k t : ℕ) → t < length (columnsAt i k) → getD (placesAt i k) t 0 ≡ ic (i .c) (i .n) (getD (columnsAt i k) t 0)
   place-at k t b = sym (getD-map-lt (ic (i .c) (i .n)) (columnsAt i k) t 0 0 b)
 
-  column-at : (k t : ℕ) → t < length (columnsAt i k) → getD (i .c) (getD (placesAt i k) t 0) 0 ≡ getD (columnsAt i k) t 0
-  unfolding Under
-  column-at k t b = rw (place-at k t b) (place-hits (i .c) (i .n) (g .column-order) (getD (columnsAt i k) t 0) (columns-under k t b) .1)
-
   -- the places of a row's columns are below n
   pub places-under : (k : ℕ) → Under (placesAt i k) (i .n)
   unfolding Under
   places-under k t b =
       let d : t < length (columnsAt i k) = rw length-map at b in
       rw (place-at k t d) (place-hits (i .c) (i .n) (g .column-order) (getD (columnsAt i k) t 0) (columns-under k t d) .0)
-
-  -- and distinct where the columns are
-  pub places-distinct : (k : ℕ) → Distinct (columnsAt i k) → Distinct (placesAt i k)
-  unfolding Distinct Under
-  places-distinct k h p q l b e =
-      let d : q < length (columnsAt i k) = rw length-map at b in
-      let y : p < length (columnsAt i k) = omega arith in
-      h p q l d (sym (column-at k p y) ∙ ap (λ (m : ℕ). getD (i .c) m 0) e ∙ column-at k q d)
 
 -- ---- from the questions to the code that reads rows
 

@@ -1,6 +1,6 @@
 -- What a call through the C interface tells: its number, the slots of its report as far as they go, and its buffers. Definitions only.
 use mathlib.Core.Path.{_≡_}
-use mathlib.Core.Bool.{Bool, cond}
+use mathlib.Core.Bool.{cond}
 use mathlib.Core.List.{List, [], _∷_}
 use Prim.Native.Nat.{ℕ, _-_}
 use lib.Dec.{eqb, ltb}
@@ -8,7 +8,6 @@ use lib.Seq.{sets}
 use Rattle.base.specs.Answers.{numberOf, placeOf, numberOfAnswer, placeOfAnswer, countsOf, numberOfEnd, placeOfEnd, spot}
 use Rattle.base.specs.Limits.{maxRows}
 use Rattle.base.specs.declared.Answer.{Answer}
-use Rattle.base.specs.declared.Ended.{Ended}
 use Rattle.base.specs.declared.Form.{Form}
 use Rattle.base.specs.declared.Place.{Place}
 use Rattle.base.specs.declared.Side.{Side}

@@ -8,7 +8,7 @@ ghost use Rattle.base.specs.Answers.{numberOfAnswer, numberOfEnd, placeOfEnd};
 ghost use Rattle.base.specs.declared.Form.{Form};
 ghost use Rattle.matrix.specs.Input.{inputOf};
 ghost use Rattle.lookup.specs.Lookup.{sideLists};
-ghost use Rattle.matrix_file.specs.MatrixFile.{listsOf, opened, readOutcome, writeOutcome};
+ghost use Rattle.matrix_file.specs.MatrixFile.{matrixLists, opened, readOutcome, writeOutcome};
 ghost use Rattle.report.specs.Report.{answerSlots, ToldEnd, numberOfShape, shapeSlots, spanSlots, sideNumbered, placeIn, listSlots};
 use base::Answer;
 use base::Ended;
@@ -184,8 +184,8 @@ pub fn read_matrix(
     b: &mut [f64],
     report: &mut [u64],
 ) -> u32
-    ensures { λ q. ⌜ ToldEnd (readOutcome (now (file .entry)) (listsOf (now (starts .entry)) (now (columns .entry)) (now (values .entry)) (now (r .entry)) (now (c .entry)) (now (b .entry))))
-        (now (report .entry)) (now (report .exit)) (listsOf (now (starts .exit)) (now (columns .exit)) (now (values .exit)) (now (r .exit)) (now (c .exit)) (now (b .exit))) q ⌝ }
+    ensures { λ q. ⌜ ToldEnd (readOutcome (now (file .entry)) (matrixLists (now (starts .entry)) (now (columns .entry)) (now (values .entry)) (now (r .entry)) (now (c .entry)) (now (b .entry))))
+        (now (report .entry)) (now (report .exit)) (matrixLists (now (starts .exit)) (now (columns .exit)) (now (values .exit)) (now (r .exit)) (now (c .exit)) (now (b .exit))) q ⌝ }
 {
     let a = matrix_file::read_matrix(file, starts, columns, values, r, c, b);
     put_end(report, a)

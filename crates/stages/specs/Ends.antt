@@ -1,18 +1,18 @@
 -- The ends of a call, over the form: what the passes leave, what is then cleared, and the outcome that this comes to.
-use mathlib.Core.Path.{_≡_, refl, sym, ap, _∙_}
-use mathlib.Core.Bool.{Bool, true, false, cond}
+use mathlib.Core.Path.{_≡_, refl, ap, _∙_}
+use mathlib.Core.Bool.{Bool, true, false}
 use mathlib.Core.List.{List, [], _∷_}
 use Prim.Native.Nat.{ℕ}
 use native.Mathlib.Omega.{arith}
 use native.Mathlib.Nat.{sub-zero}
-use lib.ListN.{length, replicate}
+use lib.ListN.{length}
 use lib.Ieee.{Float}
 use Rattle.base.specs.Lists.{blank, padded, nought}
 use Rattle.base.specs.ZerosLaws.{blank-same}
 use Rattle.fill.specs.Fill.{Pattern}
 use Rattle.matrix.specs.Input.{Input, stored, ownOrder}
-use Rattle.outcome.specs.Buffers.{SideBuffers, Buffers, allBuffers, sideBuffers, noSide, sideSizes, sizes, sideCleared, cleared, scratchCleared, Outcome, ended, stop}
-use Rattle.outcome.specs.Forms.{placedTo, valueNeed}
+use Rattle.outcome.specs.Buffers.{SideBuffers, Buffers, allBuffers, sideBuffers, noSide, sideSizes, sizes, sideCleared, cleared, scratchCleared, ended}
+use Rattle.outcome.specs.Forms.{placedTo}
 use Rattle.outcome.specs.Placed.{RunsAre, PlacedSide}
 use Rattle.outcome.specs.Structure.{askPlaces, counts, runsKept, sidePlaced, structured, structure}
 use Rattle.outcome.specs.Solve.{listed, faultOf, valuesKept, kept, concluded, solve}
@@ -20,7 +20,7 @@ use Rattle.arithmetic.specs.Arith.{Out, ok, met, Result}
 use Rattle.factor.specs.Factoring.{lists, written, LowerPlaced, Factors, FactoredAs}
 use Rattle.factor.specs.declared.Factored.{Factored}
 use Rattle.factor.specs.declared.Factored.the-variants.{Solved, Zero, Overflow}
-use Rattle.symbolic.specs.Pass.{slotsOf, foundAnswer, Found, FoundBoth}
+use Rattle.symbolic.specs.Pass.{slotsOf, foundAnswer, Analyzed, AnalyzedBoth}
 use Rattle.base.specs.declared.Form.{Form}
 use Rattle.base.specs.declared.Form.the-variants.{Plain, Shared, ByRow}
 use Rattle.base.specs.declared.Side.{Side}
@@ -29,7 +29,7 @@ use Rattle.base.specs.declared.Sizes.{Sizes}
 use Rattle.base.specs.declared.Counts.{Counts}
 use Rattle.base.specs.declared.Refusal.{Refusal}
 use Rattle.base.specs.declared.Asked.{Asked}
-use Rattle.base.specs.declared.Asked.the-variants.{Pass, Stop}
+use Rattle.base.specs.declared.Asked.the-variants.{Pass}
 use Rattle.base.specs.declared.Answer.{Answer}
 use Rattle.base.specs.declared.Answer.the-variants.{Done, Refused}
 use Rattle.stages.specs.Stages.{isStop, isRefused, noCounts, blankIf, structurePlaced, solvePlaced, clears, closed, Leaves, Concludes, Concluded}
@@ -43,9 +43,6 @@ use Rattle.stages.specs.Asking.{Blanked, StructureAsking, SolveAsking, s
 module _ {A : Type 0} (b : Bool) (v : A) (l r : List A) where
   pub if-yes : b ≡ true → r ≡ blank v l → r ≡ blankIf b v l
   if-yes e h = rw e h
-
-  pub if-no : b ≡ false → r ≡ l → r ≡ blankIf b v l
-  if-no e h = rw e h
 
 pub none-if : {A : Type 0} (b : Bool) (v : A) → [] ≡ blankIf b v []
 unfolding blank
@@ -117,7 +114,7 @@ clears-refused Shared q = refl
 clears-refused ByRow q = refl
 
 -- the row form leaves neither lists nor factors
-pub record Kept (f : Form) (i : Input) (s t : Buffers) : Type 0 where
+pub record CallKept (f : Form) (i : Input) (s t : Buffers) : Type 0 where
   pub lower : Stands f Lower (stored i) (i .n) (s .lower) (t .lower)
   pub upper : Stands f Upper (stored i) (i .n) (s .upper) (t .upper)
   pub lower-values : length (t .lower .values) ≡ length (s .lower .values)
@@ -126,11 +123,11 @@ pub record Kept (f : Form) (i : Input) (s t : Buffers) : Type 0 where
   pub marks : length (t .marks) ≡ length (s .marks)
 
 abbrev pub KeptBy : Form → Input → Buffers → Buffers → Type 0
-KeptBy Plain i s t = Kept Plain i s t
-KeptBy Shared i s t = Kept Shared i s t
+KeptBy Plain i s t = CallKept Plain i s t
+KeptBy Shared i s t = CallKept Shared i s t
 KeptBy ByRow i s t = Unit {0}
 
-kept-is : (f : Form) (i : Input) (s t : Buffers) (r : Result) → Kept f i s t → Factors f i r (t .lower .values) (t .upper .values) (t .d) (r .z) → t .x ≡ ownOrder (i .c) (i .n) (r .z)
+kept-is : (f : Form) (i : Input) (s t : Buffers) (r : Result) → CallKept f i s t → Factors f i r (t .lower .values) (t .upper .values) (t .d) (r .z) → t .x ≡ ownOrder (i .c) (i .n) (r .z)
     → scratchCleared t ≡ kept f i (sizes s) r
 unfolding kept scratchCleared
 kept-is f i s t r h v x =
@@ -147,11 +144,11 @@ concluded-is Shared i s t k (ok a) r e g h = rw (g .0, e, kept-is Shared i s t a
 concluded-is ByRow i s t k (ok a) r e g h = rw (g .0, e, g .2)
 
 -- the structure pass of a solve looks at the pattern alone
-found-pattern : (f : Form) (i : Input) (z : Sizes) (us ur ui : List ℕ) (uv : ℕ) (a : Answer) → Found f (pattern i) z us ur ui uv a → Found f i z us ur ui uv a
+found-pattern : (f : Form) (i : Input) (z : Sizes) (us ur ui : List ℕ) (uv : ℕ) (a : Answer) → Analyzed f (pattern i) z us ur ui uv a → Analyzed f i z us ur ui uv a
 unfolding stored counts
 found-pattern f i z us ur ui uv a h = record { answer = h .answer; upper = h .upper }
 
-both-pattern : (f : Form) (i : Input) (z : Sizes) (ls lr li us ur ui : List ℕ) (lv uv : ℕ) (a : Answer) → FoundBoth f (pattern i) z ls lr li lv us ur ui uv a → FoundBoth f i z ls lr li lv us ur ui uv a
+both-pattern : (f : Form) (i : Input) (z : Sizes) (ls lr li us ur ui : List ℕ) (lv uv : ℕ) (a : Answer) → AnalyzedBoth f (pattern i) z ls lr li lv us ur ui uv a → AnalyzedBoth f i z ls lr li lv us ur ui uv a
 unfolding stored counts
 both-pattern f i z ls lr li us ur ui lv uv a h = record { found = record { answer = h .found .answer; upper = h .found .upper }; lower = h .lower }
 
@@ -163,7 +160,7 @@ leaves-by f i s t (Done c) g h x = never false refl h
 leaves-by f i s t (Refused q) g h x =
     rw (clears-refused f q, x, places-slots f (stored i) (i .n) (sizes s) (i .n) ∙ found-refused _ (counts i) q (Refused q) g refl)
 
-module _ (f : Form) (i : Input) (s t : Buffers) (us ur ui : List ℕ) (uv : ℕ) (a : Answer) (found : Found f (pattern i) (slots (sizes s)) us ur ui uv a) where
+module _ (f : Form) (i : Input) (s t : Buffers) (us ur ui : List ℕ) (uv : ℕ) (a : Answer) (found : Analyzed f (pattern i) (slots (sizes s)) us ur ui uv a) where
   pub leaves-refused : isRefused a ≡ true → t .x ≡ s .x → Leaves f i s a t
   leaves-refused = leaves-by f i s t a (found-pattern f i _ us ur ui uv a found .answer)
 
@@ -175,7 +172,7 @@ module _ (f : Form) (i : Input) (s t : Buffers) (us ur ui : List ℕ) (uv : ℕ)
       rw (places-slots f (stored i) (i .n) (sizes s) (i .n) ∙ p .0) (concluded-is f i s t k (listed i) r (p .1) g h)
 
 -- where the lists of both sides are placed; `lr` and `ur` are the runs that they are read by
-both-placed : (f : Form) (i : Input) (z : Sizes) (ls lr li us ur ui : List ℕ) (lv uv : ℕ) (a : Answer) (k : Counts) → FoundBoth f (pattern i) z ls lr li lv us ur ui uv a → a ≡ Done k
+both-placed : (f : Form) (i : Input) (z : Sizes) (ls lr li us ur ui : List ℕ) (lv uv : ℕ) (a : Answer) (k : Counts) → AnalyzedBoth f (pattern i) z ls lr li lv us ur ui uv a → a ≡ Done k
     → (k ≡ counts i) × PlacedSide f Lower (stored i) (i .n) ls lr li lv × PlacedSide f Upper (stored i) (i .n) us ur ui uv
 both-placed f i z ls lr li us ur ui lv uv a k found done =
     let g = both-pattern f i z ls lr li us ur ui lv uv a found in
@@ -183,7 +180,7 @@ both-placed f i z ls lr li us ur ui lv uv a k found done =
     (p .1, g .lower (p .0), g .found .upper (p .0))
 
 pub both-due : (f : Form) (i : Input) (z y : Sizes) (ls lr li us ur ui m : List ℕ) (lv uv d w : List Float) (x : ℕ) (a : Answer) (k : Counts)
-    → FoundBoth f (pattern i) z ls lr li (length lv) us ur ui (length uv) a → a ≡ Done k
+    → AnalyzedBoth f (pattern i) z ls lr li (length lv) us ur ui (length uv) a → a ≡ Done k
     → SolveDue f i y → length m ≡ y .marks → length d ≡ y .d → length w ≡ y .work → x ≡ y .x
     → (PlacedSide f Lower (stored i) (i .n) ls lr li (length lv) → LowerPlaced f (stored i) (i .n) (lists ls li us ur ui) lv) → FactorDue f i (lists ls li us ur ui) (written lv uv d w m) x k
 both-due f i z y ls lr li us ur ui m lv uv d w x a k found done h em ed ew ex g =
@@ -191,10 +188,10 @@ both-due f i z y ls lr li us ur ui m lv uv d w x a k found done h em ed ew ex g 
     factor-due f i y (lists ls li us ur ui) (written lv uv d w m) x k h em ed ew ex (g (p .1)) (p .2) (p .0)
 
 both-kept : (f : Form) (i : Input) (z : Sizes) (s t : Buffers) (lr ur : List ℕ) (lv uv : ℕ) (a : Answer) (k : Counts)
-    → FoundBoth f (pattern i) z (t .lower .starts) lr (t .lower .index) lv (t .upper .starts) ur (t .upper .index) uv a → a ≡ Done k
+    → AnalyzedBoth f (pattern i) z (t .lower .starts) lr (t .lower .index) lv (t .upper .starts) ur (t .upper .index) uv a → a ≡ Done k
     → Long (s .lower) (t .lower) → Long (s .upper) (t .upper) → length (t .work) ≡ length (s .work) → length (t .marks) ≡ length (s .marks)
     → (RunsAre f Lower (stored i) (i .n) (t .lower .starts) lr → t .lower .runs ≡ runsKept f (length (s .lower .runs)) (placedTo f Lower (stored i) (i .n) (i .n)))
-    → (RunsAre f Upper (stored i) (i .n) (t .upper .starts) ur → t .upper .runs ≡ runsKept f (length (s .upper .runs)) (placedTo f Upper (stored i) (i .n) (i .n))) → Kept f i s t
+    → (RunsAre f Upper (stored i) (i .n) (t .upper .starts) ur → t .upper .runs ≡ runsKept f (length (s .upper .runs)) (placedTo f Upper (stored i) (i .n) (i .n))) → CallKept f i s t
 both-kept f i z s t lr ur lv uv a k found done kl ku kw km rl ru =
     let p = both-placed f i z (t .lower .starts) lr (t .lower .index) (t .upper .starts) ur (t .upper .index) lv uv a k found done in
     record {
@@ -206,14 +203,14 @@ both-kept f i z s t lr ur lv uv a k found done kl ku kw km rl ru =
       marks = km;
     }
 
-kept-by : (f : Form) (i : Input) (s t : Buffers) → Kept f i s t → KeptBy f i s t
+kept-by : (f : Form) (i : Input) (s t : Buffers) → CallKept f i s t → KeptBy f i s t
 kept-by Plain i s t h = h
 kept-by Shared i s t h = h
 kept-by ByRow i s t h = tt
 
 -- all of it, over plain lists
 pub both-leaves : (f : Form) (i : Input) (ls₀ lr₀ li₀ us₀ ur₀ ui₀ m₀ ls lr li us ur ui m rl ru : List ℕ) (lv₀ uv₀ d₀ x₀ w₀ lv uv d x w : List Float) (a r : Answer) (k : Counts)
-    → FoundBoth f (pattern i) (slotsOf (length li₀) (length lv₀) (length ui₀) (length uv₀)) ls rl li (length lv₀) us ru ui (length uv₀) a → a ≡ Done k → Concluded f i k r lv uv d x₀ x
+    → AnalyzedBoth f (pattern i) (slotsOf (length li₀) (length lv₀) (length ui₀) (length uv₀)) ls rl li (length lv₀) us ru ui (length uv₀) a → a ≡ Done k → Concluded f i k r lv uv d x₀ x
     → length ls ≡ length ls₀ → length lr ≡ length lr₀ → length li ≡ length li₀ → length lv ≡ length lv₀ → length us ≡ length us₀ → length ur ≡ length ur₀ → length ui ≡ length ui₀ → length uv ≡ length uv₀
     → length w ≡ length w₀ → length m ≡ length m₀
     → (RunsAre f Lower (stored i) (i .n) ls rl → lr ≡ runsKept f (length lr₀) (placedTo f Lower (stored i) (i .n) (i .n)))
@@ -227,14 +224,14 @@ both-leaves f i ls₀ lr₀ li₀ us₀ ur₀ ui₀ m₀ ls lr li us ur ui m rl 
     (both-kept f i _ s t rl ru (length lv₀) (length uv₀) a k found done (record { starts = a₁; runs = a₂; index = a₃; values = a₄ }) (record { starts = b₁; runs = b₂; index = b₃; values = b₄ }) kw km hl hu))
 
 -- the row form, which lends an empty store for L
-pub row-due : (i : Input) (z y : Sizes) (ls li us ur ui m : List ℕ) (lv uv d w : List Float) (x : ℕ) (a : Answer) (k : Counts) → Found ByRow (pattern i) z us ur ui (length uv) a → a ≡ Done k
+pub row-due : (i : Input) (z y : Sizes) (ls li us ur ui m : List ℕ) (lv uv d w : List Float) (x : ℕ) (a : Answer) (k : Counts) → Analyzed ByRow (pattern i) z us ur ui (length uv) a → a ≡ Done k
     → SolveDue ByRow i y → length m ≡ y .marks → length d ≡ y .d → length w ≡ y .work → x ≡ y .x → lv ≡ [] → FactorDue ByRow i (lists ls li us ur ui) (written lv uv d w m) x k
 row-due i z y ls li us ur ui m lv uv d w x a k found done h em ed ew ex el =
     let g = found-pattern ByRow i z us ur ui (length uv) a found in
     let p = found-done _ (counts i) k a (g .answer) done in
     factor-due ByRow i y (lists ls li us ur ui) (written lv uv d w m) x k h em ed ew ex el (g .upper (p .0)) (p .1)
 
-pub row-leaves : (i : Input) (us₀ ur₀ ui₀ m₀ us ur ui m : List ℕ) (uv₀ d₀ x₀ w₀ lv uv d x w : List Float) (a r : Answer) (k : Counts) → Found ByRow (pattern i) (slotsOf 0 0 (length ui₀) (length uv₀)) us ur ui (length uv₀) a → a ≡ Done k
+pub row-leaves : (i : Input) (us₀ ur₀ ui₀ m₀ us ur ui m : List ℕ) (uv₀ d₀ x₀ w₀ lv uv d x w : List Float) (a r : Answer) (k : Counts) → Analyzed ByRow (pattern i) (slotsOf 0 0 (length ui₀) (length uv₀)) us ur ui (length uv₀) a → a ≡ Done k
     → Concluded ByRow i k r lv uv d x₀ x → length lv ≡ 0 → Leaves ByRow i (allBuffers noSide (sideBuffers us₀ ur₀ ui₀ uv₀) d₀ x₀ w₀ m₀) r (allBuffers noSide (sideBuffers us ur ui uv) d x w m)
 row-leaves i us₀ ur₀ ui₀ m₀ us ur ui m uv₀ d₀ x₀ w₀ [] uv d x w a r k found done g e =
     leaves-came ByRow i (allBuffers noSide (sideBuffers us₀ ur₀ ui₀ uv₀) d₀ x₀ w₀ m₀) (allBuffers noSide (sideBuffers us ur ui uv) d x w m) us ur ui (length uv₀) a found k r done g tt
@@ -288,7 +285,7 @@ lists-placed f side P n s t u runs room h l r g =
     stands f side P n s u runs room (rw (g .starts, g .index) h) (ap length (g .index) ∙ l .index) (g .runs ∙ r) [] (g .values ∙ nothing-stored (t .values) ∙ ap (λ (m : ℕ). padded nought m []) (l .values))
 
 structure-by : (f : Form) (i : Input) (l u l₁ u₁ l₂ u₂ : SideBuffers) (w w₁ w₂ : List Float) (m m₁ m₂ lr ur : List ℕ) (a : Answer) (b : Bool)
-    → FoundBoth f i (slots (sizes (allBuffers l u [] [] w m))) (l₁ .starts) lr (l₁ .index) (length (l .values)) (u₁ .starts) ur (u₁ .index) (length (u .values)) a → b ≡ isRefused a
+    → AnalyzedBoth f i (slots (sizes (allBuffers l u [] [] w m))) (l₁ .starts) lr (l₁ .index) (length (l .values)) (u₁ .starts) ur (u₁ .index) (length (u .values)) a → b ≡ isRefused a
     → (RunsAre f Lower (stored i) (i .n) (l₁ .starts) lr → l₁ .runs ≡ runsKept f (length (l .runs)) (placedTo f Lower (stored i) (i .n) (i .n)))
     → (RunsAre f Upper (stored i) (i .n) (u₁ .starts) ur → u₁ .runs ≡ runsKept f (length (u .runs)) (placedTo f Upper (stored i) (i .n) (i .n)))
     → Long l l₁ → Long u u₁ → length w₁ ≡ length w → length m₁ ≡ length m → ListsIf b l₁ l₂ → ListsIf b u₁ u₂ → Blanked w₁ m₁ w₂ m₂
@@ -306,7 +303,7 @@ structure-by f i l u l₁ u₁ l₂ u₂ w w₁ w₂ m m₁ m₂ lr ur (Refused 
 
 pub structure-ends : (f : Form) (i : Input) (l u l₁ u₁ l₂ u₂ : SideBuffers) (w w₁ w₂ : List Float) (m t m₁ m₂ lr ur : List ℕ) (o : Asked) (a : Answer) (b : Bool)
     → StructureAsking f i (sizes (allBuffers l u [] [] w m)) w m w₁ t o → o ≡ Pass
-    → FoundBoth f i (slots (sizes (allBuffers l u [] [] w m))) (l₁ .starts) lr (l₁ .index) (length (l .values)) (u₁ .starts) ur (u₁ .index) (length (u .values)) a → b ≡ isRefused a
+    → AnalyzedBoth f i (slots (sizes (allBuffers l u [] [] w m))) (l₁ .starts) lr (l₁ .index) (length (l .values)) (u₁ .starts) ur (u₁ .index) (length (u .values)) a → b ≡ isRefused a
     → (RunsAre f Lower (stored i) (i .n) (l₁ .starts) lr → l₁ .runs ≡ runsKept f (length (l .runs)) (placedTo f Lower (stored i) (i .n) (i .n)))
     → (RunsAre f Upper (stored i) (i .n) (u₁ .starts) ur → u₁ .runs ≡ runsKept f (length (u .runs)) (placedTo f Upper (stored i) (i .n) (i .n)))
     → Long l l₁ → Long u u₁ → length w₁ ≡ length w → length m₁ ≡ length m → ListsIf b l₁ l₂ → ListsIf b u₁ u₂ → Blanked w₁ m₁ w₂ m₂

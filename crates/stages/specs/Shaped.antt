@@ -10,7 +10,7 @@ use Rattle.base.specs.declared.SideSizes.{SideSizes}
 use Rattle.base.specs.declared.Sizes.{Sizes}
 use Rattle.outcome.specs.Buffers.{patternTests, structureTests, askShape}
 use Rattle.outcome.specs.Structure.{counts}
-use Rattle.factor.specs.Factoring.{Lists, Written, Factorable}
+use Rattle.factor.specs.Factoring.{PlacedLists, Workspace, Factorable}
 use Rattle.factor.specs.declared.Factored.{Factored}
 use Rattle.factor.specs.declared.Factored.the-variants.{Solved, Zero, Overflow}
 use Rattle.base.specs.declared.Form.{Form}
@@ -88,7 +88,7 @@ pub record SolveDue (f : Form) (i : Input) (z : Sizes) : Type 0 where
 
 -- ---- and 9 to 11: the lists stand in their stores, and the counts are known
 
-pub record FactorDue (f : Form) (i : Input) (l : Lists) (w : Written) (x : ℕ) (k : Counts) : Type 0 where
+pub record FactorDue (f : Form) (i : Input) (l : PlacedLists) (w : Workspace) (x : ℕ) (k : Counts) : Type 0 where
   pub ready : Factorable f i l w
   pub solution : x ≡ i .n
   pub counts-are : k ≡ counts i

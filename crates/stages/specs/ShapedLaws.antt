@@ -2,7 +2,7 @@
 use mathlib.Core.Path.{_≡_, refl, sym, ap₂, _∙_}
 use mathlib.Core.Bool.{Bool, true}
 use mathlib.Core.List.{List, _++_}
-use Prim.Native.Nat.{ℕ, zero, suc, _+_, _≤_}
+use Prim.Native.Nat.{ℕ, zero, suc, _+_}
 use native.Mathlib.Omega.{arith}
 use lib.ListN.{length}
 use lib.Dec.{leb}
@@ -25,7 +25,7 @@ use Rattle.questions.specs.Lent.{Lent}
 use Rattle.questions.specs.Settled.{Structured}
 use Rattle.questions.specs.SettledLaws.{settled}
 use Rattle.symbolic.specs.Pass.{slotsOf, MatrixLent, PlainLent, SharedLent, RowLent}
-use Rattle.factor.specs.Factoring.{Lists, Written, Starts, LowerPlaced}
+use Rattle.factor.specs.Factoring.{PlacedLists, Workspace, Starts, LowerPlaced}
 use Rattle.base.specs.declared.Counts.{Counts}
 use Rattle.base.specs.declared.Refusal.the-variants.{Rows, Lengths}
 use Rattle.base.specs.declared.Asked.the-variants.{Pass}
@@ -171,7 +171,7 @@ pattern-structured i g = record {
 pub starts-of : (i : Input) (ls lr li : List ℕ) (values : ℕ) → PlacedSide Shared Lower (stored i) (i .n) ls lr li values → Starts Shared (stored i) (i .n) ls values
 starts-of i ls lr li values h = record { starts-are = h .starts-are; values-in = h .values-in }
 
-pub factor-due : (f : Form) (i : Input) (z : Sizes) (l : Lists) (w : Written) (x : ℕ) (k : Counts) → SolveDue f i z → length (w .marks) ≡ z .marks → length (w .d) ≡ z .d → length (w .work) ≡ z .work
+pub factor-due : (f : Form) (i : Input) (z : Sizes) (l : PlacedLists) (w : Workspace) (x : ℕ) (k : Counts) → SolveDue f i z → length (w .marks) ≡ z .marks → length (w .d) ≡ z .d → length (w .work) ≡ z .work
     → x ≡ z .x → LowerPlaced f (stored i) (i .n) l (w .lower) → PlacedSide f Upper (stored i) (i .n) (l .upper-starts) (l .upper-runs) (l .upper-index) (length (w .upper)) → k ≡ counts i
     → FactorDue f i l w x k
 factor-due f i z l w x k h em ed ew ex low up c =
@@ -199,7 +199,7 @@ factor-due f i z l w x k h em ed ew ex low up c =
       counts-are = c;
     }
 
-pub solution-due : (f : Form) (i : Input) (l : Lists) (w : Written) (x work : ℕ) (k : Counts) → FactorDue f i l w x k → work ≡ length (w .work) → SolutionDue (i .n) (i .c) work x
+pub solution-due : (f : Form) (i : Input) (l : PlacedLists) (w : Workspace) (x work : ℕ) (k : Counts) → FactorDue f i l w x k → work ≡ length (w .work) → SolutionDue (i .n) (i .c) work x
 solution-due f i l w x work k h e = record {
   few = h .ready .lent .lent .orders .few;
   scratch = e ∙ h .ready .scratch;

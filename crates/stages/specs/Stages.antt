@@ -6,8 +6,8 @@ use lib.Ieee.{Float}
 use Rattle.base.specs.Lists.{blank}
 use Rattle.matrix.specs.Input.{Input, stored, ownOrder}
 use Rattle.outcome.specs.Buffers.{Buffers, sizes, scratchCleared, cleared, Outcome, ended, stop}
-use Rattle.outcome.specs.Structure.{askPlaces, counts, structured, structure}
-use Rattle.outcome.specs.Solve.{listed, faultOf, concluded, solve}
+use Rattle.outcome.specs.Structure.{askPlaces, counts, structured}
+use Rattle.outcome.specs.Solve.{listed, faultOf, concluded}
 use Rattle.arithmetic.specs.Arith.{Out, ok, met, Result}
 use Rattle.factor.specs.Factoring.{Factors}
 use Rattle.base.specs.declared.Form.{Form}

@@ -16,7 +16,7 @@ use Rattle.base.specs.declared.Asked.the-variants.{Pass, Stop}
 use Rattle.fill.specs.Fill.{Pattern, filled, upperRow, lowerRow, flip}
 use Rattle.placement.specs.Placing.{plain, shared, Plan, State, placed, after, startOf}
 use Rattle.placement.specs.PlacingLaws.{room}
-use Rattle.placing.specs.Ways.{wayOf}
+use Rattle.storing.specs.Ways.{wayOf}
 use Rattle.base.specs.declared.Sizes.{Sizes}
 use Rattle.outcome.specs.Forms.{placedTo, indexNeed, valueNeed}
 use Rattle.outcome.specs.Structure.{fits, askPlace, askPlaces}

@@ -27,12 +27,12 @@ use Rattle.outcome.specs.Forms.{wayOf, listsOf, rowsOf, placedTo, indexNeed, va
 use Rattle.outcome.specs.Structure.{askPlaces, counts}
 use Rattle.outcome.specs.Placed.{RunsAre, PlacedSide}
 use Rattle.outcome.proofs.Asking.{stop-pass}
-use Rattle.placing.specs.Ways as ways
-use Rattle.placing.specs.Held.{Holding}
-use Rattle.placing.specs.HeldLaws.{index-long, starts-whole, runs-whole, padded-held}
-use Rattle.placing.specs.declared.Extent.{Extent}
+use Rattle.storing.specs.Ways as ways
+use Rattle.storing.specs.Held.{Holding}
+use Rattle.storing.specs.HeldLaws.{index-long, starts-whole, runs-whole, padded-held}
+use Rattle.storing.specs.declared.Extent.{Extent}
 use Rattle.symbolic.specs.Places.{runCount, Stores}
-use Rattle.symbolic.specs.Pass.{slotsOf, Found, FoundBoth, placingOf, countsAt, LowerAt, At}
+use Rattle.symbolic.specs.Pass.{slotsOf, Analyzed, AnalyzedBoth, placingOf, countsAt, LowerAt, At}
 use Rattle.symbolic.specs.declared.Progress.{Progress}
 
 -- ---- a side after the last place
@@ -74,12 +74,12 @@ module _ (f : Form) (side : Side) (P : Pattern) (n : ℕ) (store : List ℕ) (va
       }
 
 -- the forms that keep lower lists
-abbrev Kept : Form → Type 0
-Kept Plain = Unit {0}
-Kept Shared = Unit {0}
-Kept ByRow = ⊥
+abbrev Keeps : Form → Type 0
+Keeps Plain = Unit {0}
+Keeps Shared = Unit {0}
+Keeps ByRow = ⊥
 
-lower-end : (f : Form) (i : Input) (low : List ℕ) (lv : ℕ) (ls lr li s : List ℕ) (g : Progress) → Kept f → RunsIn f ls lr → LowerAt f i low lv (i .n) ls lr li s g
+lower-end : (f : Form) (i : Input) (low : List ℕ) (lv : ℕ) (ls lr li s : List ℕ) (g : Progress) → Keeps f → RunsIn f ls lr → LowerAt f i low lv (i .n) ls lr li s g
     → PlacedSide f Lower (stored i) (i .n) ls lr li lv
 lower-end Plain i low lv ls lr li s g x r h = side-end Plain Lower (stored i) (i .n) low lv ls lr li (g .lower) (rw r (h .0)) (rw r (h .1)) r
 lower-end Shared i low lv ls lr li s g x r h = side-end Shared Lower (stored i) (i .n) low lv ls lr li (g .lower) (h .0 .held) (h .0 .stores) r
@@ -115,15 +115,15 @@ module _ (f : Form) (i : Input) (low : List ℕ) (lv : ℕ) (up : List ℕ) (uv 
   stops : (q : Refusal) → asked ≡ Stop q → askPlaces f (stored i) (i .n) (slotsOf a lv b uv) (i .n) ≡ Stop q
   stops q e = rw (← ea, ← eb) e
 
-  pub found-stop : (q : Refusal) → asked ≡ Stop q → (us ur ui : List ℕ) → Found f i (slotsOf a lv b uv) us ur ui uv (answers.Refused q)
+  pub found-stop : (q : Refusal) → asked ≡ Stop q → (us ur ui : List ℕ) → Analyzed f i (slotsOf a lv b uv) us ur ui uv (answers.Refused q)
   found-stop q e us ur ui = record { answer = rw (stops q e); upper = λ p. absurd (stop-pass q (sym (stops q e) ∙ p)) }
 
-  pub both-stop : (q : Refusal) → asked ≡ Stop q → (ls lr li us ur ui : List ℕ) → FoundBoth f i (slotsOf a lv b uv) ls lr li lv us ur ui uv (answers.Refused q)
+  pub both-stop : (q : Refusal) → asked ≡ Stop q → (ls lr li us ur ui : List ℕ) → AnalyzedBoth f i (slotsOf a lv b uv) ls lr li lv us ur ui uv (answers.Refused q)
   both-stop q e ls lr li us ur ui = record { found = found-stop q e us ur ui; lower = λ p. absurd (stop-pass q (sym (stops q e) ∙ p)) }
 
 -- after the last place
 form-end : (f : Form) (i : Input) (low : List ℕ) (lv : ℕ) (up : List ℕ) (uv a b : ℕ) (ls lr li us ur ui s : List ℕ) (g : Progress) → length low ≡ a → length up ≡ b
-    → At f i low lv up uv (i .n) ls lr li us ur ui s g → RunsIn f us ur → Found f i (slotsOf a lv b uv) us ur ui uv (answers.Done (countsAt g))
+    → At f i low lv up uv (i .n) ls lr li us ur ui s g → RunsIn f us ur → Analyzed f i (slotsOf a lv b uv) us ur ui uv (answers.Done (countsAt g))
 form-end f i low lv up uv a b ls lr li us ur ui s g ea eb h r =
     rw (← ea, ← eb) (record {
       answer = rw (h .passed, counts-of i g (lower-count f i low lv ls lr li s g (h .lower)) (h .upper .held .entries-are) (h .products-are));
@@ -135,8 +135,8 @@ module _ (f : Form) (i : Input) (low : List ℕ) (lv : ℕ) (up : List ℕ) (uv 
   last : At f i low lv up uv (i .n) ls lr li us ur ui s g
   last = let e : k ≡ i .n = omega (arith, at .most) in rw e at at
 
-  pub found-end : Found f i (slotsOf a lv b uv) us ur ui uv (answers.Done c)
+  pub found-end : Analyzed f i (slotsOf a lv b uv) us ur ui uv (answers.Done c)
   found-end = rw q (form-end f i low lv up uv a b ls lr li us ur ui s g ea eb last r)
 
-  pub both-end : RunsIn f ls lr → Kept f → FoundBoth f i (slotsOf a lv b uv) ls lr li lv us ur ui uv (answers.Done c)
+  pub both-end : RunsIn f ls lr → Keeps f → AnalyzedBoth f i (slotsOf a lv b uv) ls lr li lv us ur ui uv (answers.Done c)
   both-end e x = record { found = found-end; lower = λ p. lower-end f i low lv ls lr li s g x e (last .lower) }

@@ -2,7 +2,7 @@
 use mathlib.Core.Path.{_≡_, sym, ap, _∙_, subst}
 use mathlib.Core.Bool.{true, false}
 use mathlib.Core.List.{List, map}
-use Prim.Native.Nat.{ℕ, suc, _+_, _-_, _*_, _<_, _≤_}
+use Prim.Native.Nat.{ℕ, suc, _+_, _-_, _<_, _≤_}
 use native.Mathlib.Omega.{arith}
 use native.Mathlib.Nat.{add-sub-cancel-left}
 use native.Mathlib.Numerals.{add-one}
@@ -11,7 +11,6 @@ use lib.Seq.{length-take-le}
 use Rattle.base.specs.Lists.{blank, sum, total}
 use Rattle.base.specs.ZerosLaws.{blank-length}
 use Rattle.base.specs.AscLaws.{asc-at, length-asc}
-use Rattle.base.specs.declared.Side.the-variants.{Upper}
 use Rattle.fill.specs.Fill.{Pattern, filled, upperRow, lowerRow, flip}
 use Rattle.placement.specs.PlacingLaws.{room}
 use Rattle.lent.specs.Reading.{ListIn}
@@ -19,18 +18,18 @@ use Rattle.marks.specs.Marks.{members}
 use Rattle.marks.specs.Rows.{Stored, Renewed, rowSteps, lengthIn, Countable}
 use Rattle.marks.specs.FillLaws.{upper-below}
 use Rattle.marks.specs.ListLaws.{lower-members, lower-le, upper-le, row-products-is, held-countable, products-fit}
-use Rattle.placing.specs.Ways.{wayOf, Suited}
-use Rattle.placing.specs.Slices.{Ready}
-use Rattle.placing.specs.Held.{Holding, RowIs, Turn, Stepped}
-use Rattle.placing.specs.HeldLaws.{index-long, list-held, list-readable}
-use Rattle.placing.specs.StepLaws.{turn-ready}
-use Rattle.placing.specs.FillNested.{fill-suited}
-use Rattle.placing.specs.declared.Way.{Way}
-use Rattle.placing.specs.declared.Way.the-variants.{OneAfterAnother, Sharing}
-use Rattle.placing.specs.declared.Extent.{Extent}
-use Rattle.placing.specs.declared.Put.{Put}
-use Rattle.placing.specs.declared.Put.the-variants.{Done, Full}
-use Rattle.symbolic.specs.Places.{runCount, Keep, Kept, KeepLower, LowerEnds, Adding}
+use Rattle.storing.specs.Ways.{wayOf, Suited}
+use Rattle.storing.specs.Slices.{Ready}
+use Rattle.storing.specs.Held.{Holding, RowIs, Turn, Stepped}
+use Rattle.storing.specs.HeldLaws.{index-long, list-held, list-readable}
+use Rattle.storing.specs.StepLaws.{turn-ready}
+use Rattle.storing.specs.FillNested.{fill-suited}
+use Rattle.storing.specs.declared.Way.{Way}
+use Rattle.storing.specs.declared.Way.the-variants.{OneAfterAnother, Sharing}
+use Rattle.storing.specs.declared.Extent.{Extent}
+use Rattle.storing.specs.declared.Put.{Put}
+use Rattle.storing.specs.declared.Put.the-variants.{Done, Full}
+use Rattle.symbolic.specs.Places.{runCount, Keep, ListKept, KeepLower, LowerEnds, Adding}
 use Rattle.symbolic.specs.declared.OpenRow.{OpenRow}
 use Rattle.base.specs.Scratch.{listFrom, regionsEnd}
 use Rattle.base.specs.Limits.{maxProducts}
@@ -41,7 +40,7 @@ told Q e h = subst Q e h
 
 -- a fill's lists suit both ways
 pub suited-of : (way : Way) (P : Pattern) (n : ℕ) → Suited way (upperRow P n) (lowerRow P) n
-suited-of way P n = fill-suited way Upper P n
+suited-of way P n = fill-suited way P n
 
 -- the lists that are placed can be read
 pub stored-held : {way : Way} {P : Pattern} {n values k : ℕ} {index₀ index runs starts : List ℕ} {e : Extent} → k ≤ n
@@ -98,7 +97,7 @@ module _ {way : Way} {P : Pattern} {n k t cuts : ℕ} {store : List ℕ} {values
     next-lists = next-store .read
 
     pub kept-next : room (wayOf way) (upperRow P n) (lowerRow P) (length (blank 0 store)) values k ≡ true → length starts′ ≡ length starts → length runs′ ≡ length runs
-        → (s′ : List ℕ) → Renewed n t k cuts starts′ runs′ index′ s s′ → Kept way P n k cuts store values starts′ runs′ index′ s s′ e′
+        → (s′ : List ℕ) → Renewed n t k cuts starts′ runs′ index′ s s′ → ListKept way P n k cuts store values starts′ runs′ index′ s s′ e′
     kept-next f a b s′ r =
         let z = h .at .stores in
         record {

@@ -19,10 +19,10 @@ use Rattle.placement.specs.PlacingLaws.{room}
 use Rattle.marks.specs.Marks.{Room}
 use Rattle.marks.specs.Rows.{rowSteps}
 use Rattle.outcome.specs.Structure.{askPlaces}
-use Rattle.placing.specs.Held.{Holding}
-use Rattle.placing.specs.declared.Way.the-variants.{OneAfterAnother}
-use Rattle.placing.specs.declared.Extent.{Extent}
-use Rattle.symbolic.specs.Places.{Open, RowFound, Keep, Kept, KeepLower, Adding}
+use Rattle.storing.specs.Held.{Holding}
+use Rattle.storing.specs.declared.Way.the-variants.{OneAfterAnother}
+use Rattle.storing.specs.declared.Extent.{Extent}
+use Rattle.symbolic.specs.Places.{Open, RowFound, Keep, ListKept, KeepLower, Adding}
 use Rattle.symbolic.specs.Pass.{slotsOf, At}
 use Rattle.symbolic.specs.declared.OpenRow.{OpenRow}
 use Rattle.symbolic.specs.declared.Progress.{Progress}
@@ -83,7 +83,7 @@ module _ (i : Input) (low : List ℕ) (lv : ℕ) (up : List ℕ) (uv k : ℕ) (l
           stop-upper Plain P n _ k place (h .passed) (found .diagonal) (fits-plain P n (length low) lv (length up) uv k ∙ fits) (fits-upper P n (length low) lv (length up) uv k Plain ∙ c)
 
       pub plain-next : (ls′ li′ : List ℕ) (e : Extent) → Holding OneAfterAnother (lowerRow P) (lowerRow (flip P)) lv (k + 1) (blank 0 low) ls′ ls′ li′ e → length ls′ ≡ length ls
-          → (p : ℕ) → p ≡ sum (k + 1) (rowSteps P n) → (us′ ui′ s₂ : List ℕ) (u : Extent) → length s₂ ≡ length s₁ → Kept OneAfterAnother P n k (upperCuts n) up uv us′ us′ ui′ s₁ s₂ u
+          → (p : ℕ) → p ≡ sum (k + 1) (rowSteps P n) → (us′ ui′ s₂ : List ℕ) (u : Extent) → length s₂ ≡ length s₁ → ListKept OneAfterAnother P n k (upperCuts n) up uv us′ us′ ui′ s₁ s₂ u
           → At Plain i low lv up uv (k + 1) ls′ ls′ li′ us′ us′ ui′ s₂ (record { lower = e; upper = u; products = p; window = 0 })
       plain-next ls′ li′ e held size p sums us′ ui′ s₂ u same kept =
           let z = h .lower .1 in

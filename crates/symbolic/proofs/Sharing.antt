@@ -23,9 +23,9 @@ use Rattle.marks.specs.Rows.{Stored, Cuts, rowSteps}
 use Rattle.marks.specs.RenewLaws.{cuts-kept}
 use Rattle.marks.specs.ListLaws.{lower-le}
 use Rattle.outcome.specs.Structure.{fits, askPlaces}
-use Rattle.placing.specs.Ways.{wayOf}
-use Rattle.placing.specs.declared.Way.the-variants.{Sharing}
-use Rattle.placing.specs.declared.Extent.{Extent}
+use Rattle.storing.specs.Ways.{wayOf}
+use Rattle.storing.specs.declared.Way.the-variants.{Sharing}
+use Rattle.storing.specs.declared.Extent.{Extent}
 use Rattle.symbolic.specs.Places.{Apart, Begun, Adding, SideAt, SideNext}
 use Rattle.symbolic.specs.Pass.{slotsOf, placingOf, stampAt, LowerAt, At}
 use Rattle.symbolic.specs.declared.SidePlace.{SidePlace}

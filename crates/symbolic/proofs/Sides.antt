@@ -1,7 +1,7 @@
 -- A side at place k: what opening it and keeping its list ask for, and what they leave. One law for both sides and both ways of placing.
 use mathlib.Core.Path.{_≡_, _∙_}
 use mathlib.Core.List.{List}
-use Prim.Native.Nat.{ℕ, suc, _+_, _*_, _<_}
+use Prim.Native.Nat.{ℕ, suc, _+_, _<_}
 use native.Mathlib.Omega.{arith}
 use lib.ListN.{length, take, drop}
 use Rattle.base.specs.declared.Side.{Side}
@@ -12,10 +12,10 @@ use Rattle.marks.specs.Marks.{Room, Fresh}
 use Rattle.marks.specs.MarkLaws.{room-kept}
 use Rattle.lent.specs.Reading.{But}
 use Rattle.columns.specs.Sides.{SideReady, rowsIn}
-use Rattle.placing.specs.declared.Way.{Way}
-use Rattle.placing.specs.declared.Way.the-variants.{Sharing}
-use Rattle.placing.specs.declared.Extent.{Extent}
-use Rattle.symbolic.specs.Places.{patternOf, cutsOf, Apart, Begun, Open, RowFound, ListsAt, Keep, Kept, SideAt, SideNext}
+use Rattle.storing.specs.declared.Way.{Way}
+use Rattle.storing.specs.declared.Way.the-variants.{Sharing}
+use Rattle.storing.specs.declared.Extent.{Extent}
+use Rattle.symbolic.specs.Places.{patternOf, cutsOf, Apart, Begun, Open, RowFound, ListsAt, Keep, ListKept, SideAt, SideNext}
 use Rattle.symbolic.specs.declared.OpenRow.{OpenRow}
 use Rattle.symbolic.proofs.Opening.{apart-then, apart-cuts, base-of, part-kept, rows-apart, ready-kept}
 use Rattle.symbolic.proofs.Keeping.{stored-held}
@@ -81,7 +81,7 @@ module _ {side : Side} {i : Input} {store : List ℕ} {values k t window : ℕ} 
     pub side-keep : Keep Sharing (patternOf side i) (i .n) k t cuts store values starts runs index s₁ o e
     side-keep = rw c (lists-keep (h .begun) (h .below) (h .at) found)
 
-    pub side-next : {starts′ runs′ index′ s₂ : List ℕ} {e′ : Extent} → Kept Sharing (patternOf side i) (i .n) k cuts store values starts′ runs′ index′ s₁ s₂ e′ → length s₂ ≡ length s₁
+    pub side-next : {starts′ runs′ index′ s₂ : List ℕ} {e′ : Extent} → ListKept Sharing (patternOf side i) (i .n) k cuts store values starts′ runs′ index′ s₁ s₂ e′ → length s₂ ≡ length s₁
         → SideNext side i store values k t starts′ runs′ index′ s s₂ (record { below = o .below; window = o .window; extent = e′ })
     side-next {s₂ = s₂} kept′ size =
         let kept = rw c at kept′ in

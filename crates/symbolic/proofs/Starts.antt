@@ -1,7 +1,7 @@
 -- Before place 0: the stores are cleared, and scratch holds the inverse column order.
 use mathlib.Core.Path.{_≡_, refl, sym, ap, _∙_}
 use mathlib.Core.List.{List, []}
-use Prim.Native.Nat.{ℕ, _+_, _-_, _*_, _≤_}
+use Prim.Native.Nat.{ℕ, _+_, _-_, _≤_}
 use native.Mathlib.Omega.{arith}
 use lib.ListN.{length, getD, take, length-append, length-take, length-drop}
 use lib.Seq.{getD-take}
@@ -21,10 +21,10 @@ use Rattle.questions.specs.Settled.{Under, Distinct}
 use Rattle.questions.specs.Lent.{inverted, invertedAt, InverseLent}
 use Rattle.questions.specs.ScatterLaws.{placed-front, placed-inverse}
 use Rattle.outcome.proofs.Places.{places-none}
-use Rattle.placing.specs.Held.{Holding}
-use Rattle.placing.specs.HeldLaws.{holding-none}
-use Rattle.placing.specs.declared.Way.{Way}
-use Rattle.placing.specs.declared.Way.the-variants.{OneAfterAnother, Sharing}
+use Rattle.storing.specs.Held.{Holding}
+use Rattle.storing.specs.HeldLaws.{holding-none}
+use Rattle.storing.specs.declared.Way.{Way}
+use Rattle.storing.specs.declared.Way.the-variants.{OneAfterAnother, Sharing}
 use Rattle.symbolic.specs.Places.{Apart, Begun, Stores, ListsAt}
 use Rattle.symbolic.specs.declared.Progress.{Progress}
 use Rattle.symbolic.specs.Pass.{nothing, noProgress, slotsOf, LowerAt, At, placingOf, stampAt, MatrixLent, PlainLent, RowLent, SharedLent, ColumnsBegun}

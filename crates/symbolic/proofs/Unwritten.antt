@@ -15,12 +15,12 @@ use Rattle.matrix.specs.Input.{Input, stored}
 use Rattle.outcome.specs.Forms.{listsOf, rowsOf}
 use Rattle.placement.specs.Placing.{placed}
 use Rattle.placement.specs.PlacingLaws.{placed-grows, used-grows}
-use Rattle.placing.specs.Ways.{wayOf, Suited}
-use Rattle.placing.specs.FillNested.{fill-nested, run-stays}
-use Rattle.placing.specs.Held.{Holding}
-use Rattle.placing.specs.HeldLaws.{run-same, start-same, list-readable, list-held}
-use Rattle.placing.specs.declared.Way.{Way}
-use Rattle.placing.specs.declared.Extent.{Extent}
+use Rattle.storing.specs.Ways.{wayOf, Suited}
+use Rattle.storing.specs.FillNested.{fill-nested, run-stays}
+use Rattle.storing.specs.Held.{Holding}
+use Rattle.storing.specs.HeldLaws.{run-same, start-same, list-readable, list-held}
+use Rattle.storing.specs.declared.Way.{Way}
+use Rattle.storing.specs.declared.Extent.{Extent}
 use Rattle.symbolic.specs.Pass.{placingOf, At, TurnEnds}
 use Rattle.symbolic.specs.declared.Progress.{Progress}
 use Rattle.symbolic.specs.declared.Turned.the-variants.{Next}

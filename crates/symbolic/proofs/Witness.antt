@@ -7,7 +7,7 @@ use Rattle.matrix.specs.Input.{Input, inputOf}
 use Rattle.questions.proofs.Witness.{holds}
 use Rattle.symbolic.specs.Places.{Stores}
 use Rattle.symbolic.specs.Pass.{MatrixLent, PlainLent, RowLent, SharedLent}
-use Rattle.placing.specs.declared.Way.the-variants.{OneAfterAnother, Sharing}
+use Rattle.storing.specs.declared.Way.the-variants.{OneAfterAnother, Sharing}
 
 abbrev zeros : List ℕ
 zeros = 0 ∷ []

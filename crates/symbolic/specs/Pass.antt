@@ -25,10 +25,10 @@ use Rattle.base.specs.declared.SideSizes.{SideSizes}
 use Rattle.base.specs.declared.Sizes.{Sizes}
 use Rattle.outcome.specs.Structure.{askPlaces, counts}
 use Rattle.outcome.specs.Placed.{PlacedSide}
-use Rattle.placing.specs.Held.{Holding}
-use Rattle.placing.specs.declared.Extent.{Extent}
-use Rattle.placing.specs.declared.Way.{Way}
-use Rattle.placing.specs.declared.Way.the-variants.{OneAfterAnother, Sharing}
+use Rattle.storing.specs.Held.{Holding}
+use Rattle.storing.specs.declared.Extent.{Extent}
+use Rattle.storing.specs.declared.Way.{Way}
+use Rattle.storing.specs.declared.Way.the-variants.{OneAfterAnother, Sharing}
 use Rattle.symbolic.specs.Places.{Begun, Stores, ListsAt}
 use Rattle.symbolic.specs.declared.Progress.{Progress}
 use Rattle.symbolic.specs.declared.Turned.{Turned}
@@ -54,13 +54,13 @@ abbrev pub SidePlaced : Form → Side → Input → Sizes → List ℕ → List 
 SidePlaced f side i z starts runs index values = askPlaces f (stored i) (i .n) z (i .n) ≡ Pass → PlacedSide f side (stored i) (i .n) starts runs index values
 
 -- the answer of a form's pass, and its upper side
-pub record Found (f : Form) (i : Input) (z : Sizes) (us ur ui : List ℕ) (uv : ℕ) (a : Answer) : Type 0 where
+pub record Analyzed (f : Form) (i : Input) (z : Sizes) (us ur ui : List ℕ) (uv : ℕ) (a : Answer) : Type 0 where
   pub answer : a ≡ foundAnswer (askPlaces f (stored i) (i .n) z (i .n)) (counts i)
   pub upper : SidePlaced f Upper i z us ur ui uv
 
 -- and its lower side, which the row form has not
-pub record FoundBoth (f : Form) (i : Input) (z : Sizes) (ls lr li : List ℕ) (lv : ℕ) (us ur ui : List ℕ) (uv : ℕ) (a : Answer) : Type 0 where
-  pub found : Found f i z us ur ui uv a
+pub record AnalyzedBoth (f : Form) (i : Input) (z : Sizes) (ls lr li : List ℕ) (lv : ℕ) (us ur ui : List ℕ) (uv : ℕ) (a : Answer) : Type 0 where
+  pub found : Analyzed f i z us ur ui uv a
   pub lower : SidePlaced f Lower i z ls lr li lv
 
 -- ---- before place k

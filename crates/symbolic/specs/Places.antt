@@ -2,7 +2,7 @@
 use mathlib.Core.Path.{_≡_}
 use mathlib.Core.Bool.{true, false}
 use mathlib.Core.List.{List, []}
-use Prim.Native.Nat.{ℕ, suc, _+_, _*_, _<_, _≤_}
+use Prim.Native.Nat.{ℕ, suc, _+_, _<_, _≤_}
 use lib.ListN.{length, getD, take, drop}
 use Rattle.base.specs.Lists.{blank, sum}
 use Rattle.base.specs.declared.Side.{Side}
@@ -14,15 +14,15 @@ use Rattle.placement.specs.Placing.{plain}
 use Rattle.placement.specs.PlacingLaws.{room}
 use Rattle.marks.specs.Marks.{Room, Base, Fresh, Holds}
 use Rattle.lent.specs.Reading.{But}
-use Rattle.marks.specs.Rows.{Stored, Cuts, Held, rowSteps}
+use Rattle.marks.specs.Rows.{Stored, Cuts, PlaceReady, rowSteps}
 use Rattle.columns.specs.Sides.{sidePattern, SideReady, Inverse, Sound, rowsIn}
-use Rattle.placing.specs.Ways.{wayOf}
-use Rattle.placing.specs.Held.{Holding}
-use Rattle.placing.specs.declared.Way.{Way}
-use Rattle.placing.specs.declared.Way.the-variants.{OneAfterAnother, Sharing}
-use Rattle.placing.specs.declared.Extent.{Extent}
-use Rattle.placing.specs.declared.Put.{Put}
-use Rattle.placing.specs.declared.Put.the-variants.{Done, Full}
+use Rattle.storing.specs.Ways.{wayOf}
+use Rattle.storing.specs.Held.{Holding}
+use Rattle.storing.specs.declared.Way.{Way}
+use Rattle.storing.specs.declared.Way.the-variants.{OneAfterAnother, Sharing}
+use Rattle.storing.specs.declared.Extent.{Extent}
+use Rattle.storing.specs.declared.Put.{Put}
+use Rattle.storing.specs.declared.Put.the-variants.{Done, Full}
 use Rattle.symbolic.specs.declared.OpenRow.{OpenRow}
 use Rattle.symbolic.specs.declared.Opened.{Opened}
 use Rattle.symbolic.specs.declared.Opened.the-variants.{Unfilled, Row}
@@ -64,7 +64,7 @@ pub record Begun (i : Input) (s : List ℕ) : Type 0 where
 pub record Open (side : Side) (i : Input) (k t window : ℕ) (index runs starts s : List ℕ) : Type 0 where
   pub begun : Begun i s
   pub below : k < i .n
-  pub held : Held (patternOf side i) (i .n) k t (cutsOf side (i .n)) s starts runs index
+  pub held : PlaceReady (patternOf side i) (i .n) k t (cutsOf side (i .n)) s starts runs index
   pub ready : SideReady side (i .n) k window (rowsIn i s) s
 
 -- the same, for some column order and some list starts: neither is lent
@@ -128,13 +128,13 @@ pub record Keeping (way : Way) (n k cuts values : ℕ) (starts runs index s : Li
   pub stamp : ℕ
   pub keep : Keep way pattern n k stamp cuts store values starts runs index s o e
 
-pub record Kept (way : Way) (P : Pattern) (n k cuts : ℕ) (store : List ℕ) (values : ℕ) (starts runs index s₀ s : List ℕ) (e : Extent) : Type 0 where
+pub record ListKept (way : Way) (P : Pattern) (n k cuts : ℕ) (store : List ℕ) (values : ℕ) (starts runs index s₀ s : List ℕ) (e : Extent) : Type 0 where
   pub fits : room (wayOf way) (upperRow P n) (lowerRow P) (length store) values k ≡ true
   pub at : ListsAt way P n (k + 1) cuts store values starts runs index s e
   pub but : But cuts (cuts + k + 1) s₀ s
 
 abbrev pub KeepEnds : Way → Pattern → ℕ → ℕ → ℕ → List ℕ → ℕ → List ℕ → List ℕ → List ℕ → List ℕ → List ℕ → Put → Type 0
-KeepEnds way P n k cuts store values starts runs index s₀ s (Done e) = Kept way P n k cuts store values starts runs index s₀ s e
+KeepEnds way P n k cuts store values starts runs index s₀ s (Done e) = ListKept way P n k cuts store values starts runs index s₀ s e
 KeepEnds way P n k cuts store values starts runs index s₀ s Full = room (wayOf way) (upperRow P n) (lowerRow P) (length store) values k ≡ false
 
 -- ---- keeping lower row k in the plain form

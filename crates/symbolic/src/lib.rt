@@ -10,9 +10,9 @@ ghost use Rattle.fill.specs.Fill.{Pattern};
 ghost use Rattle.marks.specs.Rows.{rowSteps};
 ghost use Rattle.base.specs.Lists.{blank, sum};
 ghost use Rattle.base.specs.declared.Form.{Form};
-ghost use Rattle.placing.specs.declared.Way.{Way};
+ghost use Rattle.storing.specs.declared.Way.{Way};
 ghost use Rattle.questions.specs.Lent.{invertedAt, InverseLent};
-ghost use Rattle.symbolic.specs.Pass.{At, Due, TurnEnds, noProgress, countsAt, slotsOf, Found, FoundBoth, MatrixLent, PlainLent, RowLent, SharedLent, ColumnsBegun};
+ghost use Rattle.symbolic.specs.Pass.{At, Due, TurnEnds, noProgress, countsAt, slotsOf, Analyzed, AnalyzedBoth, MatrixLent, PlainLent, RowLent, SharedLent, ColumnsBegun};
 ghost use Rattle.symbolic.specs.Places.{cutsOf, Open, Opening, OpenEnds, Keep, Keeping, KeepEnds, KeepLower, KeepingLower, LowerEnds, Adding, Addable, SideAt, SideDue, SideEnds};
 ghost use Rattle.base.specs.Scratch.{upperCuts};
 ghost use Rattle.base.specs.Limits.{maxRows};
@@ -23,9 +23,9 @@ use base::Place;
 use base::Refusal;
 use base::Side;
 use base::scratch;
-use placing::Extent;
-use placing::Put;
-use placing::Way;
+use storing::Extent;
+use storing::Put;
+use storing::Way;
 
 // A place's lists in scratch: how long its lower row and its T(k) are, and the end of the window of columns at hand.
 pub struct OpenRow {
@@ -131,7 +131,7 @@ fn share_list(
     let at = scratch::LIST * n;
     let mid = at + row.below;
     let end = mid + row.above;
-    let put = placing::place_list(
+    let put = storing::place_list(
         Way::Sharing,
         starts,
         runs,
@@ -167,7 +167,7 @@ fn append_upper(
 {
     let mid = scratch::LIST * n + row.below;
     let end = mid + row.above;
-    let put = placing::append_list(starts, index, values, &marks[mid..end], k, e);
+    let put = storing::append_list(starts, index, values, &marks[mid..end], k, e);
     match put {
         Put::Done(next) => {
             marks::renew_cuts(
@@ -202,7 +202,7 @@ fn append_lower(
 {
     let at = scratch::LIST * n;
     let mid = at + below;
-    placing::append_list(starts, index, values, &marks[at..mid], k, e)
+    storing::append_list(starts, index, values, &marks[at..mid], k, e)
 }
 
 // The products of place k, added to those before it: its lower row stands in scratch.
@@ -418,7 +418,7 @@ pub fn analyze_plain(
     marks: &mut [u32],
 ) -> Answer
     requires { ⌜ PlainLent (inputOf n (now starts) (now columns) [] (now r) (now c) []) (now «lower_starts») (now «lower_index») «lower_values» (now «upper_starts») (now «upper_index») «upper_values» (length (now marks)) ⌝ }
-    ensures { λ a. ⌜ FoundBoth Form.Plain (inputOf n (now (starts .entry)) (now (columns .entry)) [] (now (r .entry)) (now (c .entry)) []) (slotsOf (length (now («lower_index» .entry))) «lower_values» (length (now («upper_index» .entry))) «upper_values») (now («lower_starts» .exit)) (now («lower_starts» .exit)) (now («lower_index» .exit)) «lower_values» (now («upper_starts» .exit)) (now («upper_starts» .exit)) (now («upper_index» .exit)) «upper_values» a ⌝ }
+    ensures { λ a. ⌜ AnalyzedBoth Form.Plain (inputOf n (now (starts .entry)) (now (columns .entry)) [] (now (r .entry)) (now (c .entry)) []) (slotsOf (length (now («lower_index» .entry))) «lower_values» (length (now («upper_index» .entry))) «upper_values») (now («lower_starts» .exit)) (now («lower_starts» .exit)) (now («lower_index» .exit)) «lower_values» (now («upper_starts» .exit)) (now («upper_starts» .exit)) (now («upper_index» .exit)) «upper_values» a ⌝ }
 {
     base::clear_u32(lower_starts);
     base::clear_index(lower_index);
@@ -528,7 +528,7 @@ pub fn analyze_by_row(
     marks: &mut [u32],
 ) -> Answer
     requires { ⌜ RowLent (inputOf n (now starts) (now columns) [] (now r) (now c) []) (now «upper_starts») (now «upper_runs») (now «upper_index») «upper_values» (length (now marks)) ⌝ }
-    ensures { λ a. ⌜ Found Form.ByRow (inputOf n (now (starts .entry)) (now (columns .entry)) [] (now (r .entry)) (now (c .entry)) []) (slotsOf 0 0 (length (now («upper_index» .entry))) «upper_values») (now («upper_starts» .exit)) (now («upper_runs» .exit)) (now («upper_index» .exit)) «upper_values» a ⌝ }
+    ensures { λ a. ⌜ Analyzed Form.ByRow (inputOf n (now (starts .entry)) (now (columns .entry)) [] (now (r .entry)) (now (c .entry)) []) (slotsOf 0 0 (length (now («upper_index» .entry))) «upper_values») (now («upper_starts» .exit)) (now («upper_runs» .exit)) (now («upper_index» .exit)) «upper_values» a ⌝ }
 {
     base::clear_u32(upper_starts);
     base::clear_index(upper_index);
@@ -660,7 +660,7 @@ pub fn analyze_shared(
     marks: &mut [u32],
 ) -> Answer
     requires { ⌜ SharedLent (inputOf n (now starts) (now columns) [] (now r) (now c) []) (now «lower_starts») (now «lower_runs») (now «lower_index») «lower_values» (now «upper_starts») (now «upper_runs») (now «upper_index») «upper_values» (length (now marks)) ⌝ }
-    ensures { λ a. ⌜ FoundBoth Form.Shared (inputOf n (now (starts .entry)) (now (columns .entry)) [] (now (r .entry)) (now (c .entry)) []) (slotsOf (length (now («lower_index» .entry))) «lower_values» (length (now («upper_index» .entry))) «upper_values») (now («lower_starts» .exit)) (now («lower_runs» .exit)) (now («lower_index» .exit)) «lower_values» (now («upper_starts» .exit)) (now («upper_runs» .exit)) (now («upper_index» .exit)) «upper_values» a ⌝ }
+    ensures { λ a. ⌜ AnalyzedBoth Form.Shared (inputOf n (now (starts .entry)) (now (columns .entry)) [] (now (r .entry)) (now (c .entry)) []) (slotsOf (length (now («lower_index» .entry))) «lower_values» (length (now («upper_index» .entry))) «upper_values») (now («lower_starts» .exit)) (now («lower_runs» .exit)) (now («lower_index» .exit)) «lower_values» (now («upper_starts» .exit)) (now («upper_runs» .exit)) (now («upper_index» .exit)) «upper_values» a ⌝ }
 {
     base::clear_u32(lower_starts);
     base::clear_index(lower_index);

@@ -1,7 +1,5 @@
 use Rattle.base.proofs.is_finite.Statement.{statement}
 use Rattle.base.proofs.is_finite.Tie as tie
-use Rattle.base.proofs.is_finite.Reads as reads
-use Rattle.base.proofs.is_finite.Lts as lts
 use lib.Ieee.{ofBits}
 use Rattle.base.proofs.Finite.{test}
 

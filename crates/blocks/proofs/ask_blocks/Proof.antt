@@ -1,11 +1,7 @@
 use Rattle.blocks.proofs.FileLaws.{asked-16, block-fits, asked-17, asked-pass}
-use native.Mathlib.Omega.{arith}
 use borrow.Author.Needs.{needs}
 use Rattle.blocks.proofs.ask_blocks.Statement.{statement}
 use Rattle.blocks.proofs.ask_blocks.Tie as tie
-use Rattle.blocks.proofs.ask_blocks.Reads as reads
-use Rattle.blocks.proofs.ask_blocks.Lts as lts
-use Rattle.blocks.proofs.first_wrong.Reads as first-wrong-reads
 
 returns : tie.Need-returns
 returns c = asked-16 _ (c .if1 .taken)

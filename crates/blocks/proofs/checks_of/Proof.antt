@@ -5,9 +5,6 @@ use native.Mathlib.Omega.{arith}
 use borrow.Author.Needs.{needs}
 use Rattle.blocks.proofs.checks_of.Statement.{statement}
 use Rattle.blocks.proofs.checks_of.Tie as tie
-use Rattle.blocks.proofs.checks_of.Reads as reads
-use Rattle.blocks.proofs.checks_of.Lts as lts
-use Rattle.blocks.proofs.wide.Reads as wide-reads
 
 abbrev Inv-loop : tie.InvT-loop
 Inv-loop file from a₀ b₀ i₀ a b i = Running (byteFrom file from) i a b

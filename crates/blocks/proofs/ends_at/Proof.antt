@@ -1,11 +1,7 @@
 use borrow.Author.Tests.{eq-eqb, ne-eqb}
-use native.Mathlib.Omega.{arith}
 use borrow.Author.Needs.{needs}
 use Rattle.blocks.proofs.ends_at.Statement.{statement}
 use Rattle.blocks.proofs.ends_at.Tie as tie
-use Rattle.blocks.proofs.ends_at.Reads as reads
-use Rattle.blocks.proofs.ends_at.Lts as lts
-use Rattle.fields.proofs.zero_from.Reads as zero-from-reads
 
 add-if1 : tie.Need-add-if1
 add-if1 c = search needs

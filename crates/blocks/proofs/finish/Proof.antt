@@ -1,13 +1,8 @@
 use mathlib.Core.Path.{_∙_}
 use Rattle.blocks.proofs.FileLaws.{finished}
-use native.Mathlib.Omega.{arith}
 use borrow.Author.Needs.{needs}
 use Rattle.blocks.proofs.finish.Statement.{statement}
 use Rattle.blocks.proofs.finish.Tie as tie
-use Rattle.blocks.proofs.finish.Reads as reads
-use Rattle.blocks.proofs.finish.Lts as lts
-use Rattle.blocks.proofs.seal_all.Reads as seal-all-reads
-use Rattle.fields.proofs.put_zeros.Reads as put-zeros-reads
 
 put-zeros-requires : tie.Need-put-zeros-requires
 put-zeros-requires c κs = search needs

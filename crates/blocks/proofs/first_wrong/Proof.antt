@@ -6,12 +6,8 @@ use Rattle.base.specs.declared.Found.the-variants.{Nothing}
 use Rattle.blocks.specs.Blocks.{wrongBlock}
 use Rattle.blocks.proofs.CheckLaws.{wrong-from}
 use borrow.Author.Needs.{needs}
-use native.Mathlib.Omega.{arith}
 use Rattle.blocks.proofs.first_wrong.Statement.{statement}
 use Rattle.blocks.proofs.first_wrong.Tie as tie
-use Rattle.blocks.proofs.first_wrong.Reads as reads
-use Rattle.blocks.proofs.first_wrong.Lts as lts
-use Rattle.blocks.proofs.right_block.Reads as right-block-reads
 
 abbrev Inv-loop : tie.InvT-loop
 Inv-loop file n k₀ k = (k ≤ n) × (first (wrongBlock file) k ≡ Nothing)

@@ -5,9 +5,6 @@ use native.Mathlib.Omega.{arith}
 use borrow.Author.Needs.{needs}
 use Rattle.blocks.proofs.number_in.Statement.{statement}
 use Rattle.blocks.proofs.number_in.Tie as tie
-use Rattle.blocks.proofs.number_in.Reads as reads
-use Rattle.blocks.proofs.number_in.Lts as lts
-use Rattle.blocks.proofs.wide.Reads as wide-reads
 
 abbrev Inv-loop : tie.InvT-loop
 Inv-loop file from at width n₀ left₀ n left = Reading (byteFrom file from) width at left n

@@ -4,8 +4,6 @@ use native.Mathlib.Omega.{arith}
 use borrow.Author.Needs.{needs}
 use Rattle.blocks.proofs.put_bytes.Statement.{statement}
 use Rattle.blocks.proofs.put_bytes.Tie as tie
-use Rattle.blocks.proofs.put_bytes.Reads as reads
-use Rattle.blocks.proofs.put_bytes.Lts as lts
 
 abbrev Inv-loop : tie.InvT-loop
 Inv-loop file₀ at width v rest₀ i₀ file rest i = Storing file₀ at width v file rest i

@@ -1,13 +1,8 @@
 use Rattle.blocks.specs.Blocks.{rightBlock}
 use Rattle.blocks.proofs.CheckLaws.{right-from}
-use native.Mathlib.Omega.{arith}
 use borrow.Author.Needs.{needs}
 use Rattle.blocks.proofs.right_block.Statement.{statement}
 use Rattle.blocks.proofs.right_block.Tie as tie
-use Rattle.blocks.proofs.right_block.Reads as reads
-use Rattle.blocks.proofs.right_block.Lts as lts
-use Rattle.blocks.proofs.checks_of.Reads as checks-of-reads
-use Rattle.blocks.proofs.number_in.Reads as number-in-reads
 
 mul-from : tie.Need-mul-from
 mul-from c = search needs

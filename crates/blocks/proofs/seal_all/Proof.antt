@@ -4,9 +4,6 @@ use borrow.Author.Needs.{needs}
 use native.Mathlib.Omega.{arith}
 use Rattle.blocks.proofs.seal_all.Statement.{statement}
 use Rattle.blocks.proofs.seal_all.Tie as tie
-use Rattle.blocks.proofs.seal_all.Reads as reads
-use Rattle.blocks.proofs.seal_all.Lts as lts
-use Rattle.blocks.proofs.seal_block.Reads as seal-block-reads
 
 abbrev Inv-loop : tie.InvT-loop
 Inv-loop file₀ n k₀ file k = Sealing file₀ n file k

@@ -1,12 +1,7 @@
 use Rattle.blocks.proofs.SealLaws.{block-sealed}
-use native.Mathlib.Omega.{arith}
 use borrow.Author.Needs.{needs}
 use Rattle.blocks.proofs.seal_block.Statement.{statement}
 use Rattle.blocks.proofs.seal_block.Tie as tie
-use Rattle.blocks.proofs.seal_block.Reads as reads
-use Rattle.blocks.proofs.seal_block.Lts as lts
-use Rattle.blocks.proofs.checks_of.Reads as checks-of-reads
-use Rattle.blocks.proofs.put_bytes.Reads as put-bytes-reads
 
 mul-from : tie.Need-mul-from
 mul-from c = search needs

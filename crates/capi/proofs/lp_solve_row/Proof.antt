@@ -1,5 +1,4 @@
 use Rattle.report.proofs.Laws.{told}
-use native.Mathlib.Omega.{arith}
 use borrow.Author.Needs.{needs}
 use Rattle.capi.proofs.lp_solve_row.Statement.{statement}
 use Rattle.capi.proofs.lp_solve_row.Tie as tie

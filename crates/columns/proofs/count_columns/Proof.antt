@@ -1,6 +1,6 @@
 use Prim.Native.Nat.{_-_, _≤_}
 use Rattle.lent.specs.Reading.{orderOf}
-use Rattle.columns.specs.Columns.{rowsOf, column, Tally}
+use Rattle.columns.specs.Columns.{placesByRow, column, Tally}
 use Rattle.columns.proofs.WindowLaws.{tally-start, tally-room, tally-more, tally-end}
 use Rattle.columns.proofs.Keeps.{row-is, row-below, order-kept, given-kept}
 use borrow.Author.Needs.{needs}
@@ -9,7 +9,7 @@ use Rattle.columns.proofs.count_columns.Statement.{statement}
 use Rattle.columns.proofs.count_columns.Tie as tie
 
 abbrev Inv-loop : tie.InvT-loop
-Inv-loop s₀ n starts columns r k₀ s k = (k ≤ n) × Tally n (column (rowsOf (orderOf n s₀) starts columns r) k) s₀ s
+Inv-loop s₀ n starts columns r k₀ s k = (k ≤ n) × Tally n (column (placesByRow (orderOf n s₀) starts columns r) k) s₀ s
 
 abbrev μ-loop : tie.MeasureT-loop
 μ-loop s₀ n starts columns r k₀ s k = n - k

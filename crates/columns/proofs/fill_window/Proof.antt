@@ -1,6 +1,6 @@
 use Prim.Native.Nat.{_-_, _≤_}
 use Rattle.lent.specs.Reading.{orderOf}
-use Rattle.columns.specs.Columns.{rowsOf}
+use Rattle.columns.specs.Columns.{placesByRow}
 use Rattle.columns.proofs.WindowLaws.{Filling, fill-start, fill-room, fill-more, fill-end}
 use Rattle.columns.proofs.Keeps.{row-is, row-below, order-kept, given-kept}
 use borrow.Author.Needs.{needs}
@@ -9,7 +9,7 @@ use Rattle.columns.proofs.fill_window.Statement.{statement}
 use Rattle.columns.proofs.fill_window.Tie as tie
 
 abbrev Inv-loop : tie.InvT-loop
-Inv-loop s₀ n lo hi starts columns r p₀ k₀ s p k = (k ≤ n) × Filling n lo hi k (rowsOf (orderOf n s₀) starts columns r) s₀ s p
+Inv-loop s₀ n lo hi starts columns r p₀ k₀ s p k = (k ≤ n) × Filling n lo hi k (placesByRow (orderOf n s₀) starts columns r) s₀ s p
 
 abbrev μ-loop : tie.MeasureT-loop
 μ-loop s₀ n lo hi starts columns r p₀ k₀ s p k = n - k

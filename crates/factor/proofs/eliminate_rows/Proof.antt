@@ -1,5 +1,5 @@
 use mathlib.Core.Path.{_∙_}
-use Rattle.factor.specs.TurnLaws.{Sizes, sizes-none, sizes-then, came-on, came-off, came-done}
+use Rattle.factor.specs.TurnLaws.{SameSizes, sizes-none, sizes-then, came-on, came-off, came-done}
 use Rattle.factor.specs.Factoring.{written, lists, Going}
 use Rattle.matrix.specs.Input.{inputOf}
 use mathlib.Core.List.{List}
@@ -12,7 +12,7 @@ use Rattle.factor.proofs.eliminate_rows.Tie as tie
 
 abbrev Inv-loop : tie.InvT-loop
 Inv-loop form n starts columns values r b lstarts lindex lvalues₀ ustarts uruns uindex uvalues₀ d₀ work₀ marks₀ k₀ lvalues uvalues d work marks k =
-    (k ≤ n) × Sizes (written lvalues₀ uvalues₀ d₀ work₀ marks₀) (written lvalues uvalues d work marks)
+    (k ≤ n) × SameSizes (written lvalues₀ uvalues₀ d₀ work₀ marks₀) (written lvalues uvalues d work marks)
     × ((c : List ℕ) → Going form (inputOf n starts columns values r c b) (lists lstarts lindex ustarts uruns uindex) 0 (written lvalues₀ uvalues₀ d₀ work₀ marks₀)
     → Going form (inputOf n starts columns values r c b) (lists lstarts lindex ustarts uruns uindex) k (written lvalues uvalues d work marks))
 

@@ -1,11 +1,9 @@
 use borrow.Author.Needs.{needs}
-use mathlib.Core.Path.{refl, sym, ap, _∙_}
+use mathlib.Core.Path.{sym, ap, _∙_}
 use lib.Ieee.{binary64, toBits}
 use Rattle.fields.proofs.FloatLaws.{ne-nan, no-nan, toBits-nan}
 use Rattle.fields.proofs.bits_of.Statement.{statement}
 use Rattle.fields.proofs.bits_of.Tie as tie
-use Rattle.fields.proofs.bits_of.Reads as reads
-use Rattle.fields.proofs.bits_of.Lts as lts
 
 returns : tie.Need-returns
 returns c = sym (ap (toBits binary64) (ne-nan _ (c .if1 .taken)) ∙ toBits-nan)

@@ -1,11 +1,9 @@
 use borrow.Author.Needs.{needs}
-use mathlib.Core.Path.{refl, sym, ap, _∙_}
+use mathlib.Core.Path.{sym}
 use lib.Ieee.{div, ofBits}
 use Rattle.fields.proofs.FloatLaws.{above-nan, not-above}
 use Rattle.fields.proofs.float_of.Statement.{statement}
 use Rattle.fields.proofs.float_of.Tie as tie
-use Rattle.fields.proofs.float_of.Reads as reads
-use Rattle.fields.proofs.float_of.Lts as lts
 
 float-from-bits-result : tie.Need-float-from-bits-result
 float-from-bits-result c = rw (not-above _ (c .if1 .left)) tt

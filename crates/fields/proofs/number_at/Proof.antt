@@ -1,14 +1,10 @@
 use borrow.Author.Needs.{needs}
 use native.Mathlib.Omega.{arith}
-use mathlib.Core.Path.{_≡_, refl}
-use Prim.Native.Nat.{_≤_, _<_, _+_, _-_, _*_, _^_}
+use Prim.Native.Nat.{_-_}
 use Rattle.fields.specs.Payload.{payload}
 use Rattle.fields.proofs.NumberLaws.{Reading, read-start, read-more, read-room, read-end}
 use Rattle.fields.proofs.number_at.Statement.{statement}
 use Rattle.fields.proofs.number_at.Tie as tie
-use Rattle.fields.proofs.number_at.Reads as reads
-use Rattle.fields.proofs.number_at.Lts as lts
-use Rattle.fields.proofs.payload_byte.Reads as payload-byte-reads
 
 abbrev Inv-loop : tie.InvT-loop
 Inv-loop file at width n₀ left₀ n left = Reading (payload file) width at left n

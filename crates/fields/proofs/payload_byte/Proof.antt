@@ -1,7 +1,6 @@
 use borrow.Author.Needs.{needs}
 use native.Mathlib.Omega.{arith}
 use mathlib.Core.Path.{refl}
-use Prim.Native.Nat.{_+_, _*_, _/_, _%_}
 use Rattle.fields.specs.Payload.{place}
 use Rattle.fields.proofs.payload_byte.Statement.{statement}
 use Rattle.fields.proofs.payload_byte.Tie as tie

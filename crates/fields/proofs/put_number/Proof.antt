@@ -5,8 +5,6 @@ use borrow.Author.Needs.{needs}
 use native.Mathlib.Omega.{arith}
 use Rattle.fields.proofs.put_number.Statement.{statement}
 use Rattle.fields.proofs.put_number.Tie as tie
-use Rattle.fields.proofs.put_number.Reads as reads
-use Rattle.fields.proofs.put_number.Lts as lts
 
 abbrev Inv-loop : tie.InvT-loop
 Inv-loop file₀ at width v rest₀ i₀ file rest i = Putting file₀ at width v file rest i

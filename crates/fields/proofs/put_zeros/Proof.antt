@@ -4,9 +4,6 @@ use borrow.Author.Needs.{needs}
 use native.Mathlib.Omega.{arith}
 use Rattle.fields.proofs.put_zeros.Statement.{statement}
 use Rattle.fields.proofs.put_zeros.Tie as tie
-use Rattle.fields.proofs.put_zeros.Reads as reads
-use Rattle.fields.proofs.put_zeros.Lts as lts
-use Rattle.fields.proofs.put_number.Reads as put-number-reads
 
 abbrev Inv-loop : tie.InvT-loop
 Inv-loop file₀ from end i₀ file i = Zeroing file₀ from file i

@@ -6,13 +6,8 @@ use Rattle.base.specs.TableLaws.{Filling, fill-more, fill-end}
 use Rattle.fields.specs.Payload.{fieldAt, fieldsAt, floatsAt}
 use Rattle.fields.proofs.PartLaws.{map-table}
 use borrow.Author.Needs.{needs}
-use native.Mathlib.Omega.{arith}
 use Rattle.fields.proofs.read_f64s.Statement.{statement}
 use Rattle.fields.proofs.read_f64s.Tie as tie
-use Rattle.fields.proofs.read_f64s.Reads as reads
-use Rattle.fields.proofs.read_f64s.Lts as lts
-use Rattle.fields.proofs.float_of.Reads as float-of-reads
-use Rattle.fields.proofs.number_at.Reads as number-at-reads
 
 abbrev Inv-loop : tie.InvT-loop
 Inv-loop file at out₀ n i₀ out i = Filling (λ k. ofBits binary64 (fieldAt 8 file at k)) n out i

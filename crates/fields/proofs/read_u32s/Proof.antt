@@ -3,12 +3,8 @@ use Prim.Native.Nat.{_-_}
 use Rattle.base.specs.TableLaws.{Filling, fill-more, fill-end}
 use Rattle.fields.specs.Payload.{fieldAt, fieldsAt}
 use borrow.Author.Needs.{needs}
-use native.Mathlib.Omega.{arith}
 use Rattle.fields.proofs.read_u32s.Statement.{statement}
 use Rattle.fields.proofs.read_u32s.Tie as tie
-use Rattle.fields.proofs.read_u32s.Reads as reads
-use Rattle.fields.proofs.read_u32s.Lts as lts
-use Rattle.fields.proofs.number_at.Reads as number-at-reads
 
 abbrev Inv-loop : tie.InvT-loop
 Inv-loop file at out₀ n i₀ out i = Filling (fieldAt 4 file at) n out i

@@ -6,13 +6,8 @@ use Rattle.base.specs.TableLaws.{getD-map-lt}
 use Rattle.fields.specs.Payload.{bitsOf}
 use Rattle.fields.proofs.PutLaws.{Writing, write-start, write-more, write-end}
 use borrow.Author.Needs.{needs}
-use native.Mathlib.Omega.{arith}
 use Rattle.fields.proofs.write_f64s.Statement.{statement}
 use Rattle.fields.proofs.write_f64s.Tie as tie
-use Rattle.fields.proofs.write_f64s.Reads as reads
-use Rattle.fields.proofs.write_f64s.Lts as lts
-use Rattle.fields.proofs.bits_of.Reads as bits-of-reads
-use Rattle.fields.proofs.put_number.Reads as put-number-reads
 
 abbrev Inv-loop : tie.InvT-loop
 Inv-loop file₀ at src p₀ i₀ file p i = Writing 8 file₀ at (bitsOf src) file p i

@@ -6,9 +6,6 @@ use borrow.Author.Needs.{needs}
 use native.Mathlib.Omega.{arith}
 use Rattle.fields.proofs.write_indices.Statement.{statement}
 use Rattle.fields.proofs.write_indices.Tie as tie
-use Rattle.fields.proofs.write_indices.Reads as reads
-use Rattle.fields.proofs.write_indices.Lts as lts
-use Rattle.fields.proofs.put_number.Reads as put-number-reads
 
 abbrev Inv-loop : tie.InvT-loop
 Inv-loop file₀ at src p₀ i₀ file p i = Writing 2 file₀ at src file p i

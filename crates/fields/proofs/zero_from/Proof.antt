@@ -3,15 +3,11 @@ use mathlib.Core.Path.{_≡_}
 use Rattle.base.specs.First.{first}
 use Rattle.base.specs.FirstLaws.{first-zero}
 use Rattle.base.specs.declared.Found.the-variants.{Nothing}
-use Rattle.fields.specs.Payload.{room, marked}
+use Rattle.fields.specs.Payload.{marked}
 use Rattle.fields.proofs.ZeroLaws.{zero-hit, zero-on, zero-all}
 use borrow.Author.Needs.{needs}
-use native.Mathlib.Omega.{arith}
 use Rattle.fields.proofs.zero_from.Statement.{statement}
 use Rattle.fields.proofs.zero_from.Tie as tie
-use Rattle.fields.proofs.zero_from.Reads as reads
-use Rattle.fields.proofs.zero_from.Lts as lts
-use Rattle.fields.proofs.payload_byte.Reads as payload-byte-reads
 
 abbrev Inv-loop : tie.InvT-loop
 Inv-loop file from count i₀ i = (i ≤ count) × (first (marked file from) i ≡ Nothing)

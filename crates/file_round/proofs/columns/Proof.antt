@@ -1,12 +1,7 @@
 use Prim.Native.Nat.{_-_, _≤_}
-use mathlib.Core.Path.{_≡_}
-use lib.ListN.{length}
 use borrow.Author.Needs.{needs}
-use native.Mathlib.Omega.{arith}
 use Rattle.file_round.proofs.columns.Statement.{statement}
 use Rattle.file_round.proofs.columns.Tie as tie
-use Rattle.file_round.proofs.columns.Reads as reads
-use Rattle.file_round.proofs.columns.Lts as lts
 
 abbrev Inv-loop : tie.InvT-loop
 Inv-loop out₀ i₀ out i = i ≤ 40

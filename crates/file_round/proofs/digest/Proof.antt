@@ -1,12 +1,8 @@
 use Prim.Native.Nat.{_-_, _≤_}
 use lib.ListN.{length}
 use borrow.Author.Needs.{needs}
-use native.Mathlib.Omega.{arith}
 use Rattle.file_round.proofs.digest.Statement.{statement}
 use Rattle.file_round.proofs.digest.Tie as tie
-use Rattle.file_round.proofs.digest.Reads as reads
-use Rattle.file_round.proofs.digest.Lts as lts
-use Rattle.file_round.proofs.wide.Reads as wide-reads
 
 abbrev Inv-loop : tie.InvT-loop
 Inv-loop bytes h₀ i₀ h i = i ≤ length bytes

@@ -1,5 +1,4 @@
 use borrow.Author.Needs.{needs}
-use native.Mathlib.Omega.{arith}
 use Rattle.lookup.proofs.list_shared.Statement.{statement}
 use Rattle.lookup.proofs.list_shared.Tie as tie
 use Rattle.lookup.specs.LookupLaws.{part-fits, part-handed}

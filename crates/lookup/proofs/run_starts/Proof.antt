@@ -1,5 +1,4 @@
 use borrow.Author.Needs.{needs}
-use native.Mathlib.Omega.{arith}
 use Rattle.lookup.proofs.run_starts.Statement.{statement}
 use Rattle.lookup.proofs.run_starts.Tie as tie
 

@@ -1,4 +1,3 @@
-use borrow.Author.Needs.{needs}
 use native.Mathlib.Omega.{arith}
 use Rattle.lookup.proofs.side_fits.Statement.{statement}
 use Rattle.lookup.proofs.side_fits.Tie as tie

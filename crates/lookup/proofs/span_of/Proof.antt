@@ -1,5 +1,4 @@
 use borrow.Author.Needs.{needs}
-use native.Mathlib.Omega.{arith}
 use Rattle.lookup.proofs.span_of.Statement.{statement}
 use Rattle.lookup.proofs.span_of.Tie as tie
 use Rattle.lookup.specs.LookupLaws.{span-named, lower-lent, upper-lent}

@@ -1,13 +1,9 @@
 use Rattle.matrix_file.specs.MatrixFile.{askHead}
 use Rattle.blocks.proofs.AskLaws.{then-no, then-yes, holds-no, holds-yes}
 use Rattle.matrix_file.proofs.CallLaws.{range-of}
-use native.Mathlib.Omega.{arith}
 use borrow.Author.Needs.{needs}
 use Rattle.matrix_file.proofs.ask_head.Statement.{statement}
 use Rattle.matrix_file.proofs.ask_head.Tie as tie
-use Rattle.matrix_file.proofs.ask_head.Reads as reads
-use Rattle.matrix_file.proofs.ask_head.Lts as lts
-use Rattle.matrix_file.proofs.fits_shape.Reads as fits-shape-reads
 
 rows-within-requires : tie.Need-rows-within-requires
 rows-within-requires c κs = search needs

@@ -3,9 +3,6 @@ use native.Mathlib.Omega.{arith}
 use borrow.Author.Needs.{needs}
 use Rattle.matrix_file.proofs.ask_write.Statement.{statement}
 use Rattle.matrix_file.proofs.ask_write.Tie as tie
-use Rattle.matrix_file.proofs.ask_write.Reads as reads
-use Rattle.matrix_file.proofs.ask_write.Lts as lts
-use Rattle.matrix_file.proofs.lengths_right.Reads as lengths-right-reads
 
 rows-within-requires : tie.Need-rows-within-requires
 rows-within-requires c κs = search needs

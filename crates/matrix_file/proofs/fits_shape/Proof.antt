@@ -1,12 +1,8 @@
 use borrow.Author.Tests.{le-leb, lt-leb}
 use Rattle.base.specs.Limits.{maxEntries}
-use native.Mathlib.Omega.{arith}
 use borrow.Author.Needs.{needs}
 use Rattle.matrix_file.proofs.fits_shape.Statement.{statement}
 use Rattle.matrix_file.proofs.fits_shape.Tie as tie
-use Rattle.matrix_file.proofs.fits_shape.Reads as reads
-use Rattle.matrix_file.proofs.fits_shape.Lts as lts
-use Rattle.blocks.proofs.ends_at.Reads as ends-at-reads
 
 returns : tie.Need-returns
 returns c = rw (lt-leb (c .before .before .args .e) maxEntries (c .if1 .taken))

@@ -1,12 +1,7 @@
 use Rattle.matrix_file.proofs.CallLaws.{head-pass, head-stop}
-use native.Mathlib.Omega.{arith}
 use borrow.Author.Needs.{needs}
 use Rattle.matrix_file.proofs.head_shape.Statement.{statement}
 use Rattle.matrix_file.proofs.head_shape.Tie as tie
-use Rattle.matrix_file.proofs.head_shape.Reads as reads
-use Rattle.matrix_file.proofs.head_shape.Lts as lts
-use Rattle.matrix_file.proofs.ask_head.Reads as ask-head-reads
-use Rattle.matrix_file.proofs.sizes_of.Reads as sizes-of-reads
 
 sizes-of-requires : tie.Need-sizes-of-requires
 sizes-of-requires c κs = search needs

@@ -3,12 +3,6 @@ use native.Mathlib.Omega.{arith}
 use borrow.Author.Needs.{needs}
 use Rattle.matrix_file.proofs.lay_matrix.Statement.{statement}
 use Rattle.matrix_file.proofs.lay_matrix.Tie as tie
-use Rattle.matrix_file.proofs.lay_matrix.Reads as reads
-use Rattle.matrix_file.proofs.lay_matrix.Lts as lts
-use Rattle.fields.proofs.put_number.Reads as put-number-reads
-use Rattle.fields.proofs.write_f64s.Reads as write-f64s-reads
-use Rattle.fields.proofs.write_indices.Reads as write-indices-reads
-use Rattle.fields.proofs.write_u32s.Reads as write-u32s-reads
 
 put-number-requires : tie.Need-put-number-requires
 put-number-requires c κs = search needs

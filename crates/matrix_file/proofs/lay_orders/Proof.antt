@@ -4,10 +4,6 @@ use native.Mathlib.Omega.{arith}
 use borrow.Author.Needs.{needs}
 use Rattle.matrix_file.proofs.lay_orders.Statement.{statement}
 use Rattle.matrix_file.proofs.lay_orders.Tie as tie
-use Rattle.matrix_file.proofs.lay_orders.Reads as reads
-use Rattle.matrix_file.proofs.lay_orders.Lts as lts
-use Rattle.fields.proofs.write_f64s.Reads as write-f64s-reads
-use Rattle.fields.proofs.write_indices.Reads as write-indices-reads
 
 write-indices-requires : tie.Need-write-indices-requires
 write-indices-requires c κs = search needs

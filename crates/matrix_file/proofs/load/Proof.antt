@@ -1,13 +1,7 @@
 use Rattle.matrix_file.proofs.CallLaws.{loaded}
-use native.Mathlib.Omega.{arith}
 use borrow.Author.Needs.{needs}
 use Rattle.matrix_file.proofs.load.Statement.{statement}
 use Rattle.matrix_file.proofs.load.Tie as tie
-use Rattle.matrix_file.proofs.load.Reads as reads
-use Rattle.matrix_file.proofs.load.Lts as lts
-use Rattle.fields.proofs.read_f64s.Reads as read-f64s-reads
-use Rattle.fields.proofs.read_indices.Reads as read-indices-reads
-use Rattle.fields.proofs.read_u32s.Reads as read-u32s-reads
 
 read-u32s-requires : tie.Need-read-u32s-requires
 read-u32s-requires c κs = search needs

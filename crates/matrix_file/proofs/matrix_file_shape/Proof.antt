@@ -1,12 +1,7 @@
 use Rattle.matrix_file.proofs.CallLaws.{head-room, shape-head, shape-stop}
-use native.Mathlib.Omega.{arith}
 use borrow.Author.Needs.{needs}
 use Rattle.matrix_file.proofs.matrix_file_shape.Statement.{statement}
 use Rattle.matrix_file.proofs.matrix_file_shape.Tie as tie
-use Rattle.matrix_file.proofs.matrix_file_shape.Reads as reads
-use Rattle.matrix_file.proofs.matrix_file_shape.Lts as lts
-use Rattle.blocks.proofs.ask_blocks.Reads as ask-blocks-reads
-use Rattle.matrix_file.proofs.head_shape.Reads as head-shape-reads
 
 ask-blocks-requires : tie.Need-ask-blocks-requires
 ask-blocks-requires c κs = search needs

@@ -1,14 +1,8 @@
-use Rattle.matrix_file.specs.MatrixFile.{listsOf}
+use Rattle.matrix_file.specs.MatrixFile.{matrixLists}
 use Rattle.matrix_file.proofs.CallLaws.{rows-most, read-stop, read-lengths, read-room, read-done}
-use native.Mathlib.Omega.{arith}
 use borrow.Author.Needs.{needs}
 use Rattle.matrix_file.proofs.read_matrix.Statement.{statement}
 use Rattle.matrix_file.proofs.read_matrix.Tie as tie
-use Rattle.matrix_file.proofs.read_matrix.Reads as reads
-use Rattle.matrix_file.proofs.read_matrix.Lts as lts
-use Rattle.matrix_file.proofs.lengths_right.Reads as lengths-right-reads
-use Rattle.matrix_file.proofs.load.Reads as load-reads
-use Rattle.matrix_file.proofs.matrix_file_shape.Reads as matrix-file-shape-reads
 
 matrix-file-shape-requires : tie.Need-matrix-file-shape-requires
 matrix-file-shape-requires c κs = search needs
@@ -27,7 +21,7 @@ returns c = read-lengths _ _ _ (c .before .before .before .before .before .matri
 
 load-requires : tie.Need-load-requires
 load-requires c κs =
-    let lists = (listsOf (c .before .before .before .before .before .before .before .before .before .before .before .before .before .before .before .before .before .before .before .args .starts .now) (c .before .before .before .before .before .before .before .before .before .before .before .before .before .before .before .before .before .before .before .args .columns .now) (c .before .before .before .before .before .before .before .before .before .before .before .before .before .before .before .before .before .before .before .args .values .now) (c .before .before .before .before .before .before .before .before .before .before .before .before .before .before .before .before .before .before .before .args .r .now) (c .before .before .before .before .before .before .before .before .before .before .before .before .before .before .before .before .before .before .before .args .c .now) (c .before .before .before .before .before .before .before .before .before .before .before .before .before .before .before .before .before .before .before .args .b .now)) in
+    let lists = (matrixLists (c .before .before .before .before .before .before .before .before .before .before .before .before .before .before .before .before .before .before .before .args .starts .now) (c .before .before .before .before .before .before .before .before .before .before .before .before .before .before .before .before .before .before .before .args .columns .now) (c .before .before .before .before .before .before .before .before .before .before .before .before .before .before .before .before .before .before .before .args .values .now) (c .before .before .before .before .before .before .before .before .before .before .before .before .before .before .before .before .before .before .before .args .r .now) (c .before .before .before .before .before .before .before .before .before .before .before .before .before .before .before .before .before .before .before .args .c .now) (c .before .before .before .before .before .before .before .before .before .before .before .before .before .before .before .before .before .before .before .args .b .now)) in
     read-room _ lists _ (c .before .before .before .before .before .before .before .before .before .before .before .matrix-file-shape .ensures) _ (c .before .before .before .before .before .before .before .before .before .found2 .given .1) _ (c .before .before .before .before .before .before .before .lengths-right .ensures) (c .before .before .before .before .before .before .if1 .left)
 
 returns-2 : tie.Need-returns-2

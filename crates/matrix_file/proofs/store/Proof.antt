@@ -1,13 +1,7 @@
 use Rattle.matrix_file.proofs.CallLaws.{matrix-room, orders-room, whole-file, all-laid}
-use native.Mathlib.Omega.{arith}
 use borrow.Author.Needs.{needs}
 use Rattle.matrix_file.proofs.store.Statement.{statement}
 use Rattle.matrix_file.proofs.store.Tie as tie
-use Rattle.matrix_file.proofs.store.Reads as reads
-use Rattle.matrix_file.proofs.store.Lts as lts
-use Rattle.blocks.proofs.finish.Reads as finish-reads
-use Rattle.matrix_file.proofs.lay_matrix.Reads as lay-matrix-reads
-use Rattle.matrix_file.proofs.lay_orders.Reads as lay-orders-reads
 
 lay-matrix-requires : tie.Need-lay-matrix-requires
 lay-matrix-requires c κs = matrix-room _ (c .before .before .before .before .before .before .before .before .args .file .now) (c .before .before .before .before .before .before .before .before .pre)

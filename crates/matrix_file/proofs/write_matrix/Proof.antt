@@ -1,14 +1,9 @@
 use mathlib.Core.Path.{sym, _∙_}
 use Rattle.matrix_file.specs.MatrixFile.{askWrite}
 use Rattle.matrix_file.proofs.CallLaws.{write-stop, write-done}
-use native.Mathlib.Omega.{arith}
 use borrow.Author.Needs.{needs}
 use Rattle.matrix_file.proofs.write_matrix.Statement.{statement}
 use Rattle.matrix_file.proofs.write_matrix.Tie as tie
-use Rattle.matrix_file.proofs.write_matrix.Reads as reads
-use Rattle.matrix_file.proofs.write_matrix.Lts as lts
-use Rattle.matrix_file.proofs.ask_write.Reads as ask-write-reads
-use Rattle.matrix_file.proofs.store.Reads as store-reads
 
 ask-write-requires : tie.Need-ask-write-requires
 ask-write-requires c κs = search needs

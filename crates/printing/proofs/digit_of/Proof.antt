@@ -4,8 +4,6 @@ use native.Mathlib.Omega.{arith}
 use borrow.Author.Needs.{needs}
 use Rattle.printing.proofs.digit_of.Statement.{statement}
 use Rattle.printing.proofs.digit_of.Tie as tie
-use Rattle.printing.proofs.digit_of.Reads as reads
-use Rattle.printing.proofs.digit_of.Lts as lts
 
 add-result : tie.Need-add-result
 add-result c = search needs

@@ -1,15 +1,10 @@
 use Rattle.printing.specs.Written.{then-written}
-use Rattle.printing.specs.Print.{digits, labelled, hexadecimal, bitsEnd, countsLine, valueLine, refusedLine, tooLargeLine}
+use Rattle.printing.specs.Print.{hexadecimal, bitsEnd}
 use Rattle.printing.proofs.Laws.{digits-length}
-use Prim.Native.Nat.{_+_, _≤_}
 use native.Mathlib.Omega.{arith}
 use borrow.Author.Needs.{needs}
 use Rattle.printing.proofs.put_bits.Statement.{statement}
 use Rattle.printing.proofs.put_bits.Tie as tie
-use Rattle.printing.proofs.put_bits.Reads as reads
-use Rattle.printing.proofs.put_bits.Lts as lts
-use Rattle.printing.proofs.put_digits.Reads as put-digits-reads
-use Rattle.printing.proofs.put_text.Reads as put-text-reads
 
 slice-aggregate-put-text : tie.Need-slice-aggregate-put-text
 slice-aggregate-put-text c = search needs

@@ -1,15 +1,9 @@
 use Rattle.printing.specs.Written.{then-written}
-use Rattle.printing.specs.Print.{digits, labelled, hexadecimal, bitsEnd, countsLine, valueLine, refusedLine, tooLargeLine}
-use Rattle.printing.proofs.Laws.{digits-length}
-use Prim.Native.Nat.{_+_, _≤_}
+use Rattle.printing.specs.Print.{countsLine}
 use native.Mathlib.Omega.{arith}
 use borrow.Author.Needs.{needs}
 use Rattle.printing.proofs.put_counts.Statement.{statement}
 use Rattle.printing.proofs.put_counts.Tie as tie
-use Rattle.printing.proofs.put_counts.Reads as reads
-use Rattle.printing.proofs.put_counts.Lts as lts
-use Rattle.printing.proofs.put_labelled.Reads as put-labelled-reads
-use Rattle.printing.proofs.put_text.Reads as put-text-reads
 
 slice-aggregate-put-labelled : tie.Need-slice-aggregate-put-labelled
 slice-aggregate-put-labelled c = search needs

@@ -4,10 +4,6 @@ use native.Mathlib.Omega.{arith}
 use borrow.Author.Needs.{needs}
 use Rattle.printing.proofs.put_decimal.Statement.{statement}
 use Rattle.printing.proofs.put_decimal.Tie as tie
-use Rattle.printing.proofs.put_decimal.Reads as reads
-use Rattle.printing.proofs.put_decimal.Lts as lts
-use Rattle.printing.proofs.put_digits.Reads as put-digits-reads
-use Rattle.printing.proofs.width_of.Reads as width-of-reads
 
 width-of-requires : tie.Need-width-of-requires
 width-of-requires c κs = search needs

@@ -1,18 +1,14 @@
 use native.Mathlib.Nat.{mod-lt}
-use mathlib.Core.Path.{_≡_, refl, sym, _∙_}
-use Prim.Native.Nat.{ℕ, _+_, _-_, _/_, _%_, _≤_, _<_}
-use lib.ListN.{length, set, length-set}
+use mathlib.Core.Path.{_≡_, refl, _∙_}
+use Prim.Native.Nat.{_-_, _≤_}
+use lib.ListN.{length}
 use lib.Seq.{sets}
-use Rattle.printing.specs.Print.{digit, digits}
+use Rattle.printing.specs.Print.{digits}
 use Rattle.printing.proofs.Laws.{digits-turn, digits-none, digits-length}
 use borrow.Author.Needs.{needs}
 use native.Mathlib.Omega.{arith}
 use Rattle.printing.proofs.put_digits.Statement.{statement}
 use Rattle.printing.proofs.put_digits.Tie as tie
-use Rattle.printing.proofs.put_digits.Reads as reads
-use Rattle.printing.proofs.put_digits.Lts as lts
-use Rattle.printing.proofs.digit_of.Reads as digit-of-reads
-use Rattle.printing.proofs.put.Reads as put-reads
 
 abbrev Inv-loop : tie.InvT-loop
 Inv-loop out₀ at base width x rest₀ left₀ out rest left =

@@ -1,15 +1,9 @@
 use Rattle.printing.specs.Written.{then-written}
-use Rattle.printing.specs.Print.{digits, labelled, hexadecimal, bitsEnd, countsLine, valueLine, refusedLine, tooLargeLine}
-use Rattle.printing.proofs.Laws.{digits-length}
-use Prim.Native.Nat.{_+_, _≤_}
+use Rattle.printing.specs.Print.{labelled}
 use native.Mathlib.Omega.{arith}
 use borrow.Author.Needs.{needs}
 use Rattle.printing.proofs.put_labelled.Statement.{statement}
 use Rattle.printing.proofs.put_labelled.Tie as tie
-use Rattle.printing.proofs.put_labelled.Reads as reads
-use Rattle.printing.proofs.put_labelled.Lts as lts
-use Rattle.printing.proofs.put_decimal.Reads as put-decimal-reads
-use Rattle.printing.proofs.put_text.Reads as put-text-reads
 
 put-text-requires : tie.Need-put-text-requires
 put-text-requires c κs = search needs

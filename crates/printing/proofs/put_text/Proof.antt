@@ -1,17 +1,13 @@
 use native.Mathlib.Nat.{add-zero}
-use lib.ListN.{drop-of-length-le}
-use mathlib.Core.Path.{_≡_, refl, sym, _∙_}
-use Prim.Native.Nat.{ℕ, _+_, _-_, _≤_, _<_}
-use lib.ListN.{length, set, drop, length-set}
+use mathlib.Core.Path.{_≡_, _∙_}
+use Prim.Native.Nat.{_+_, _-_, _≤_}
+use lib.ListN.{length, drop}
 use lib.Seq.{sets}
 use Rattle.printing.proofs.Laws.{text-turn, text-end}
 use borrow.Author.Needs.{needs}
 use native.Mathlib.Omega.{arith}
 use Rattle.printing.proofs.put_text.Statement.{statement}
 use Rattle.printing.proofs.put_text.Tie as tie
-use Rattle.printing.proofs.put_text.Reads as reads
-use Rattle.printing.proofs.put_text.Lts as lts
-use Rattle.printing.proofs.put.Reads as put-reads
 
 abbrev Inv-loop : tie.InvT-loop
 Inv-loop out₀ at text i₀ out i =

@@ -1,14 +1,8 @@
-use Rattle.printing.specs.Written.{then-written}
-use Rattle.printing.specs.Print.{digits, labelled, hexadecimal, bitsEnd, countsLine, valueLine, refusedLine, tooLargeLine}
-use Rattle.printing.proofs.Laws.{digits-length}
-use Prim.Native.Nat.{_+_, _≤_}
+use Rattle.printing.specs.Print.{tooLargeLine}
 use native.Mathlib.Omega.{arith}
 use borrow.Author.Needs.{needs}
 use Rattle.printing.proofs.put_too_large.Statement.{statement}
 use Rattle.printing.proofs.put_too_large.Tie as tie
-use Rattle.printing.proofs.put_too_large.Reads as reads
-use Rattle.printing.proofs.put_too_large.Lts as lts
-use Rattle.printing.proofs.put_text.Reads as put-text-reads
 
 slice-aggregate-put-text : tie.Need-slice-aggregate-put-text
 slice-aggregate-put-text c = search needs

@@ -1,15 +1,10 @@
 use Rattle.printing.specs.Written.{then-written}
-use Rattle.printing.specs.Print.{digits, labelled, hexadecimal, bitsEnd, countsLine, valueLine, refusedLine, tooLargeLine}
+use Rattle.printing.specs.Print.{valueLine}
 use Rattle.printing.proofs.Laws.{bits-length}
-use Prim.Native.Nat.{_+_, _≤_}
 use native.Mathlib.Omega.{arith}
 use borrow.Author.Needs.{needs}
 use Rattle.printing.proofs.put_value.Statement.{statement}
 use Rattle.printing.proofs.put_value.Tie as tie
-use Rattle.printing.proofs.put_value.Reads as reads
-use Rattle.printing.proofs.put_value.Lts as lts
-use Rattle.printing.proofs.put_bits.Reads as put-bits-reads
-use Rattle.printing.proofs.put_labelled.Reads as put-labelled-reads
 
 slice-aggregate-put-labelled : tie.Need-slice-aggregate-put-labelled
 slice-aggregate-put-labelled c = search needs

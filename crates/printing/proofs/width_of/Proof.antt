@@ -3,8 +3,6 @@ use borrow.Author.Needs.{needs}
 use native.Mathlib.Omega.{arith}
 use Rattle.printing.proofs.width_of.Statement.{statement}
 use Rattle.printing.proofs.width_of.Tie as tie
-use Rattle.printing.proofs.width_of.Reads as reads
-use Rattle.printing.proofs.width_of.Lts as lts
 
 abbrev Inv-loop : tie.InvT-loop
 Inv-loop x rest₀ width₀ rest width = Counting x rest width

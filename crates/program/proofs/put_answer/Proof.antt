@@ -1,5 +1,4 @@
 use Rattle.program.proofs.Laws.{done-lines, refused-lines}
-use native.Mathlib.Omega.{arith}
 use borrow.Author.Needs.{needs}
 use Rattle.program.proofs.put_answer.Statement.{statement}
 use Rattle.program.proofs.put_answer.Tie as tie

@@ -1,5 +1,4 @@
 use Rattle.program.proofs.Laws.{read-input, read-lines}
-use native.Mathlib.Omega.{arith}
 use borrow.Author.Needs.{needs}
 use Rattle.program.proofs.read_lines.Statement.{statement}
 use Rattle.program.proofs.read_lines.Tie as tie

@@ -1,5 +1,4 @@
 use Rattle.program.proofs.Laws.{over-length, small-shape, well-shaped, ill-shaped, over-size}
-use native.Mathlib.Omega.{arith}
 use borrow.Author.Needs.{needs}
 use Rattle.program.proofs.solve_file.Statement.{statement}
 use Rattle.program.proofs.solve_file.Tie as tie

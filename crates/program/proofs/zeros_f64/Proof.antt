@@ -1,8 +1,6 @@
 use Rattle.program.specs.Program.{noughts}
 use lib.Ieee.{ofBits}
 use mathlib.Core.Path.{refl}
-use borrow.Author.Needs.{needs}
-use native.Mathlib.Omega.{arith}
 use Rattle.program.proofs.zeros_f64.Statement.{statement}
 use Rattle.program.proofs.zeros_f64.Tie as tie
 

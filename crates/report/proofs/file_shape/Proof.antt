@@ -1,5 +1,4 @@
 use Rattle.report.proofs.Laws.{shape-put, unshaped-put}
-use native.Mathlib.Omega.{arith}
 use borrow.Author.Needs.{needs}
 use Rattle.report.proofs.file_shape.Statement.{statement}
 use Rattle.report.proofs.file_shape.Tie as tie

@@ -1,5 +1,4 @@
 use Rattle.report.proofs.Laws.{span-rises, span-put, span-told}
-use native.Mathlib.Omega.{arith}
 use borrow.Author.Needs.{needs}
 use Rattle.report.proofs.list_plain.Statement.{statement}
 use Rattle.report.proofs.list_plain.Tie as tie

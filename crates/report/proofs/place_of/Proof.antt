@@ -1,5 +1,4 @@
 use Rattle.report.proofs.Laws.{place-below, place-beyond}
-use native.Mathlib.Omega.{arith}
 use borrow.Author.Needs.{needs}
 use Rattle.report.proofs.place_of.Statement.{statement}
 use Rattle.report.proofs.place_of.Tie as tie

@@ -1,6 +1,5 @@
 use mathlib.Core.Path.{refl}
 use Rattle.report.specs.Report.{spanSlots}
-use native.Mathlib.Omega.{arith}
 use borrow.Author.Needs.{needs}
 use Rattle.report.proofs.put_span.Statement.{statement}
 use Rattle.report.proofs.put_span.Tie as tie

@@ -1,6 +1,4 @@
 use Rattle.report.proofs.Laws.{side-lower, side-upper}
-use borrow.Author.Needs.{needs}
-use native.Mathlib.Omega.{arith}
 use Rattle.report.proofs.side_of.Statement.{statement}
 use Rattle.report.proofs.side_of.Tie as tie
 

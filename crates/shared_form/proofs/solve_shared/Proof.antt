@@ -1,4 +1,4 @@
-use mathlib.Core.Path.{refl, sym, _∙_}
+use mathlib.Core.Path.{sym, _∙_}
 use Rattle.base.specs.declared.Form.the-variants.{Shared}
 use Rattle.stages.specs.ShapedLaws.{due-again}
 use Rattle.stages.specs.Branches.{pass-of}

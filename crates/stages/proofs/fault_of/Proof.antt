@@ -1,6 +1,5 @@
 use mathlib.Core.Path.{sym, ap}
 use Rattle.stages.specs.Shaped.{faultAsked}
-use native.Mathlib.Omega.{arith}
 use borrow.Author.Needs.{needs}
 use Rattle.stages.proofs.fault_of.Statement.{statement}
 use Rattle.stages.proofs.fault_of.Tie as tie

@@ -1,4 +1,3 @@
-use mathlib.Core.Path.{_∙_}
 use Rattle.base.specs.declared.Form.the-variants.{Plain, Shared}
 use Rattle.stages.specs.LengthLaws.{lower-as, side-of}
 use borrow.Author.Needs.{needs}

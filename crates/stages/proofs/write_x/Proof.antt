@@ -1,8 +1,6 @@
 use mathlib.Core.Path.{ap, _∙_}
-use Prim.Native.Nat.{_+_}
 use Rattle.matrix.specs.Input.{ownOrder}
-use Rattle.placing.specs.LoopLaws.{take-rest}
-use native.Mathlib.Omega.{arith}
+use Rattle.storing.specs.LoopLaws.{take-rest}
 use borrow.Author.Needs.{needs}
 use Rattle.stages.proofs.write_x.Statement.{statement}
 use Rattle.stages.proofs.write_x.Tie as tie

@@ -4,7 +4,7 @@ use Rattle.symbolic.specs.Places.{OpenEnds, RowFound, LowerEnds, KeepEnd
 use Rattle.symbolic.specs.Pass.{At}
 use Rattle.base.specs.declared.Form.the-variants.{Plain}
 use Rattle.base.specs.declared.Side.the-variants.{Upper}
-use Rattle.placing.specs.declared.Way.the-variants.{OneAfterAnother}
+use Rattle.storing.specs.declared.Way.the-variants.{OneAfterAnother}
 use Rattle.matrix.specs.Input.{Input, inputOf, stored}
 use mathlib.Core.Path.{_≡_, _∙_}
 use mathlib.Core.List.{List, []}

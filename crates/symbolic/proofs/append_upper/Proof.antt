@@ -2,10 +2,10 @@ use Rattle.symbolic.proofs.Keeping.{keep-fits, keep-list, keep-members,
 use Rattle.symbolic.specs.Places.{Keep}
 use Rattle.fill.specs.Fill.{Pattern, upperRow, lowerRow}
 use Rattle.base.specs.Lists.{blank}
-use Rattle.placing.specs.Held.{Stepped}
-use Rattle.placing.specs.declared.Way.the-variants.{OneAfterAnother}
+use Rattle.storing.specs.Held.{Stepped}
+use Rattle.storing.specs.declared.Way.the-variants.{OneAfterAnother}
 use mathlib.Core.List.{List}
-use Prim.Native.Nat.{ℕ, _+_}
+use Prim.Native.Nat.{ℕ}
 use native.Mathlib.Omega.{arith}
 use borrow.Author.Needs.{needs}
 use Rattle.symbolic.proofs.append_upper.Statement.{statement}

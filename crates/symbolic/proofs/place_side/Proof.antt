@@ -1,7 +1,7 @@
 use Rattle.symbolic.proofs.Sides.{side-open, side-keep, side-next}
 use Rattle.symbolic.proofs.Keeping.{told}
 use Rattle.symbolic.specs.Places.{patternOf, OpenEnds, RowFound, KeepEnds, SideAt}
-use Rattle.placing.specs.declared.Way.the-variants.{Sharing}
+use Rattle.storing.specs.declared.Way.the-variants.{Sharing}
 use Rattle.matrix.specs.Input.{Input, inputOf}
 use mathlib.Core.List.{List, []}
 use Prim.Native.Nat.{ℕ}

@@ -2,8 +2,8 @@ use Rattle.symbolic.proofs.Keeping.{keep-fits, keep-row, keep-list, kee
 use Rattle.symbolic.specs.Places.{Keep}
 use Rattle.fill.specs.Fill.{Pattern, upperRow, lowerRow}
 use Rattle.base.specs.Lists.{blank}
-use Rattle.placing.specs.Held.{Stepped}
-use Rattle.placing.specs.declared.Way.the-variants.{Sharing}
+use Rattle.storing.specs.Held.{Stepped}
+use Rattle.storing.specs.declared.Way.the-variants.{Sharing}
 use mathlib.Core.List.{List}
 use Prim.Native.Nat.{ℕ}
 use native.Mathlib.Omega.{arith}

@@ -1,12 +1,7 @@
-use Prim.Native.Nat.{ℕ, suc, _+_, _-_, _≤_, _<_}
-use mathlib.Core.Path.{_≡_, refl, sym, _∙_, ap}
-use native.Mathlib.Omega.{arith}
-use lib.ListN.{length, getD, set, length-set}
+use Prim.Native.Nat.{_-_}
 use borrow.Author.Needs.{needs}
 use Rattle.base.proofs.Answer.counts.Statement.{statement}
 use Rattle.base.proofs.Answer.counts.Tie as tie
-use Rattle.base.proofs.Answer.counts.Reads as reads
-use Rattle.base.proofs.Answer.counts.Lts as lts
 
 enum-known-a : tie.Need-enum-known-a
 enum-known-a c = search needs

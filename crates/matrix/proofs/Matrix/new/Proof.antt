@@ -5,8 +5,6 @@ use borrow.Author.Needs.{needs}
 use native.Mathlib.Omega.{arith}
 use Rattle.matrix.proofs.Matrix.new.Statement.{statement}
 use Rattle.matrix.proofs.Matrix.new.Tie as tie
-use Rattle.matrix.proofs.Matrix.new.Reads as reads
-use Rattle.matrix.proofs.Matrix.new.Lts as lts
 
 returns : tie.Need-returns
 unfolding shapeOf
