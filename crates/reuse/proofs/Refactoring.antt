@@ -1,0 +1,165 @@
+-- Refactor over lists found before is a solve.
+use mathlib.Core.Path.{_≡_, refl, sym, ap, _∙_}
+use mathlib.Core.List.{List, []}
+use Prim.Native.Nat.{ℕ, _≤_, _<_}
+use native.Mathlib.Omega.{arith}
+use lib.ListN.{length}
+use lib.Ieee.{Float}
+use Rattle.base.specs.Lists.{nought}
+use Rattle.base.specs.Answers.{numberOf, numberOfAnswer, numberOfEnd, spot}
+use Rattle.base.specs.declared.Form.{Form}
+use Rattle.base.specs.declared.Form.the-variants.{Plain, Shared, ByRow}
+use Rattle.base.specs.declared.Side.{Side}
+use Rattle.base.specs.declared.Side.the-variants.{Lower, Upper}
+use Rattle.base.specs.declared.Counts.{Counts}
+use Rattle.base.specs.declared.Refusal.{Refusal}
+use Rattle.base.specs.declared.Asked.{Asked}
+use Rattle.base.specs.declared.Asked.the-variants.{Pass, Stop}
+use Rattle.base.specs.declared.Answer.{Answer}
+use Rattle.base.specs.declared.Answer.the-variants.{Done, Refused}
+use Rattle.base.specs.declared.Ended.{Ended}
+use Rattle.base.specs.declared.Ended.the-variants as ends
+use Rattle.base.specs.declared.SideSizes.{SideSizes}
+use Rattle.base.specs.declared.Sizes.{Sizes}
+use Rattle.fill.specs.Fill.{Pattern}
+use Rattle.matrix.specs.Input.{Input, stored}
+use Rattle.matrix.specs.Questions.{askStructure, askSolve}
+use Rattle.arithmetic.specs.Arith.{Fault, zeroPivot, overflow, Out, ok, met, Result}
+use Rattle.outcome.specs.Forms.{placedTo}
+use Rattle.outcome.specs.Buffers.{SideBuffers, Buffers, buffersOf, sizes, sideOf, patternTests, structureTests, askShape, scratchCleared, cleared, Outcome, ended, stop}
+use Rattle.outcome.specs.Structure.{askPlaces, askPlace, sidePlaced, structured, structure}
+use Rattle.outcome.specs.Solve.{listed, faultOf, valuesKept, kept, left, concluded, shape, solve}
+use Rattle.outcome.specs.Refactor.{askPresented, refilled, emptied, refactored, refactor}
+use Rattle.outcome.proofs.Asking.{number-some, Within}
+use Rattle.outcome.proofs.Places.{places-pass}
+use Rattle.outcome.proofs.Answers.{shape-within, solve-within}
+use Rattle.reuse.specs.Reuse.{Keeps, endOf, withNumbers, Leaves, after-structure, after-solve, SameLists, Presented, RefactorsAs, Refactoring}
+use Rattle.reuse.proofs.Standing.{Laid, placed-laid, padded-long, laid-stands, laid-revalued, place-more, places-all, presented}
+
+-- ---- a call that is done
+
+-- no question stopped it
+pub stop-done : {A : Type 0} (number : A → ℕ) (refuse : Refusal → A) (told : (q : Refusal) → number (refuse q) ≡ numberOf q) (o : A) → number o ≡ 0
+    → (a : Asked) (s t : Buffers) (rest : Outcome A) → stop refuse a s rest ≡ ended o t → (a ≡ Pass) × (rest ≡ ended o t)
+stop-done number refuse told o z Pass s t rest e = (refl, e)
+stop-done number refuse told o z (Stop q) s t rest e = absurd (number-some q (sym (told q) ∙ ap (λ p. number (p .answer)) e ∙ z))
+
+answer-told : (q : Refusal) → numberOfAnswer (Refused q) ≡ numberOf q
+answer-told q = refl
+
+-- ---- a side as a call left it
+
+-- its lists, and stores in which they had room
+record LeftSide (f : Form) (side : Side) (P : Pattern) (n : ℕ) (z : SideSizes) (b : SideBuffers) : Type 0 where
+  laid : Laid f side P n b
+  index : z .index ≤ length (b .index)
+  values : z .values ≤ length (b .values)
+
+left-side : (f : Form) → Keeps f → (side : Side) (P : Pattern) (n : ℕ) (z : SideSizes) (values : List Float) → LeftSide f side P n z (sidePlaced f side P n z values)
+unfolding sidePlaced
+left-side f v side P n z values =
+    record { laid = placed-laid f v side P n z values; index = padded-long 0 (z .index) (placedTo f side P n n .slots); values = padded-long nought (z .values) values }
+
+record LeftBoth (f : Form) (i : Input) (u : Buffers) : Type 0 where
+  z : Sizes
+  places : askPlaces f (stored i) (i .n) z (i .n) ≡ Pass
+  sides : (side : Side) → LeftSide f side (stored i) (i .n) (sideOf side z) (buffersOf side u)
+
+concluded-left : (f : Form) → Keeps f → (i : Input) (z : Sizes) (x : List Float) (u : Buffers) (c : Counts) (o : Out Result) → concluded f i z x o ≡ ended (Done c) u
+    → (side : Side) → LeftSide f side (stored i) (i .n) (sideOf side z) (buffersOf side u)
+unfolding kept
+concluded-left Plain v i z x u c (ok a) e Lower = rw (← ap (λ (o : Outcome Answer). o .buffers) e) (left-side Plain v Lower _ _ _ _)
+concluded-left Plain v i z x u c (ok a) e Upper = rw (← ap (λ (o : Outcome Answer). o .buffers) e) (left-side Plain v Upper _ _ _ _)
+concluded-left Shared v i z x u c (ok a) e Lower = rw (← ap (λ (o : Outcome Answer). o .buffers) e) (left-side Shared v Lower _ _ _ _)
+concluded-left Shared v i z x u c (ok a) e Upper = rw (← ap (λ (o : Outcome Answer). o .buffers) e) (left-side Shared v Upper _ _ _ _)
+concluded-left ByRow v i z x u c (ok a) e side = absurd (v refl)
+concluded-left f v i z x u c (met q) e side = absurd (number-some (faultOf q) (ap (λ (o : Outcome Answer). numberOfAnswer (o .answer)) e))
+
+structured-left : (f : Form) → Keeps f → (i : Input) (z : Sizes) (u : Buffers) (c k : Counts) → ended (Done k) (structured f i z) ≡ ended (Done c) u
+    → (side : Side) → LeftSide f side (stored i) (i .n) (sideOf side z) (buffersOf side u)
+unfolding structured
+structured-left f v i z u c k e Lower = rw (← ap (λ (o : Outcome Answer). o .buffers) e) (left-side f v Lower _ _ _ _)
+structured-left f v i z u c k e Upper = rw (← ap (λ (o : Outcome Answer). o .buffers) e) (left-side f v Upper _ _ _ _)
+
+both-left : (f : Form) → Keeps f → (i : Input) (u : Buffers) → Leaves f i u → LeftBoth f i u
+unfolding structure solve
+both-left f v i u (after-structure s c e) =
+    let p = stop-done numberOfAnswer Refused answer-told (Done c) refl (askShape (i .n) _) s u _ e in
+    let q = stop-done numberOfAnswer Refused answer-told (Done c) refl (askStructure i) _ u _ (p .1) in
+    let r = stop-done numberOfAnswer Refused answer-told (Done c) refl (askPlaces f (stored i) (i .n) (sizes s) (i .n)) _ u _ (q .1) in
+    record { z = sizes s; places = r .0; sides = structured-left f v i (sizes s) u c _ (r .1) }
+both-left f v i u (after-solve s c e) =
+    let p = stop-done numberOfAnswer Refused answer-told (Done c) refl (shape f i (sizes s)) s u _ e in
+    let q = stop-done numberOfAnswer Refused answer-told (Done c) refl (askSolve i) _ u _ (p .1) in
+    let r = stop-done numberOfAnswer Refused answer-told (Done c) refl (askPlaces f (stored i) (i .n) (sizes s) (i .n)) _ u _ (q .1) in
+    record { z = sizes s; places = r .0; sides = concluded-left f v i (sizes s) (s .x) u c (listed i) (r .1) }
+
+-- ---- the same lists again
+
+again-laid : (f : Form) (side : Side) (P : Pattern) (n : ℕ) (u t : SideBuffers) → SameLists u t → Laid f side P n u → Laid f side P n t
+again-laid f side P n u t h l = record { starts = rw (h .starts) (l .starts); runs = rw (h .runs) (l .runs); index = rw (h .index) (l .index) }
+
+again-room : (f : Form) (side : Side) (P : Pattern) (n : ℕ) (z : SideSizes) (u t : SideBuffers) → SameLists u t → LeftSide f side P n z u → (z .index ≤ length (t .index)) × (z .values ≤ length (t .values))
+again-room f side P n z u t h l = (rw (h .index) (l .index), omega (arith, h .values, l .values))
+
+module _ (f : Form) (v : Keeps f) (i : Input) (t : Buffers) (h : Presented f i t) where
+  both : LeftBoth f i (h .u)
+  both = both-left f v i (h .u) (h .left)
+
+  pub laid-at : (side : Side) → Laid f side (stored i) (i .n) (buffersOf side t)
+  laid-at Lower = again-laid f Lower (stored i) (i .n) _ _ (h .lower) (both .sides Lower .laid)
+  laid-at Upper = again-laid f Upper (stored i) (i .n) _ _ (h .upper) (both .sides Upper .laid)
+
+  room : (side : Side) → (sideOf side (both .z) .index ≤ sideOf side (sizes t) .index) × (sideOf side (both .z) .values ≤ sideOf side (sizes t) .values)
+  room Lower = again-room f Lower (stored i) (i .n) _ _ _ (h .lower) (both .sides Lower)
+  room Upper = again-room f Upper (stored i) (i .n) _ _ _ (h .upper) (both .sides Upper)
+
+  place-at : (k : ℕ) → k < i .n → askPlace f (stored i) (i .n) (sizes t) k ≡ Pass
+  place-at k l = place-more f (stored i) (i .n) (both .z) (sizes t) k room (places-pass f (stored i) (i .n) (both .z) (i .n) (both .places) k l)
+
+  pub room-again : askPlaces f (stored i) (i .n) (sizes t) (i .n) ≡ Pass
+  room-again = places-all f (stored i) (i .n) (sizes t) (i .n) place-at
+
+  -- question 14 is passed
+  pub presented-again : askPresented f (stored i) (i .n) t ≡ Pass
+  presented-again = presented f (stored i) (i .n) t place-at (λ side k l. laid-stands f v side (stored i) (i .n) (buffersOf side t) (laid-at side) k l)
+
+-- ---- the answers
+
+-- o for a refactor over t, p for a solve
+abbrev Alike : Buffers → Outcome Ended → Outcome Answer → Type 0
+Alike t o p =
+    (o .answer ≡ endOf (p .answer)) × (numberOfEnd (o .answer) ≤ 8 → o .buffers ≡ p .buffers) × (9 ≤ numberOfEnd (o .answer) → o .buffers ≡ emptied t)
+
+fault-late : (q : Fault) → 12 ≤ numberOf (faultOf q)
+fault-late (zeroPivot k) = omega arith
+fault-late (overflow k) = omega arith
+
+chain-alike : (f : Form) (j : Input) (t : Buffers) (a b c d : Asked) (o : Out Result) → Within 1 2 a → Within 3 8 b → c ≡ Pass → d ≡ Pass
+    → ((r : Result) → refactored f j t (ok r) .buffers ≡ left f j (sizes t) r)
+    → Alike t (stop ends.Refused a t (stop ends.Refused b (scratchCleared t) (stop ends.Refused c (scratchCleared t) (refactored f j t o))))
+    (stop Refused a t (stop Refused b (scratchCleared t) (stop Refused d (cleared (sizes t) (t .x)) (concluded f j (sizes t) (t .x) o))))
+unfolding Within
+chain-alike f j t (Stop q) b c d o u w g h e = (refl, λ l. refl, λ l. absurd (omega (arith, u q refl)))
+chain-alike f j t Pass (Stop q) c d o u w g h e = (refl, λ l. refl, λ l. absurd (omega (arith, w q refl)))
+chain-alike f j t Pass Pass c d (ok a) u w g h e = rw (g, h) (refl, λ l. e a, λ l. absurd (omega arith))
+chain-alike f j t Pass Pass c d (met q) u w g h e = rw (g, h) (refl, λ l. absurd (omega (arith, fault-late q)), λ l. refl)
+
+both-same : (l l′ u u′ : SideBuffers) (d x w : List Float) (m : List ℕ) → l ≡ l′ → u ≡ u′
+    → _≡_ {A = Buffers} (record { lower = l; upper = u; d = d; x = x; work = w; marks = m }) (record { lower = l′; upper = u′; d = d; x = x; work = w; marks = m })
+both-same l l′ u u′ d x w m e f = rw (e, f)
+
+refilled-left : (f : Form) → Keeps f → (j : Input) (t : Buffers) → ((side : Side) → Laid f side (stored j) (j .n) (buffersOf side t))
+    → (r : Result) → refactored f j t (ok r) .buffers ≡ left f j (sizes t) r
+unfolding refilled kept
+refilled-left Plain v j t h r = both-same _ _ _ _ _ _ _ _ (laid-revalued Plain Lower (stored j) (j .n) (t .lower) _ (h Lower)) (laid-revalued Plain Upper (stored j) (j .n) (t .upper) _ (h Upper))
+refilled-left Shared v j t h r = both-same _ _ _ _ _ _ _ _ (laid-revalued Shared Lower (stored j) (j .n) (t .lower) _ (h Lower)) (laid-revalued Shared Upper (stored j) (j .n) (t .upper) _ (h Upper))
+refilled-left ByRow v j t h r = absurd (v refl)
+
+pub refactoring : Refactoring
+unfolding stored solve refactor
+refactoring f v i w b t h =
+    let j = withNumbers i w b in
+    let p = chain-alike f j t (shape f j (sizes t)) (askSolve j) (askPresented f (stored j) (j .n) t) (askPlaces f (stored j) (j .n) (sizes t) (j .n)) (listed j)
+    (shape-within f j (sizes t)) (solve-within j) (presented-again f v i t h) (room-again f v i t h) (refilled-left f v j t (laid-at f v i t h)) in
+    record { answer = p .0; buffers = p .1; empties = p .2 }

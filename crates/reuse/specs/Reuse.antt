@@ -1,0 +1,71 @@
+-- What refactor and another right side owe the solve, over what earlier calls left. Definitions only.
+use mathlib.Core.Path.{_≡_}
+use mathlib.Core.List.{List}
+use Prim.Native.Nat.{ℕ, _≤_, _<_}
+use lib.ListN.{length, getD}
+use lib.Ieee.{Float, nan}
+use lib.Ieee.Scale.{finite}
+use mathlib.Core.Bool.{true}
+use mathlib.Core.Logic.{_≢_}
+use Rattle.base.specs.Answers.{numberOfEnd}
+use Rattle.base.specs.declared.Form.{Form}
+use Rattle.base.specs.declared.Form.the-variants.{Plain, Shared, ByRow}
+use Rattle.base.specs.declared.Counts.{Counts}
+use Rattle.base.specs.declared.Answer.{Answer}
+use Rattle.base.specs.declared.Answer.the-variants.{Done, Refused}
+use Rattle.base.specs.declared.Ended.{Ended}
+use Rattle.base.specs.declared.Ended.the-variants as ends
+use Rattle.matrix.specs.Input.{Input, inputOf}
+use Rattle.outcome.specs.Buffers.{SideBuffers, Buffers, ended}
+use Rattle.outcome.specs.Structure.{structure}
+use Rattle.outcome.specs.Solve.{solve}
+use Rattle.outcome.specs.Refactor.{emptied, refactor}
+
+-- ---- words
+
+-- refactor and another right side have the plain and the shared form: the row form keeps no lists
+abbrev pub Keeps : Form → Type 0
+Keeps f = f ≢ ByRow
+
+-- an answer without its counts
+abbrev pub endOf : Answer → Ended
+endOf (Done c) = ends.Done
+endOf (Refused q) = ends.Refused q
+
+-- the same matrix and orders, other values and another right side
+abbrev pub withNumbers : Input → List Float → List Float → Input
+withNumbers i v b = inputOf (i .n) (i .starts) (i .columns) v (i .r) (i .c) b
+
+-- ---- refactor over lists found before
+
+-- a structure call or a solve of the input was done, and left u
+pub data Leaves (f : Form) (i : Input) (u : Buffers) : Type 0 where
+  after-structure : (s : Buffers) (c : Counts) → structure f i s ≡ ended (Done c) u → Leaves f i u
+  after-solve : (s : Buffers) (c : Counts) → solve f i s ≡ ended (Done c) u → Leaves f i u
+
+-- a side with the lists of another and a value store no shorter, whatever it holds
+pub record SameLists (u t : SideBuffers) : Type 0 where
+  pub starts : t .starts ≡ u .starts
+  pub runs : t .runs ≡ u .runs
+  pub index : t .index ≡ u .index
+  pub values : length (u .values) ≤ length (t .values)
+
+-- t has the lists that a call left; its value stores, d, x and scratch are free
+pub record Presented (f : Form) (i : Input) (t : Buffers) : Type 0 where
+  pub u : Buffers
+  pub left : Leaves f i u
+  pub lower : SameLists (u .lower) (t .lower)
+  pub upper : SameLists (u .upper) (t .upper)
+
+-- refactor with the numbers of j over t is a solve of j over t
+pub record RefactorsAs (f : Form) (j : Input) (t : Buffers) : Type 0 where
+  -- done where the solve is, or its refusal
+  pub answer : refactor f j t .answer ≡ endOf (solve f j t .answer)
+  -- done, or refused before 9: what the solve leaves, factors and x among it
+  pub buffers : numberOfEnd (refactor f j t .answer) ≤ 8 → refactor f j t .buffers ≡ solve f j t .buffers
+  -- 12 or 13: the lists stay, x is untouched, all else is zero
+  pub empties : 9 ≤ numberOfEnd (refactor f j t .answer) → refactor f j t .buffers ≡ emptied t
+
+-- "refactor: new values over a structure found before"
+abbrev pub Refactoring : Type 0
+Refactoring = (f : Form) → Keeps f → (i : Input) (v b : List Float) (t : Buffers) → Presented f i t → RefactorsAs f (withNumbers i v b) t
