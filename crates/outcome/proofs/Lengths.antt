@@ -95,7 +95,7 @@ and-both true b e = (refl, e)
 and-both false b e = absurd (false≢true e)
 
 -- places 0 to k - 1 fit
-room-at : (f : Form) (P : Pattern) (n : ℕ) (z : Sizes) (k : ℕ) (side : Side) → askPlaces f P n z k ≡ Pass
+pub room-at : (f : Form) (P : Pattern) (n : ℕ) (z : Sizes) (k : ℕ) (side : Side) → askPlaces f P n z k ≡ Pass
     → (indexNeed f side P n k ≤ sideOf side z .index) × (valueNeed f side P n k ≤ sideOf side z .values)
 unfolding fits indexNeed valueNeed placedTo placed startOf
 room-at f P n z zero side e = (omega arith, omega arith)
@@ -122,7 +122,7 @@ module _ (i : Input) (z : Sizes) where
       let a = room-at Shared (stored i) (i .n) z (i .n) side p in
       record { starts = e; runs = runs-length (wayOf Shared) (listsOf Shared side (stored i) (i .n)) (rowsOf side (stored i)) (i .n) ∙ sym g; index = a .0; values = a .1 }
 
-  values-long : (f : Form) (side : Side) (rows : List Row) → LongTo (system i) (i .n) rows → (k : ℕ) → k < i .n → length (valuesOf f side (stored i) (i .n) rows k) ≡ length (listsOf f side (stored i) (i .n) k)
+  pub values-long : (f : Form) (side : Side) (rows : List Row) → LongTo (system i) (i .n) rows → (k : ℕ) → k < i .n → length (valuesOf f side (stored i) (i .n) rows k) ≡ length (listsOf f side (stored i) (i .n) k)
   unfolding system
   values-long f Upper rows h k l = h .1 k l .u
   values-long Plain Lower rows h k l = h .1 k l .l
@@ -140,7 +140,7 @@ kept-same f i z a u v d x h =
     (sizes-is z _ _ _ _ (side-kept f Lower (stored i) (i .n) (z .lower) _ u (values-fit f Lower (stored i) (i .n) (a .rows) (z .lower) u (values-long i z f Lower (a .rows) h))) (side-kept f Upper (stored i) (i .n) (z .upper) _ v (values-fit f Upper (stored i) (i .n) (a .rows) (z .upper) v (values-long i z f Upper (a .rows) h)))
     (length-table (λ k. getD (a .rows) k none .d) (i .n) ∙ sym d) (length-table _ (i .n) ∙ sym x))
 
-long-listed : (i : Input) (a : Result) → listed i ≡ ok a → LongTo (system i) (i .n) (a .rows)
+pub long-listed : (i : Input) (a : Result) → listed i ≡ ok a → LongTo (system i) (i .n) (a .rows)
 unfolding listed system
 long-listed i a e = rw (← judged-value (wholeRun (system i)) a e) (whole-length (system i))
 
@@ -148,7 +148,7 @@ own-length : (i : Input) (z : List Float) → length (ownOrder (i .c) (i .n) z) 
 unfolding ownOrder
 own-length i z = length-table _ (i .n)
 
-left-same : (f : Form) (i : Input) (z : Sizes) (a : Result) → shape f i z ≡ Pass → askPlaces f (stored i) (i .n) z (i .n) ≡ Pass → listed i ≡ ok a → sizes (left f i z a) ≡ z
+pub left-same : (f : Form) (i : Input) (z : Sizes) (a : Result) → shape f i z ≡ Pass → askPlaces f (stored i) (i .n) z (i .n) ≡ Pass → listed i ≡ ok a → sizes (left f i z a) ≡ z
 left-same Plain i z a p q e =
     let t = tests Plain i z p in
     kept-same Plain i z a (plain-side i z Lower (eqb-true _ _ (t 6)) q) (plain-side i z Upper (eqb-true _ _ (t 9)) q) (eqb-true _ _ (t 12)) (eqb-true _ _ (t 13)) (long-listed i a e)

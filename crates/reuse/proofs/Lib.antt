@@ -1,3 +1,5 @@
 pub mod Standing
 pub mod Refactoring
 pub mod OtherRight
+pub mod Stored
+pub mod Resolving

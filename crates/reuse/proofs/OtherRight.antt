@@ -337,3 +337,51 @@ solved-right S b F a low e h =
         back-same (givenBy F ys) (given (other S b) (withYs (a .rows) ys)) (S .n) (replicate (S .n) nought) (backs long ys (omega (arith, m ys refl)))
         ∙ last ys (back (given (other S b) (withYs (a .rows) ys)) (S .n) (replicate (S .n) nought))
     go long (met q) m = refl
+
+-- ---- the s, y and back steps ask for no pivot
+
+abbrev pub Overflows : {A : Type 0} → Out A → Type 0
+Overflows o = (q : Fault) → o ≡ met q → (k : ℕ) × (q ≡ overflow k)
+
+ok-over : {A : Type 0} (a : A) → Overflows (ok a)
+ok-over a q e = absurd (let z : _≡_ {A = ℕ} 0 1 = cc in omega arith)
+
+at-over : (k : ℕ) (x : Float) → Overflows (at k x)
+at-over k x q = go (finite x)
+  where
+    go : (t : Bool) → cond t (ok x) (met (overflow k)) ≡ met q → (k : ℕ) × (q ≡ overflow k)
+    go true e = absurd (let z : _≡_ {A = ℕ} 0 1 = cc in omega arith)
+    go false e = (k, cc)
+
+then-over : {A B : Type 0} (o : Out A) (g : A → Out B) → Overflows o → ((a : A) → Overflows (g a)) → Overflows (o >>= g)
+then-over (ok a) g h k q e = k a q e
+then-over (met p) g h k q e = h q (ap met cc)
+
+less-over : (k : ℕ) (s m y : Float) → Overflows (less (at k) s m y)
+less-over k s m y = then-over (at k (mul binary64 m y)) _ (at-over k (mul binary64 m y)) (λ p. at-over k (sub binary64 s p))
+
+sum-over : (k : ℕ) (s : Float) (es : List (ℕ × Float)) (ys : List Float) → Overflows (sumLess (at k) s es ys)
+unfolding sumLess
+sum-over k s [] ys = ok-over s
+sum-over k s (e ∷ es) ys = then-over (less (at k) s (e .1) (getD ys (e .0) nan)) _ (less-over k s (e .1) (getD ys (e .0) nan)) (λ s. sum-over k s es ys)
+
+again-over : (F : Factors) (f k : ℕ) (ys : List Float) → Overflows (again F f k ys)
+unfolding again yAt
+again-over F zero k ys = ok-over ys
+again-over F (suc f) k ys =
+    then-over (yAt F ys k) _ (then-over (sumLess (at k) (F .rhs k) (F .lower k) ys) _ (sum-over k (F .rhs k) (F .lower k) ys) (λ s. at-over k (mul binary64 s (F .d k)))) (λ y. again-over F f (suc k) (ys ++ (y ∷ [])))
+
+rest-over : (k : ℕ) (t : Float) (js : List ℕ) (us z : List Float) → Overflows (rest (at k) t js us z)
+unfolding rest
+rest-over k t [] us z = ok-over t
+rest-over k t (j ∷ js) [] z = ok-over t
+rest-over k t (j ∷ js) (u ∷ us) z = then-over (less (at k) t u (getD z j nan)) _ (less-over k t u (getD z j nan)) (λ t. rest-over k t js us z)
+
+back-over : (G : Given) (k : ℕ) (z : List Float) → Overflows (back G k z)
+unfolding back
+back-over G zero z = ok-over z
+back-over G (suc k) z = then-over (rest (at k) (G .y k) (G .upper k) (G .u k) z) _ (rest-over k (G .y k) (G .upper k) (G .u k) z) (λ t. back-over G k (set z k t))
+
+pub solvedAgain-over : (F : Factors) → Overflows (solvedAgain F)
+unfolding solvedAgain
+solvedAgain-over F = then-over (again F (F .n) 0 []) _ (again-over F (F .n) 0 []) (λ ys. back-over (givenBy F ys) (F .n) (replicate (F .n) nought))

@@ -16,10 +16,11 @@ use Rattle.base.specs.declared.Answer.the-variants.{Done, Refused}
 use Rattle.base.specs.declared.Ended.{Ended}
 use Rattle.base.specs.declared.Ended.the-variants as ends
 use Rattle.matrix.specs.Input.{Input, inputOf}
-use Rattle.outcome.specs.Buffers.{SideBuffers, Buffers, ended}
+use Rattle.outcome.specs.Buffers.{SideBuffers, Buffers, scratchCleared, ended}
 use Rattle.outcome.specs.Structure.{structure}
 use Rattle.outcome.specs.Solve.{solve}
 use Rattle.outcome.specs.Refactor.{emptied, refactor}
+use Rattle.outcome.specs.Resolve.{withSolution, resolve}
 
 -- ---- words
 
@@ -69,3 +70,32 @@ pub record RefactorsAs (f : Form) (j : Input) (t : Buffers) : Type 0 where
 -- "refactor: new values over a structure found before"
 abbrev pub Refactoring : Type 0
 Refactoring = (f : Form) → Keeps f → (i : Input) (v b : List Float) (t : Buffers) → Presented f i t → RefactorsAs f (withNumbers i v b) t
+
+-- ---- another right side over factors found before
+
+-- a solve or a refactor of the input over s was done, and left t
+pub data Factored (f : Form) (i : Input) (s t : Buffers) : Type 0 where
+  by-solve : (c : Counts) → solve f i s ≡ ended (Done c) t → Factored f i s t
+  by-refactor : refactor f i s ≡ ended ends.Done t → Factored f i s t
+
+-- a right side that passes the questions: n finite numbers
+pub record Finite (n : ℕ) (b : List Float) : Type 0 where
+  pub long : length b ≡ n
+  pub all : (k : ℕ) → k < n → finite (getD b k nan) ≡ true
+
+-- another right side over t, of what a solve of j over s gives
+pub record ResolvesAs (f : Form) (j : Input) (s t : Buffers) : Type 0 where
+  -- done where the solve is, or its refusal at the same place
+  pub answer : resolve f j t .answer ≡ endOf (solve f j s .answer)
+  -- the solve's x; scratch is zero, and all else stays
+  pub buffers : numberOfEnd (resolve f j t .answer) ≡ 0 → resolve f j t .buffers ≡ withSolution t (solve f j s .buffers .x)
+  -- no refusal but 13; then x stays too
+  pub over : 1 ≤ numberOfEnd (resolve f j t .answer) → (numberOfEnd (resolve f j t .answer) ≡ 13) × (resolve f j t .buffers ≡ scratchCleared t)
+
+-- "another right side: factors found before, a new b"
+abbrev pub Resolving : Type 0
+Resolving = (f : Form) → Keeps f → (i : Input) (s t : Buffers) → Factored f i s t → (b : List Float) → Finite (i .n) b → ResolvesAs f (withNumbers i (i .values) b) s t
+
+-- with the same b all buffers, x among them, are as they were
+abbrev pub ResolvingSame : Type 0
+ResolvingSame = (f : Form) → Keeps f → (i : Input) (s t : Buffers) → Factored f i s t → resolve f i t ≡ ended ends.Done t
