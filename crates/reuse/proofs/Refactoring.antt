@@ -1,5 +1,5 @@
 -- Refactor over lists found before is a solve.
-use mathlib.Core.Path.{_≡_, refl, sym, ap, _∙_}
+use mathlib.Core.Path.{_≡_, refl, sym, ap, ap₂, _∙_}
 use mathlib.Core.List.{List, []}
 use Prim.Native.Nat.{ℕ, _≤_, _<_}
 use native.Mathlib.Omega.{arith}
@@ -22,18 +22,20 @@ use Rattle.base.specs.declared.Ended.the-variants as ends
 use Rattle.base.specs.declared.SideSizes.{SideSizes}
 use Rattle.base.specs.declared.Sizes.{Sizes}
 use Rattle.fill.specs.Fill.{Pattern}
-use Rattle.matrix.specs.Input.{Input, stored}
+use Rattle.matrix.specs.Input.{Input, stored, ownOrder}
 use Rattle.matrix.specs.Questions.{askStructure, askSolve}
 use Rattle.arithmetic.specs.Arith.{Fault, zeroPivot, overflow, Out, ok, met, Result}
+use Rattle.arithmetic.specs.Factors.{ok-inj}
 use Rattle.outcome.specs.Forms.{placedTo}
 use Rattle.outcome.specs.Buffers.{SideBuffers, Buffers, buffersOf, sizes, sideOf, patternTests, structureTests, askShape, scratchCleared, cleared, Outcome, ended, stop}
-use Rattle.outcome.specs.Structure.{askPlaces, askPlace, sidePlaced, structured, structure}
+use Rattle.outcome.specs.Structure.{counts, askPlaces, askPlace, sidePlaced, structured, structure}
 use Rattle.outcome.specs.Solve.{listed, faultOf, valuesKept, kept, left, concluded, shape, solve}
 use Rattle.outcome.specs.Refactor.{askPresented, refilled, emptied, refactored, refactor}
 use Rattle.outcome.proofs.Asking.{number-some, Within}
 use Rattle.outcome.proofs.Places.{places-pass}
-use Rattle.outcome.proofs.Answers.{shape-within, solve-within}
-use Rattle.reuse.specs.Reuse.{Keeps, endOf, withNumbers, Leaves, after-structure, after-solve, SameLists, Presented, RefactorsAs, Refactoring}
+use Rattle.outcome.proofs.Answers.{verdict, solve-answer, solve-x, shape-within, solve-within, ofMatrix, earlier-stated}
+use Rattle.agreement.specs.Demand.{Stated}
+use Rattle.reuse.specs.Reuse.{Keeps, endOf, withNumbers, Leaves, after-structure, after-solve, SameLists, Presented, RefactorsAs, Refactoring, RefactoringAlike}
 use Rattle.reuse.proofs.Standing.{Laid, placed-laid, padded-long, laid-stands, laid-revalued, place-more, places-all, presented}
 
 -- ---- a call that is done
@@ -126,24 +128,19 @@ module _ (f : Form) (v : Keeps f) (i : Input) (t : Buffers) (h : Presented f i t
 
 -- ---- the answers
 
--- o for a refactor over t, p for a solve
-abbrev Alike : Buffers → Outcome Ended → Outcome Answer → Type 0
-Alike t o p =
-    (o .answer ≡ endOf (p .answer)) × (numberOfEnd (o .answer) ≤ 8 → o .buffers ≡ p .buffers) × (9 ≤ numberOfEnd (o .answer) → o .buffers ≡ emptied t)
-
 fault-late : (q : Fault) → 12 ≤ numberOf (faultOf q)
 fault-late (zeroPivot k) = omega arith
 fault-late (overflow k) = omega arith
 
 chain-alike : (f : Form) (j : Input) (t : Buffers) (a b c d : Asked) (o : Out Result) → Within 1 2 a → Within 3 8 b → c ≡ Pass → d ≡ Pass
     → ((r : Result) → refactored f j t (ok r) .buffers ≡ left f j (sizes t) r)
-    → Alike t (stop ends.Refused a t (stop ends.Refused b (scratchCleared t) (stop ends.Refused c (scratchCleared t) (refactored f j t o))))
+    → RefactorsAs t (stop ends.Refused a t (stop ends.Refused b (scratchCleared t) (stop ends.Refused c (scratchCleared t) (refactored f j t o))))
     (stop Refused a t (stop Refused b (scratchCleared t) (stop Refused d (cleared (sizes t) (t .x)) (concluded f j (sizes t) (t .x) o))))
 unfolding Within
-chain-alike f j t (Stop q) b c d o u w g h e = (refl, λ l. refl, λ l. absurd (omega (arith, u q refl)))
-chain-alike f j t Pass (Stop q) c d o u w g h e = (refl, λ l. refl, λ l. absurd (omega (arith, w q refl)))
-chain-alike f j t Pass Pass c d (ok a) u w g h e = rw (g, h) (refl, λ l. e a, λ l. absurd (omega arith))
-chain-alike f j t Pass Pass c d (met q) u w g h e = rw (g, h) (refl, λ l. absurd (omega (arith, fault-late q)), λ l. refl)
+chain-alike f j t (Stop q) b c d o u w g h e = record { answer = refl; buffers = λ l. refl; empties = λ l. absurd (omega (arith, u q refl)) }
+chain-alike f j t Pass (Stop q) c d o u w g h e = record { answer = refl; buffers = λ l. refl; empties = λ l. absurd (omega (arith, w q refl)) }
+chain-alike f j t Pass Pass c d (ok a) u w g h e = rw (g, h) (record { answer = refl; buffers = λ l. e a; empties = λ l. absurd (omega arith) })
+chain-alike f j t Pass Pass c d (met q) u w g h e = rw (g, h) (record { answer = refl; buffers = λ l. absurd (omega (arith, fault-late q)); empties = λ l. refl })
 
 both-same : (l l′ u u′ : SideBuffers) (d x w : List Float) (m : List ℕ) → l ≡ l′ → u ≡ u′
     → _≡_ {A = Buffers} (record { lower = l; upper = u; d = d; x = x; work = w; marks = m }) (record { lower = l′; upper = u′; d = d; x = x; work = w; marks = m })
@@ -160,6 +157,39 @@ pub refactoring : Refactoring
 unfolding stored solve refactor
 refactoring f v i w b t h =
     let j = withNumbers i w b in
-    let p = chain-alike f j t (shape f j (sizes t)) (askSolve j) (askPresented f (stored j) (j .n) t) (askPlaces f (stored j) (j .n) (sizes t) (j .n)) (listed j)
-    (shape-within f j (sizes t)) (solve-within j) (presented-again f v i t h) (room-again f v i t h) (refilled-left f v j t (laid-at f v i t h)) in
-    record { answer = p .0; buffers = p .1; empties = p .2 }
+    chain-alike f j t (shape f j (sizes t)) (askSolve j) (askPresented f (stored j) (j .n) t) (askPlaces f (stored j) (j .n) (sizes t) (j .n)) (listed j)
+    (shape-within f j (sizes t)) (solve-within j) (presented-again f v i t h) (room-again f v i t h) (refilled-left f v j t (laid-at f v i t h))
+
+-- ---- the two forms
+
+end-number : (a : Answer) → numberOfEnd (endOf a) ≡ numberOfAnswer a
+end-number (Done c) = refl
+end-number (Refused q) = refl
+
+-- what is answered over lists found before, by the numbers alone
+refactor-answer : (f : Form) → Keeps f → (i : Input) (w b : List Float) (t : Buffers) → Presented f i t → Stated f i t
+    → refactor f (withNumbers i w b) t .answer ≡ endOf (verdict (ofMatrix (withNumbers i w b)) Pass (listed (withNumbers i w b)) (counts (withNumbers i w b)))
+unfolding Stated stored
+refactor-answer f v i w b t h e =
+    let j = withNumbers i w b in
+    refactoring f v i w b t h .answer
+    ∙ ap endOf (solve-answer f j t ∙ ap₂ (λ a c. verdict a c (listed j) (counts j)) (earlier-stated f j (sizes t) e) (room-again f v i t h))
+
+refactor-x : (f : Form) → Keeps f → (i : Input) (w b : List Float) (t : Buffers) → Presented f i t → numberOfEnd (refactor f (withNumbers i w b) t .answer) ≡ 0
+    → (r : Result) × (listed (withNumbers i w b) ≡ ok r) × (refactor f (withNumbers i w b) t .buffers .x ≡ ownOrder (i .c) (i .n) (r .z))
+refactor-x f v i w b t h e =
+    let j = withNumbers i w b in
+    let p = refactoring f v i w b t h in
+    let q = solve-x f j t (sym (end-number (solve f j t .answer)) ∙ ap numberOfEnd (sym (p .answer)) ∙ e) in
+    (q .0, q .1, ap (λ (t : Buffers). t .x) (p .buffers (omega (arith, e))) ∙ q .2)
+
+pub refactoring-alike : RefactoringAlike
+refactoring-alike f g v w i n b s t h k p q =
+    let same = refactor-answer f v i n b s h p ∙ sym (refactor-answer g w i n b t k q) in
+    record {
+      answer = same;
+      x = λ e.
+          let l = refactor-x f v i n b s h e in
+          let r = refactor-x g w i n b t k (ap numberOfEnd (sym same) ∙ e) in
+          l .2 ∙ ap (λ (a : Result). ownOrder (i .c) (i .n) (a .z)) (ok-inj (l .0) (r .0) (sym (l .1) ∙ r .1)) ∙ sym (r .2);
+    }

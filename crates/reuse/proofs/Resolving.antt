@@ -50,10 +50,10 @@ use Rattle.outcome.specs.Solve.{system, listed, faultOf, valuesOf, valuesKept, 
 use Rattle.outcome.specs.Placed.{lists-kept, value-grows}
 use Rattle.outcome.specs.Refactor.{askPresented, revalued, refilled, refactored, refactor}
 use Rattle.outcome.specs.Resolve.{givenList, givenValues, givenLower, rightSide, badList, badAt, askFactors, factorsOf, withSolution, resolved, resolve}
-use Rattle.outcome.proofs.Asking.{number-some, stop-pass, holds-pass, then-pass}
+use Rattle.outcome.proofs.Asking.{number-some, stop-pass, holds-pass, then-pass, all-append}
 use Rattle.outcome.proofs.Lengths.{room-at, values-long, long-listed, left-same}
 use Rattle.outcome.proofs.Meaning.{listed-stops}
-use Rattle.reuse.specs.Reuse.{Keeps, endOf, withNumbers, Factored, by-solve, by-refactor, Finite, ResolvesAs, Resolving, ResolvingSame}
+use Rattle.reuse.specs.Reuse.{Keeps, endOf, withNumbers, Factored, by-solve, by-refactor, Finite, ResolvesAs, Resolving, ResolvingSame, Alike, ResolvingAlike}
 use Rattle.reuse.proofs.Standing.{Stands, placed-laid, laid-stands, places-all, presented-at}
 use Rattle.reuse.proofs.Refactoring.{stop-done}
 use Rattle.reuse.proofs.OtherRight.{Tame, Below, Holds, HoldsAll, other, zOf, solved-tame, solved-right, Overflows, solvedAgain-over}
@@ -367,12 +367,7 @@ left-x Plain v i z a = refl
 left-x Shared v i z a = refl
 left-x ByRow v i z a = absurd (v refl)
 
-record Again (s t : Buffers) (o : Outcome Ended) (p : Outcome Answer) : Type 0 where
-  answer : o .answer ≡ endOf (p .answer)
-  buffers : numberOfEnd (o .answer) ≡ 0 → o .buffers ≡ withSolution t (p .buffers .x)
-  over : 1 ≤ numberOfEnd (o .answer) → (numberOfEnd (o .answer) ≡ 13) × (o .buffers ≡ scratchCleared t)
-
-ends-again : (f : Form) → Keeps f → (j : Input) (s t : Buffers) (o : Out Result) → Overflows (zOf o) → Again s t (resolved j t (zOf o)) (concluded f j (sizes s) (s .x) o)
+ends-again : (f : Form) → Keeps f → (j : Input) (s t : Buffers) (o : Out Result) → Overflows (zOf o) → ResolvesAs t (resolved j t (zOf o)) (concluded f j (sizes s) (s .x) o)
 ends-again f v j s t (ok a) w = record { answer = refl; buffers = λ e. ap (withSolution t) (sym (left-x f v j (sizes s) a)); over = λ l. absurd (omega arith) }
 ends-again f v j s t (met q) w =
     let k = w q refl in
@@ -383,8 +378,7 @@ resolving f v i s t c b g =
     let j = withNumbers i (i .values) b in
     let h = factors-kept f v i s t c in
     let w : Overflows (zOf (listed j)) = rw (← again-is f v i s t (h .0) (h .1) b, solvedAgain-is) (solvedAgain-over (factorsOf f j t)) in
-    let e : Again s t (resolve f j t) (solve f j s) = rw (resolve-end f v i s t (h .0) (h .1) b g, solve-end f v i s t (h .0) (h .1) b g) (ends-again f v j s t (listed j) w) in
-    record { answer = e .answer; buffers = e .buffers; over = e .over }
+    rw (resolve-end f v i s t (h .0) (h .1) b g, solve-end f v i s t (h .0) (h .1) b g) (ends-again f v j s t (listed j) w)
 
 -- ---- the same right side
 
@@ -411,3 +405,29 @@ resolving-same f v i s t c =
     let h = k .1 in
     resolve-end f v i s t (k .0) h (i .b) (own-finite i (shape-all f i (sizes s) (h .lengths) .1) (h .questions))
     ∙ rw (h .run) (ap (ended ends.Done) (whole t _ _ _ (h .x) (h .work) (h .marks)))
+
+-- ---- the two forms
+
+-- the stated lengths leave question 2 to the right side
+right-shape : (f : Form) (i : Input) (s t : Buffers) (a : Result) → Kept f i s t a → (b : List Float)
+    → askShape (i .n) (rightTests (withNumbers i (i .values) b) ++ bufferTests f (i .n) (sizes t)) ≡ askShape (i .n) (rightTests (withNumbers i (i .values) b))
+unfolding askShape
+right-shape f i s t a h b =
+    ap (λ t. andThen (holds (rowsWithin (i .n)) Rows) (holds t Lengths))
+    (all-append (rightTests (withNumbers i (i .values) b)) (bufferTests f (i .n) (sizes t)) (ap (λ (z : Sizes). all (bufferTests f (i .n) z)) (h .long) ∙ shape-all f i (sizes s) (h .lengths) .2))
+
+chain-alike : (j : Input) (p q : Buffers) (a b : Asked) (o : Out (List Float))
+    → Alike (stop ends.Refused a p (stop ends.Refused b (scratchCleared p) (resolved j p o))) (stop ends.Refused a q (stop ends.Refused b (scratchCleared q) (resolved j q o)))
+unfolding withSolution
+chain-alike j p q (Stop r) b o = record { answer = refl; x = λ e. absurd (number-some r e) }
+chain-alike j p q Pass (Stop r) o = record { answer = refl; x = λ e. absurd (number-some r e) }
+chain-alike j p q Pass Pass (ok z) = record { answer = refl; x = λ e. refl }
+chain-alike j p q Pass Pass (met r) = record { answer = refl; x = λ e. absurd (number-some (faultOf r) e) }
+
+pub resolving-alike : ResolvingAlike
+resolving-alike f g v w i s p t q c d b =
+    let j = withNumbers i (i .values) b in
+    let h = factors-kept f v i s p c in
+    let k = factors-kept g w i t q d in
+    rw (resolve-is f v i s p (h .0) (h .1) b, resolve-is g w i t q (k .0) (k .1) b, right-shape f i s p (h .0) (h .1) b, right-shape g i t q (k .0) (k .1) b)
+    (chain-alike j p q (askShape (i .n) (rightTests j)) (askRight (i .n) (i .r) (i .c) b) (zOf (listed j)))

@@ -16,11 +16,12 @@ use Rattle.base.specs.declared.Answer.the-variants.{Done, Refused}
 use Rattle.base.specs.declared.Ended.{Ended}
 use Rattle.base.specs.declared.Ended.the-variants as ends
 use Rattle.matrix.specs.Input.{Input, inputOf}
-use Rattle.outcome.specs.Buffers.{SideBuffers, Buffers, scratchCleared, ended}
+use Rattle.outcome.specs.Buffers.{SideBuffers, Buffers, scratchCleared, Outcome, ended}
 use Rattle.outcome.specs.Structure.{structure}
 use Rattle.outcome.specs.Solve.{solve}
 use Rattle.outcome.specs.Refactor.{emptied, refactor}
 use Rattle.outcome.specs.Resolve.{withSolution, resolve}
+use Rattle.agreement.specs.Demand.{Stated}
 
 -- ---- words
 
@@ -58,18 +59,19 @@ pub record Presented (f : Form) (i : Input) (t : Buffers) : Type 0 where
   pub lower : SameLists (u .lower) (t .lower)
   pub upper : SameLists (u .upper) (t .upper)
 
--- refactor with the numbers of j over t is a solve of j over t
-pub record RefactorsAs (f : Form) (j : Input) (t : Buffers) : Type 0 where
+-- a refactor over t, as a solve over t ends
+pub record RefactorsAs (t : Buffers) (o : Outcome Ended) (p : Outcome Answer) : Type 0 where
   -- done where the solve is, or its refusal
-  pub answer : refactor f j t .answer ≡ endOf (solve f j t .answer)
+  pub answer : o .answer ≡ endOf (p .answer)
   -- done, or refused before 9: what the solve leaves, factors and x among it
-  pub buffers : numberOfEnd (refactor f j t .answer) ≤ 8 → refactor f j t .buffers ≡ solve f j t .buffers
+  pub buffers : numberOfEnd (o .answer) ≤ 8 → o .buffers ≡ p .buffers
   -- 12 or 13: the lists stay, x is untouched, all else is zero
-  pub empties : 9 ≤ numberOfEnd (refactor f j t .answer) → refactor f j t .buffers ≡ emptied t
+  pub empties : 9 ≤ numberOfEnd (o .answer) → o .buffers ≡ emptied t
 
 -- "refactor: new values over a structure found before"
 abbrev pub Refactoring : Type 0
-Refactoring = (f : Form) → Keeps f → (i : Input) (v b : List Float) (t : Buffers) → Presented f i t → RefactorsAs f (withNumbers i v b) t
+Refactoring =
+    (f : Form) → Keeps f → (i : Input) (v b : List Float) (t : Buffers) → Presented f i t → RefactorsAs t (refactor f (withNumbers i v b) t) (solve f (withNumbers i v b) t)
 
 -- ---- another right side over factors found before
 
@@ -83,19 +85,39 @@ pub record Finite (n : ℕ) (b : List Float) : Type 0 where
   pub long : length b ≡ n
   pub all : (k : ℕ) → k < n → finite (getD b k nan) ≡ true
 
--- another right side over t, of what a solve of j over s gives
-pub record ResolvesAs (f : Form) (j : Input) (s t : Buffers) : Type 0 where
+-- another right side over t, as a solve ends
+pub record ResolvesAs (t : Buffers) (o : Outcome Ended) (p : Outcome Answer) : Type 0 where
   -- done where the solve is, or its refusal at the same place
-  pub answer : resolve f j t .answer ≡ endOf (solve f j s .answer)
+  pub answer : o .answer ≡ endOf (p .answer)
   -- the solve's x; scratch is zero, and all else stays
-  pub buffers : numberOfEnd (resolve f j t .answer) ≡ 0 → resolve f j t .buffers ≡ withSolution t (solve f j s .buffers .x)
+  pub buffers : numberOfEnd (o .answer) ≡ 0 → o .buffers ≡ withSolution t (p .buffers .x)
   -- no refusal but 13; then x stays too
-  pub over : 1 ≤ numberOfEnd (resolve f j t .answer) → (numberOfEnd (resolve f j t .answer) ≡ 13) × (resolve f j t .buffers ≡ scratchCleared t)
+  pub over : 1 ≤ numberOfEnd (o .answer) → (numberOfEnd (o .answer) ≡ 13) × (o .buffers ≡ scratchCleared t)
 
 -- "another right side: factors found before, a new b"
 abbrev pub Resolving : Type 0
-Resolving = (f : Form) → Keeps f → (i : Input) (s t : Buffers) → Factored f i s t → (b : List Float) → Finite (i .n) b → ResolvesAs f (withNumbers i (i .values) b) s t
+Resolving =
+    (f : Form) → Keeps f → (i : Input) (s t : Buffers) → Factored f i s t → (b : List Float) → Finite (i .n) b
+    → ResolvesAs t (resolve f (withNumbers i (i .values) b) t) (solve f (withNumbers i (i .values) b) s)
 
 -- with the same b all buffers, x among them, are as they were
 abbrev pub ResolvingSame : Type 0
 ResolvingSame = (f : Form) → Keeps f → (i : Input) (s t : Buffers) → Factored f i s t → resolve f i t ≡ ended ends.Done t
+
+-- ---- the two forms
+
+pub record Alike (o p : Outcome Ended) : Type 0 where
+  pub answer : o .answer ≡ p .answer
+  pub x : numberOfEnd (o .answer) ≡ 0 → o .buffers .x ≡ p .buffers .x
+
+-- over lists that calls of either form left for the same input, stores of any lengths that took them
+abbrev pub RefactoringAlike : Type 0
+RefactoringAlike =
+    (f g : Form) → Keeps f → Keeps g → (i : Input) (v b : List Float) (s t : Buffers) → Presented f i s → Presented g i t → Stated f i s → Stated g i t
+    → Alike (refactor f (withNumbers i v b) s) (refactor g (withNumbers i v b) t)
+
+-- over factors of either form, p and q, for the same input, and any right side
+abbrev pub ResolvingAlike : Type 0
+ResolvingAlike =
+    (f g : Form) → Keeps f → Keeps g → (i : Input) (s p t q : Buffers) → Factored f i s p → Factored g i t q → (b : List Float)
+    → Alike (resolve f (withNumbers i (i .values) b) p) (resolve g (withNumbers i (i .values) b) q)
