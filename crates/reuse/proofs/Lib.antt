@@ -3,3 +3,4 @@ pub mod Refactoring
 pub mod OtherRight
 pub mod Stored
 pub mod Resolving
+pub mod Contracts
