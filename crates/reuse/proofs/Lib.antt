@@ -4,3 +4,4 @@ pub mod OtherRight
 pub mod Stored
 pub mod Resolving
 pub mod Contracts
+pub mod Witness
