@@ -1,6 +1,6 @@
 -- What the refactor calls ensure, of the lists that each is lent, in the order of the call's parameters. Definitions only.
 use mathlib.Core.Path.{_≡_}
-use mathlib.Core.List.{List, []}
+use mathlib.Core.List.{List}
 use Prim.Native.Nat.{ℕ}
 use lib.Ieee.{Float}
 use Rattle.matrix.specs.Input.{Input}

@@ -5,22 +5,19 @@ use Prim.Native.Nat.{ℕ, _≤_}
 use native.Mathlib.Omega.{arith}
 use lib.ListN.{length}
 use lib.Ieee.{Float}
-use Rattle.base.specs.declared.Form.{Form}
-use Rattle.base.specs.declared.Form.the-variants.{Plain, Shared, ByRow}
+use Rattle.base.specs.declared.Form.the-variants.{Plain, Shared}
 use Rattle.base.specs.declared.Counts.{Counts}
 use Rattle.base.specs.declared.Answer.{Answer}
 use Rattle.base.specs.declared.Answer.the-variants.{Done}
 use Rattle.base.specs.declared.Ended.{Ended}
 use Rattle.base.specs.declared.Ended.the-variants as ends
 use Rattle.matrix.specs.Input.{Input}
-use Rattle.outcome.specs.Buffers.{SideBuffers, sideBuffers, Buffers, plainBuffers, sharedBuffers, ended}
-use Rattle.outcome.specs.Solve.{solve}
-use Rattle.outcome.specs.Refactor.{refactor}
+use Rattle.outcome.specs.Buffers.{sideBuffers, Buffers, plainBuffers, sharedBuffers, ended}
 use Rattle.outcome.specs.Resolve.{resolve}
 use Rattle.outcome.specs.Calls.{StructuresPlain, StructuresShared, SolvesPlain, SolvesShared}
 use Rattle.outcome.specs.Again.{RefactorsPlain, RefactorsShared}
 use Rattle.agreement.specs.Demand.{Stated}
-use Rattle.reuse.specs.Reuse.{Keeps, withNumbers, Leaves, after-structure, after-solve, SameLists, Presented, RefactorsAs, Factored, by-solve, by-refactor, Finite, ResolvesAs, Alike}
+use Rattle.reuse.specs.Reuse.{Keeps, withNumbers, after-structure, after-solve, SameLists, Presented, RefactorsAs, by-solve, by-refactor, Finite, ResolvesAs, Alike}
 use Rattle.reuse.proofs.Refactoring.{refactoring, refactoring-alike}
 use Rattle.reuse.proofs.Resolving.{resolving}
 

@@ -1,12 +1,12 @@
 -- Refactor over lists found before is a solve.
 use mathlib.Core.Path.{_≡_, refl, sym, ap, ap₂, _∙_}
-use mathlib.Core.List.{List, []}
+use mathlib.Core.List.{List}
 use Prim.Native.Nat.{ℕ, _≤_, _<_}
 use native.Mathlib.Omega.{arith}
 use lib.ListN.{length}
 use lib.Ieee.{Float}
 use Rattle.base.specs.Lists.{nought}
-use Rattle.base.specs.Answers.{numberOf, numberOfAnswer, numberOfEnd, spot}
+use Rattle.base.specs.Answers.{numberOf, numberOfAnswer, numberOfEnd}
 use Rattle.base.specs.declared.Form.{Form}
 use Rattle.base.specs.declared.Form.the-variants.{Plain, Shared, ByRow}
 use Rattle.base.specs.declared.Side.{Side}
@@ -17,7 +17,6 @@ use Rattle.base.specs.declared.Asked.{Asked}
 use Rattle.base.specs.declared.Asked.the-variants.{Pass, Stop}
 use Rattle.base.specs.declared.Answer.{Answer}
 use Rattle.base.specs.declared.Answer.the-variants.{Done, Refused}
-use Rattle.base.specs.declared.Ended.{Ended}
 use Rattle.base.specs.declared.Ended.the-variants as ends
 use Rattle.base.specs.declared.SideSizes.{SideSizes}
 use Rattle.base.specs.declared.Sizes.{Sizes}
@@ -27,10 +26,10 @@ use Rattle.matrix.specs.Questions.{askStructure, askSolve}
 use Rattle.arithmetic.specs.Arith.{Fault, zeroPivot, overflow, Out, ok, met, Result}
 use Rattle.arithmetic.specs.Factors.{ok-inj}
 use Rattle.outcome.specs.Forms.{placedTo}
-use Rattle.outcome.specs.Buffers.{SideBuffers, Buffers, buffersOf, sizes, sideOf, patternTests, structureTests, askShape, scratchCleared, cleared, Outcome, ended, stop}
+use Rattle.outcome.specs.Buffers.{SideBuffers, Buffers, buffersOf, sizes, sideOf, askShape, scratchCleared, cleared, Outcome, ended, stop}
 use Rattle.outcome.specs.Structure.{counts, askPlaces, askPlace, sidePlaced, structured, structure}
-use Rattle.outcome.specs.Solve.{listed, faultOf, valuesKept, kept, left, concluded, shape, solve}
-use Rattle.outcome.specs.Refactor.{askPresented, refilled, emptied, refactored, refactor}
+use Rattle.outcome.specs.Solve.{listed, faultOf, kept, left, concluded, shape, solve}
+use Rattle.outcome.specs.Refactor.{askPresented, refilled, refactored, refactor}
 use Rattle.outcome.proofs.Asking.{number-some, Within}
 use Rattle.outcome.proofs.Places.{places-pass}
 use Rattle.outcome.proofs.Answers.{verdict, solve-answer, solve-x, shape-within, solve-within, ofMatrix, earlier-stated}
@@ -46,8 +45,11 @@ pub stop-done : {A : Type 0} (number : A → ℕ) (refuse : Refusal → A) (told
 stop-done number refuse told o z Pass s t rest e = (refl, e)
 stop-done number refuse told o z (Stop q) s t rest e = absurd (number-some q (sym (told q) ∙ ap (λ p. number (p .answer)) e ∙ z))
 
-answer-told : (q : Refusal) → numberOfAnswer (Refused q) ≡ numberOf q
+pub answer-told : (q : Refusal) → numberOfAnswer (Refused q) ≡ numberOf q
 answer-told q = refl
+
+pub end-told : (q : Refusal) → numberOfEnd (ends.Refused q) ≡ numberOf q
+end-told q = refl
 
 -- ---- a side as a call left it
 

@@ -2,7 +2,7 @@
 use mathlib.Core.Path.{_≡_, refl, sym, ap, subst, _∙_}
 use mathlib.Core.Bool.{Bool, true, false, not, _&&_, _||_}
 use mathlib.Core.List.{List, [], _∷_, _++_}
-use Prim.Native.Nat.{ℕ, zero, suc, _+_, _≤_, _<_}
+use Prim.Native.Nat.{ℕ, suc, _+_, _≤_, _<_}
 use native.Mathlib.Omega.{arith}
 use lib.ListN.{length, getD, replicate, length-replicate}
 use lib.Ieee.{Float, nan}
@@ -16,16 +16,14 @@ use Rattle.base.specs.All.{all, allWith}
 use Rattle.base.specs.AllLaws.{all-true}
 use Rattle.base.specs.Tests.{and-cases, not-true}
 use Rattle.base.specs.Limits.{rowsWithin}
-use Rattle.base.specs.Answers.{numberOf, numberOfAnswer, numberOfEnd, holds, absent, andThen}
+use Rattle.base.specs.Answers.{numberOf, numberOfAnswer, numberOfEnd, holds, andThen}
 use Rattle.base.specs.declared.Form.{Form}
 use Rattle.base.specs.declared.Form.the-variants.{Plain, Shared, ByRow}
 use Rattle.base.specs.declared.Side.{Side}
 use Rattle.base.specs.declared.Side.the-variants.{Lower, Upper}
 use Rattle.base.specs.declared.Counts.{Counts}
-use Rattle.base.specs.declared.Refusal.{Refusal}
 use Rattle.base.specs.declared.Refusal.the-variants.{Rows, Lengths}
-use Rattle.base.specs.declared.Found.{Found}
-use Rattle.base.specs.declared.Found.the-variants.{At, Nothing}
+use Rattle.base.specs.declared.Found.the-variants.{Nothing}
 use Rattle.base.specs.declared.Asked.{Asked}
 use Rattle.base.specs.declared.Asked.the-variants.{Pass, Stop}
 use Rattle.base.specs.declared.Answer.{Answer}
@@ -33,30 +31,30 @@ use Rattle.base.specs.declared.Answer.the-variants.{Done, Refused}
 use Rattle.base.specs.declared.Ended.{Ended}
 use Rattle.base.specs.declared.Ended.the-variants as ends
 use Rattle.base.specs.declared.Sizes.{Sizes}
-use Rattle.fill.specs.Fill.{Pattern, filled, lowerRow, upperRow}
+use Rattle.fill.specs.Fill.{Pattern, filled, lowerRow}
 use Rattle.placement.specs.Placing.{startOf}
 use Rattle.placement.specs.FillNested.{mem-asc}
 use Rattle.matrix.specs.Input.{Input, stored, entries, rightAt, ownOrder}
 use Rattle.matrix.specs.Questions.{notFinite, ask3, ask4, ask5, ask6, askFinite, askPattern, askRows, askSolve, askRight}
-use Rattle.arithmetic.specs.Arith.{Fault, Out, ok, met, judged, Row, none, Result}
+use Rattle.arithmetic.specs.Arith.{Fault, Out, ok, met, judged, none, Result}
 use Rattle.arithmetic.specs.Again.{wholeAgain}
 use Rattle.arithmetic.specs.RowEnd.{finiteAll}
 use Rattle.arithmetic.specs.Stopping.{solved}
 use Rattle.arithmetic.specs.StoppingLaws.{solvedAgain-is}
 use Rattle.outcome.specs.Forms.{listsOf, valueNeed, indexNeed}
-use Rattle.outcome.specs.Buffers.{SideBuffers, Buffers, allBuffers, buffersOf, sideSizes, sizes, sideOf, matrixTests, rightTests, bufferTests, askShape, scratchCleared, Outcome, ended, stop}
+use Rattle.outcome.specs.Buffers.{SideBuffers, Buffers, allBuffers, buffersOf, sizes, sideOf, matrixTests, rightTests, bufferTests, askShape, scratchCleared, Outcome, ended, stop}
 use Rattle.outcome.specs.Structure.{askPlaces, sidePlaced}
 use Rattle.outcome.specs.Solve.{system, listed, faultOf, valuesOf, valuesKept, pivotsKept, kept, left, concluded, shape, solve}
 use Rattle.outcome.specs.Placed.{lists-kept, value-grows}
 use Rattle.outcome.specs.Refactor.{askPresented, revalued, refilled, refactored, refactor}
 use Rattle.outcome.specs.Resolve.{givenList, givenValues, givenLower, rightSide, badList, badAt, askFactors, factorsOf, withSolution, resolved, resolve}
-use Rattle.outcome.proofs.Asking.{number-some, stop-pass, holds-pass, then-pass, all-append}
+use Rattle.outcome.proofs.Asking.{number-some, holds-pass, then-pass, all-append}
 use Rattle.outcome.proofs.Lengths.{room-at, values-long, long-listed, left-same}
 use Rattle.outcome.proofs.Meaning.{listed-stops}
-use Rattle.reuse.specs.Reuse.{Keeps, endOf, withNumbers, Factored, by-solve, by-refactor, Finite, ResolvesAs, Resolving, ResolvingSame, Alike, ResolvingAlike}
-use Rattle.reuse.proofs.Standing.{Stands, placed-laid, laid-stands, places-all, presented-at}
-use Rattle.reuse.proofs.Refactoring.{stop-done}
-use Rattle.reuse.proofs.OtherRight.{Tame, Below, Holds, HoldsAll, other, zOf, solved-tame, solved-right, Overflows, solvedAgain-over}
+use Rattle.reuse.specs.Reuse.{Keeps, withNumbers, Factored, by-solve, by-refactor, Finite, ResolvesAs, Resolving, ResolvingSame, Alike, ResolvingAlike}
+use Rattle.reuse.proofs.Standing.{Stands, placed-laid, laid-stands, places-all, absent-pass, presented-at}
+use Rattle.reuse.proofs.Refactoring.{stop-done, answer-told, end-told}
+use Rattle.reuse.proofs.OtherRight.{Tame, Below, HoldsAll, other, zOf, solved-tame, solved-right, Overflows, solvedAgain-over}
 use Rattle.reuse.proofs.Stored.{list-is, values-are, lower-plain, lower-shared, lists-rise, values-finite, well-placed}
 
 -- ---- what a solve and a refactor leave
@@ -87,12 +85,6 @@ concluded-ok f i z x c t (met q) e = absurd (number-some (faultOf q) (ap (λ (o 
 refactored-ok : (f : Form) (i : Input) (s t : Buffers) (o : Out Result) → refactored f i s o ≡ ended ends.Done t → (a : Result) × (o ≡ ok a) × (t ≡ refactored f i s (ok a) .buffers)
 refactored-ok f i s t (ok a) e = (a, refl, ap (λ (o : Outcome Ended). o .buffers) (sym e))
 refactored-ok f i s t (met q) e = absurd (number-some (faultOf q) (ap (λ (o : Outcome Ended). numberOfEnd (o .answer)) e))
-
-answer-told : (q : Refusal) → numberOfAnswer (Refused q) ≡ numberOf q
-answer-told q = refl
-
-end-told : (q : Refusal) → numberOfEnd (ends.Refused q) ≡ numberOf q
-end-told q = refl
 
 zeros-again : {A : Type 0} (v : A) (m : ℕ) → replicate m v ≡ replicate (length (replicate m v)) v
 zeros-again v m = ap (λ (k : ℕ). replicate k v) (sym (length-replicate m v))
@@ -382,10 +374,6 @@ resolving f v i s t c b g =
 
 -- ---- the same right side
 
-absent-none : (o : Found) (g : ℕ → Refusal) → absent o g ≡ Pass → o ≡ Nothing
-absent-none Nothing g e = refl
-absent-none (At k) g e = absurd (stop-pass (g k) e)
-
 own-finite : (i : Input) → all (matrixTests i) ≡ true → askSolve i ≡ Pass → Finite (i .n) (i .b)
 unfolding askSolve ask6 askFinite notFinite
 own-finite i e q =
@@ -393,7 +381,7 @@ own-finite i e q =
     let r = then-pass (ask6 (i .values) (i .b)) (askRows i) (p .1) in
     let w = then-pass (askFinite (i .values) 0) (askFinite (i .b) (length (i .values))) (r .0) in
     let n : length (i .b) ≡ i .n = eqb-true (length (i .b)) (i .n) (all-true (matrixTests i) e 5) in
-    record { long = n; all = λ k l. not-true (finite (getD (i .b) k nan)) (first-none (notFinite (i .b)) (length (i .b)) (absent-none _ _ (w .1)) k (omega arith)) }
+    record { long = n; all = λ k l. not-true (finite (getD (i .b) k nan)) (first-none (notFinite (i .b)) (length (i .b)) (absent-pass _ _ (w .1)) k (omega arith)) }
 
 whole : (t : Buffers) (x w : List Float) (m : List ℕ) → t .x ≡ x → t .work ≡ w → t .marks ≡ m → allBuffers (t .lower) (t .upper) (t .d) x w m ≡ t
 whole t x w m e f g = rw (← e, ← f, ← g)

@@ -1,25 +1,25 @@
 -- The lists of a side, place by place: as a structure call or a solve leaves them, and as question 14 asks for them.
 use mathlib.Core.Path.{_≡_, refl, sym, ap, _∙_}
-use mathlib.Core.Bool.{Bool, true, false, not, _&&_, false≢true, true≢false}
+use mathlib.Core.Bool.{true, false≢true}
 use mathlib.Core.List.{List, [], _∷_, _++_}
 use Prim.Native.Nat.{ℕ, zero, suc, _+_, _-_, _≤_, _<_}
 use native.Mathlib.Omega.{arith}
 use native.Mathlib.Numerals.{add-one}
 use lib.ListN.{length, getD, take, drop, replicate, length-append, length-replicate}
-use lib.Dec.{leb, eqb}
+use lib.Dec.{eqb}
 use lib.Ieee.{Float}
 use borrow.Author.Tests.{eqb-true, eq-eqb, leb-true, le-leb}
-use Rattle.base.specs.Lists.{table, padded, nought}
+use Rattle.base.specs.Lists.{table, padded}
 use Rattle.base.specs.First.{first}
 use Rattle.base.specs.FirstLaws.{first-all, first-none}
 use Rattle.base.specs.TableLaws.{getD-table}
 use Rattle.base.specs.Tests.{and-cases, not-true}
-use Rattle.base.specs.Answers.{absent, holds, andThen, spot}
+use Rattle.base.specs.Answers.{absent}
 use Rattle.base.specs.declared.Form.{Form}
 use Rattle.base.specs.declared.Form.the-variants.{Plain, Shared, ByRow}
 use Rattle.base.specs.declared.Side.{Side}
 use Rattle.base.specs.declared.Side.the-variants.{Lower, Upper}
-use Rattle.base.specs.declared.Refusal.the-variants.{OtherStructure, NullPivot, LowerSlots, UpperSlots}
+use Rattle.base.specs.declared.Refusal.{Refusal}
 use Rattle.base.specs.declared.Asked.{Asked}
 use Rattle.base.specs.declared.Asked.the-variants.{Pass, Stop}
 use Rattle.base.specs.declared.Found.{Found}
@@ -27,7 +27,7 @@ use Rattle.base.specs.declared.Found.the-variants.{At, Nothing}
 use Rattle.base.specs.declared.SideSizes.{SideSizes}
 use Rattle.base.specs.declared.Sizes.{Sizes}
 use Rattle.fill.specs.Fill.{Pattern, filled}
-use Rattle.placement.specs.Placing.{runOf, startOf}
+use Rattle.placement.specs.Placing.{runOf}
 use Rattle.placement.specs.ListLaws.{part-append}
 use Rattle.placement.specs.PlacingLaws.{plain-starts}
 use Rattle.outcome.specs.Forms.{listsOf, rowsOf, placedTo, indexNeed, valueNeed}
@@ -37,7 +37,7 @@ use Rattle.outcome.specs.Placed.{lists-kept}
 use Rattle.outcome.specs.Refactor.{same, sameRun, sameAt, passes, differs, askPresented, revalued}
 use Rattle.outcome.specs.Resolve.{runsOf}
 use Rattle.outcome.proofs.Asking.{stop-pass}
-use Rattle.outcome.proofs.Places.{Passes, ask-pass, places-more}
+use Rattle.outcome.proofs.Places.{Passes}
 use Rattle.reuse.specs.Reuse.{Keeps}
 
 -- ---- two lists are equal
@@ -178,9 +178,9 @@ places-all f P n z (suc m) h = rw (places-all f P n z m (λ k l. h k (omega arit
 
 -- ---- question 14
 
-absent-pass : (o : Found) → absent o (λ k. OtherStructure (spot k)) ≡ Pass → o ≡ Nothing
-absent-pass Nothing e = refl
-absent-pass (At k) e = absurd (stop-pass _ e)
+pub absent-pass : (o : Found) (g : ℕ → Refusal) → absent o g ≡ Pass → o ≡ Nothing
+absent-pass Nothing g e = refl
+absent-pass (At k) g e = absurd (stop-pass (g k) e)
 
 passes-pass : (a : Asked) → passes a ≡ true → a ≡ Pass
 passes-pass Pass e = refl
@@ -197,6 +197,6 @@ module _ (f : Form) (P : Pattern) (n : ℕ) (t : Buffers) where
   pub presented-at : askPresented f P n t ≡ Pass → (k : ℕ) → k < n → (askPlace f P n (sizes t) k ≡ Pass) × ((side : Side) → Stands f side P n (buffersOf side t) k)
   unfolding askPresented differs
   presented-at e k l =
-      let q = and-cases _ _ (not-true _ (first-none (differs f P n t) n (absent-pass _ e) k l)) in
+      let q = and-cases _ _ (not-true _ (first-none (differs f P n t) n (absent-pass _ _ e) k l)) in
       let p = and-cases _ _ (q .0) in
       (passes-pass _ (p .0), elim [ Lower ↦ same-stands f Lower P n (t .lower) k l (p .1) | Upper ↦ same-stands f Upper P n (t .upper) k l (q .1) ])

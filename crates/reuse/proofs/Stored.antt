@@ -5,15 +5,14 @@ use mathlib.Core.List.{List, [], _∷_, _++_, map, append-nil, append-assoc, Lis
 use Prim.Native.Nat.{ℕ, zero, suc, _+_, _-_, _≤_, _<_}
 use native.Mathlib.Omega.{arith}
 use native.Mathlib.Decide.{decLt}
-use lib.ListN.{length, getD, take, drop, replicate, length-append, length-map}
+use lib.ListN.{length, getD, take, drop, replicate, length-append}
 use lib.Seq.{take-at, drop-at}
-use lib.Dec.{ltb, leb, eqb}
+use lib.Dec.{ltb, eqb}
 use lib.Ieee.{Float, nan}
 use lib.Ieee.Scale.{finite}
 use borrow.Author.Tests.{lt-ltb, le-ltb, ltb-true, le-leb, eq-eqb, eqb-true}
-use Rattle.base.specs.Lists.{asc, keep, count, has, joined, listAt, rowOf, pairs, padded, nought}
-use Rattle.base.specs.AscLaws.{has-asc, has-append, length-asc, count-lt}
-use Rattle.base.specs.TableLaws.{getD-table}
+use Rattle.base.specs.Lists.{asc, keep, has, joined, listAt, pairs, padded, nought}
+use Rattle.base.specs.AscLaws.{has-asc, length-asc, count-lt}
 use Rattle.base.specs.Tests.{by-test, and-cases}
 use Rattle.base.specs.declared.Form.{Form}
 use Rattle.base.specs.declared.Form.the-variants.{Plain, Shared, ByRow}
@@ -28,8 +27,8 @@ use Rattle.arithmetic.specs.Arith.{Row, none}
 use Rattle.arithmetic.specs.RowEnd.{finiteAll}
 use Rattle.outcome.specs.Forms.{listsOf, placedTo, valueNeed}
 use Rattle.outcome.specs.Buffers.{SideBuffers}
-use Rattle.outcome.specs.Solve.{multiplier, valuesOf, valuesKept, pivotsKept}
-use Rattle.outcome.specs.Resolve.{runsOf, givenList, givenValues, risesIn, rightSide, misplaced, badList, hit, givenLower}
+use Rattle.outcome.specs.Solve.{multiplier, valuesOf, valuesKept}
+use Rattle.outcome.specs.Resolve.{runsOf, givenList, givenValues, risesIn, rightSide, misplaced, hit, givenLower}
 use Rattle.reuse.specs.Reuse.{Keeps}
 use Rattle.reuse.proofs.Standing.{Stands}
 use Rattle.reuse.proofs.OtherRight.{Tame}

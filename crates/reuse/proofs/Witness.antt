@@ -1,21 +1,20 @@
 -- The premises of specs/Reuse can be met, with every kind of end: done, 12 and 13.
-use mathlib.Core.Path.{_≡_, refl, sym, ap, _∙_}
+use mathlib.Core.Path.{_≡_, refl, ap, _∙_}
 use mathlib.Core.List.{List, [], _∷_, map}
-use Prim.Native.Nat.{ℕ, zero, suc, _<_}
+use Prim.Native.Nat.{ℕ, zero, suc}
 use native.Mathlib.Omega.{arith}
 use lib.ListN.{replicate}
 use lib.Ieee.{Float, nan, binary64, ofBits, sub, mul, div, eq}
-use Rattle.base.specs.Lists.{asc, sum, count, has, table, joined, listAt, pairs, padded, nought}
+use Rattle.base.specs.Lists.{asc, sum, count, has, table, listAt, pairs, padded, nought}
 use Rattle.base.specs.First.{first}
 use Rattle.base.specs.Answers.{spot}
 use Rattle.base.specs.declared.Form.the-variants.{Plain, Shared}
 use Rattle.base.specs.declared.Counts.{Counts}
 use Rattle.base.specs.declared.Refusal.the-variants.{ZeroPivot, Overflow}
-use Rattle.base.specs.declared.Answer.{Answer}
 use Rattle.base.specs.declared.Answer.the-variants.{Done, Refused}
 use Rattle.base.specs.declared.Ended.the-variants as ends
 use Rattle.fill.specs.Fill.{reach, filled, upper, upperRow, lowerRow, lowerColumn, products}
-use Rattle.matrix.specs.Input.{Input, inputOf, isOf, ic, stored, entries, rightAt, ownOrder}
+use Rattle.matrix.specs.Input.{Input, inputOf, isOf, ic, stored, entries, rightAt}
 use Rattle.matrix.specs.Questions.{badStart, badColumn, badIndex, notFinite, noEntry, emptyRow, seenAt, repeats, repeatRow, ask3, ask4, ask5, askFinite, ask6, ask7, ask8, askPattern, askRows, askStructure, askSolve}
 use Rattle.placement.specs.Placing.{countAbove, tails, bestFrom, firstAt, agree, appendAll, fresh, meets, overlap, tailOr, shared, plain, after, placed, startOf}
 use Rattle.arithmetic.specs.Arith.{judged, loadRun, step1, subtractRun, stepRun, step2, scaledRun, step3, rowRun, forwardRun, restRun, backRun, wholeRun}
@@ -25,8 +24,7 @@ use Rattle.outcome.specs.Structure.{fits, askPlace, askPlaces, counts, sidePlac
 use Rattle.outcome.specs.Solve.{system, listed, shape, solve}
 use Rattle.outcome.specs.Refactor.{refactor}
 use Rattle.outcome.specs.Resolve.{resolve}
-use Rattle.agreement.specs.Demand.{Stated}
-use Rattle.reuse.specs.Reuse.{endOf, withNumbers, after-structure, Presented, Factored, by-solve, by-refactor, Finite}
+use Rattle.reuse.specs.Reuse.{endOf, withNumbers, Presented, Factored, by-solve, by-refactor, Finite}
 use Rattle.reuse.proofs.Refactoring.{refactoring}
 use Rattle.reuse.proofs.Resolving.{resolving, resolving-same}
 use Rattle.reuse.proofs.Contracts.{plain-keeps, shared-keeps, structure-presents-shared}

@@ -9,7 +9,7 @@ use mathlib.Core.Bool.{true}
 use mathlib.Core.Logic.{_≢_}
 use Rattle.base.specs.Answers.{numberOfEnd}
 use Rattle.base.specs.declared.Form.{Form}
-use Rattle.base.specs.declared.Form.the-variants.{Plain, Shared, ByRow}
+use Rattle.base.specs.declared.Form.the-variants.{ByRow}
 use Rattle.base.specs.declared.Counts.{Counts}
 use Rattle.base.specs.declared.Answer.{Answer}
 use Rattle.base.specs.declared.Answer.the-variants.{Done, Refused}
