@@ -5,7 +5,7 @@ use mathlib.Core.List.{List, [], _∷_, _++_, append-nil, List·Memᴰ, List·Me
 use Prim.Native.Nat.{ℕ, zero, suc, _+_, _≤_, _<_}
 use native.Mathlib.Omega.{arith}
 use native.Mathlib.Decide.{decLt}
-use lib.ListN.{length, getD, set, replicate, length-append, length-replicate, List·getD-append}
+use lib.ListN.{length, getD, set, replicate, length-append, length-replicate, List·getD-append, List·getD-eq-default}
 use lib.Seq.{getD-at, append-snoc}
 use lib.Ieee.{Float, nan, binary64, sub, mul, div}
 use lib.Ieee.Scale.{finite}
@@ -34,6 +34,12 @@ withYs-at [] ys k e l = absurd (omega arith)
 withYs-at (r ∷ rows) [] k e l = absurd (omega arith)
 withYs-at (r ∷ rows) (y ∷ ys) zero e l = refl
 withYs-at (r ∷ rows) (y ∷ ys) (suc k) e l = withYs-at rows ys k (omega arith) (omega arith)
+
+withYs-long : (rows : List Row) (ys : List Float) → length rows ≡ length ys → length (withYs rows ys) ≡ length rows
+unfolding withYs
+withYs-long [] ys e = refl
+withYs-long (r ∷ rows) [] e = absurd (omega arith)
+withYs-long (r ∷ rows) (y ∷ ys) e = ap suc (withYs-long rows ys (omega arith))
 
 withYs-more : (rows : List Row) (ys : List Float) (r : Row) (y : Float) → length rows ≡ length ys → withYs (rows ++ (r ∷ [])) (ys ++ (y ∷ [])) ≡ withYs rows ys ++ (withY r y ∷ [])
 unfolding withYs
@@ -337,6 +343,31 @@ solved-right S b F a low e h =
         back-same (givenBy F ys) (given (other S b) (withYs (a .rows) ys)) (S .n) (replicate (S .n) nought) (backs long ys (omega (arith, m ys refl)))
         ∙ last ys (back (given (other S b) (withYs (a .rows) ys)) (S .n) (replicate (S .n) nought))
     go long (met q) m = refl
+
+-- the two eliminations have the same factors
+pub record SameFactors (R Q : List Row) : Type 0 where
+  pub l : (k : ℕ) → getD Q k none .l ≡ getD R k none .l
+  pub d : (k : ℕ) → getD Q k none .d ≡ getD R k none .d
+  pub u : (k : ℕ) → getD Q k none .u ≡ getD R k none .u
+
+withYs-same : (rows : List Row) (ys : List Float) → length rows ≡ length ys → SameFactors rows (withYs rows ys)
+withYs-same rows ys e = record { l = λ k. go k .0; d = λ k. go k .1; u = λ k. go k .2 }
+  where
+    go : (k : ℕ) → (getD (withYs rows ys) k none .l ≡ getD rows k none .l) × (getD (withYs rows ys) k none .d ≡ getD rows k none .d) × (getD (withYs rows ys) k none .u ≡ getD rows k none .u)
+    go k = elim (decLt k (length rows)) [
+      | yes q ↦ (let h = withYs-at rows ys k e q in (ap (λ (r : Row). r .l) h, ap (λ (r : Row). r .d) h, ap (λ (r : Row). r .u) h))
+      | no q ↦
+          (let h = List·getD-eq-default (withYs rows ys) none {n = k} (omega (arith, withYs-long rows ys e)) ∙ sym (List·getD-eq-default rows none {n = k} (omega arith)) in
+          (ap (λ (r : Row). r .l) h, ap (λ (r : Row). r .d) h, ap (λ (r : Row). r .u) h))
+    ]
+
+pub solved-factors : (S : System) (b : ℕ → Float) (F : Factors) (a c : Result) → ((k : ℕ) → k < S .n → Below S k) → solved S ≡ ok a → HoldsAll S b F (a .rows) → solved (other S b) ≡ ok c → SameFactors (a .rows) (c .rows)
+unfolding withYs
+solved-factors S b F a c low e h g =
+    let f = solved-rows S a e in
+    let long : length (a .rows) ≡ S .n = omega (arith, forward-keeps S (S .n) 0 [] (a .rows) refl f .0) in
+    let q = bind-ok (again F (S .n) 0 []) (λ zs. ok (withYs (a .rows) zs)) (c .rows) (sym (forward-right S b F (a .rows) low (h .rows) (S .n) 0 [] [] (omega arith) refl refl f) ∙ solved-rows (other S b) c g) in
+    rw (← ok-inj (withYs (a .rows) (q .0)) (c .rows) (q .2)) (withYs-same (a .rows) (q .0) (omega (arith, again-length F (S .n) 0 [] (q .0) (q .1))))
 
 -- ---- the s, y and back steps ask for no pivot
 

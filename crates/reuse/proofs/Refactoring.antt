@@ -29,12 +29,12 @@ use Rattle.outcome.specs.Forms.{placedTo}
 use Rattle.outcome.specs.Buffers.{SideBuffers, Buffers, buffersOf, sizes, sideOf, askShape, scratchCleared, cleared, Outcome, ended, stop}
 use Rattle.outcome.specs.Structure.{counts, askPlaces, askPlace, sidePlaced, structured, structure}
 use Rattle.outcome.specs.Solve.{listed, faultOf, kept, left, concluded, shape, solve}
-use Rattle.outcome.specs.Refactor.{askPresented, refilled, refactored, refactor}
+use Rattle.outcome.specs.Refactor.{askPresented, revalued, refilled, emptied, refactored, refactor}
 use Rattle.outcome.proofs.Asking.{number-some, Within}
 use Rattle.outcome.proofs.Places.{places-pass}
 use Rattle.outcome.proofs.Answers.{verdict, solve-answer, solve-x, shape-within, solve-within, ofMatrix, earlier-stated}
 use Rattle.agreement.specs.Demand.{Stated}
-use Rattle.reuse.specs.Reuse.{Keeps, endOf, withNumbers, Leaves, after-structure, after-solve, SameLists, Presented, RefactorsAs, Refactoring, RefactoringAlike}
+use Rattle.reuse.specs.Reuse.{Keeps, endOf, withNumbers, Leaves, after-structure, after-solve, SameLists, Presented, RefactorsAs, Refactoring, RefactoringOn, RefactoringAlike}
 use Rattle.reuse.proofs.Standing.{Laid, placed-laid, padded-long, laid-stands, laid-revalued, place-more, places-all, presented}
 
 -- ---- a call that is done
@@ -161,6 +161,31 @@ refactoring f v i w b t h =
     let j = withNumbers i w b in
     chain-alike f j t (shape f j (sizes t)) (askSolve j) (askPresented f (stored j) (j .n) t) (askPlaces f (stored j) (j .n) (sizes t) (j .n)) (listed j)
     (shape-within f j (sizes t)) (solve-within j) (presented-again f v i t h) (room-again f v i t h) (refilled-left f v j t (laid-at f v i t h))
+
+-- ---- and again
+
+same-still : (u b : SideBuffers) (values : List Float) → SameLists u b → SameLists u (revalued b values)
+unfolding revalued
+same-still u b values h = record { starts = h .starts; runs = h .runs; index = h .index; values = omega (arith, h .values, padded-long nought (length (b .values)) values) }
+
+refactored-still : (f : Form) (i j : Input) (t : Buffers) (o : Out Result) → Presented f i t → Presented f i (refactored f j t o .buffers)
+unfolding refilled emptied
+refactored-still f i j t (ok a) h = record { u = h .u; left = h .left; lower = same-still (h .u .lower) (t .lower) _ (h .lower); upper = same-still (h .u .upper) (t .upper) _ (h .upper) }
+refactored-still f i j t (met q) h = record { u = h .u; left = h .left; lower = same-still (h .u .lower) (t .lower) _ (h .lower); upper = same-still (h .u .upper) (t .upper) _ (h .upper) }
+
+chain-still : (f : Form) (i j : Input) (t : Buffers) (a b c : Asked) (o : Out Result) → Presented f i t
+    → Presented f i (stop ends.Refused a t (stop ends.Refused b (scratchCleared t) (stop ends.Refused c (scratchCleared t) (refactored f j t o))) .buffers)
+unfolding scratchCleared
+chain-still f i j t (Stop q) b c o h = h
+chain-still f i j t Pass (Stop q) c o h = record { u = h .u; left = h .left; lower = h .lower; upper = h .upper }
+chain-still f i j t Pass Pass (Stop q) o h = record { u = h .u; left = h .left; lower = h .lower; upper = h .upper }
+chain-still f i j t Pass Pass Pass o h = refactored-still f i j t o h
+
+pub refactoring-on : RefactoringOn
+unfolding refactor
+refactoring-on f i v b t h =
+    let j = withNumbers i v b in
+    chain-still f i j t (shape f j (sizes t)) (askSolve j) (askPresented f (stored j) (j .n) t) (listed j) h
 
 -- ---- the two forms
 

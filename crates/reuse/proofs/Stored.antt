@@ -114,7 +114,7 @@ pairs-more [] i (x ∷ l) h = refl
 pairs-more (j ∷ is) i [] h = absurd (omega arith)
 pairs-more (j ∷ is) i (x ∷ l) h = ap (λ r. (j, x) ∷ r) (pairs-more is i l (omega arith))
 
-joined-same : {A : Type 0} (f g : ℕ → List A) (m : ℕ) → ((i : ℕ) → i < m → f i ≡ g i) → joined f m ≡ joined g m
+pub joined-same : {A : Type 0} (f g : ℕ → List A) (m : ℕ) → ((i : ℕ) → i < m → f i ≡ g i) → joined f m ≡ joined g m
 unfolding joined
 joined-same f g zero h = refl
 joined-same f g (suc m) h = ap₂ _++_ (joined-same f g m (λ i l. h i (omega arith))) (h m (omega arith))

@@ -24,10 +24,11 @@ use Rattle.outcome.specs.Structure.{fits, askPlace, askPlaces, counts, sidePlac
 use Rattle.outcome.specs.Solve.{system, listed, shape, solve}
 use Rattle.outcome.specs.Refactor.{refactor}
 use Rattle.outcome.specs.Resolve.{resolve}
+use Rattle.agreement.specs.Demand.{Stated}
 use Rattle.reuse.specs.Reuse.{endOf, withNumbers, Presented, Factored, by-solve, by-refactor, Finite}
-use Rattle.reuse.proofs.Refactoring.{refactoring}
+use Rattle.reuse.proofs.Refactoring.{refactoring, refactoring-alike}
 use Rattle.reuse.proofs.Resolving.{resolving, resolving-same}
-use Rattle.reuse.proofs.Contracts.{plain-keeps, shared-keeps, structure-presents-shared}
+use Rattle.reuse.proofs.Contracts.{plain-keeps, shared-keeps, structure-presents-plain, structure-presents-shared}
 
 abbrev pub counted : ℕ → ℕ → ℕ → Counts
 counted l u p = record { lower = l; upper = u; products = p }
@@ -66,6 +67,23 @@ pub arrow-presented : Presented Shared arrow dirty
 unfolding dirty lent
 arrow-presented = structure-presents-shared arrow (counted 3 3 5) _ _ _ _ _ _ _ _ _ _ _ _ _ _ _ _ _ _ _ _ _ _ _ _ _ _ arrow-done (omega arith) (omega arith)
 
+-- the same in the plain form
+unfoldable pub lent-plain : Buffers
+lent-plain = plainBuffers (replicate 4 77) (replicate 3 79) (replicate 3 nan) (replicate 4 77) (replicate 4 79) (replicate 3 nan) [] [] (replicate 9 nan) (replicate 32 80)
+
+plain-done : ended (Done (counted 3 3 5))
+    (plainBuffers (0 ∷ 0 ∷ 1 ∷ 3 ∷ []) (0 ∷ 0 ∷ 1 ∷ []) (replicate 3 nought) (0 ∷ 2 ∷ 3 ∷ 3 ∷ []) (1 ∷ 2 ∷ 2 ∷ 0 ∷ []) (replicate 3 nought) [] [] (replicate 9 nought) (replicate 32 0))
+    ≡ structure Plain arrow lent-plain
+unfolding arrow lent-plain structure askShape askStructure askPattern askRows ask3 ask4 ask5 ask7 ask8 first badStart badColumn badIndex isOf emptyRow noEntry repeatRow repeats seenAt listAt askPlaces askPlace filled reach stored ic has fits indexNeed valueNeed placedTo placed after plain appendAll startOf upperRow lowerRow asc upper counts sum count lowerColumn products table structured sidePlaced padded
+plain-done = refl
+
+unfoldable pub dirty-plain : Buffers
+dirty-plain = plainBuffers (0 ∷ 0 ∷ 1 ∷ 3 ∷ []) (0 ∷ 0 ∷ 1 ∷ []) (replicate 3 nan) (0 ∷ 2 ∷ 3 ∷ 3 ∷ []) (1 ∷ 2 ∷ 2 ∷ 0 ∷ []) (replicate 3 nan) (replicate 3 nan) (replicate 3 nan) (replicate 9 nan) (replicate 32 80)
+
+pub plain-presented : Presented Plain arrow dirty-plain
+unfolding dirty-plain lent-plain
+plain-presented = structure-presents-plain arrow (counted 3 3 5) _ _ _ _ _ _ _ _ _ _ _ _ _ _ _ _ _ _ _ _ _ _ plain-done (omega arith) (omega arith)
+
 -- rows (2, 1, 1), (1, 2, .), (1, ., 2), b = (4, 3, 3)
 abbrev values : List Float
 values = floats (0x4000000000000000 ∷ 0x3ff0000000000000 ∷ 0x3ff0000000000000 ∷ 0x3ff0000000000000 ∷ 0x4000000000000000 ∷ 0x3ff0000000000000 ∷ 0x4000000000000000 ∷ [])
@@ -94,6 +112,11 @@ arrow-refused = refactoring Shared shared-keeps arrow ones right dirty arrow-pre
 -- the factors found so are those that another right side takes
 pub arrow-factored : Factored Shared (withNumbers arrow values right) dirty (refactor Shared (withNumbers arrow values right) dirty .buffers)
 arrow-factored = by-refactor (ap (λ a. ended a (refactor Shared (withNumbers arrow values right) dirty .buffers)) arrow-refactored)
+
+-- and the plain form answers as the shared one does
+pub arrow-alike : refactor Plain (withNumbers arrow ones right) dirty-plain .answer ≡ ends.Refused (ZeroPivot (spot 1))
+unfolding arrow dirty dirty-plain Stated
+arrow-alike = refactoring-alike Plain Shared plain-keeps shared-keeps arrow ones right dirty-plain dirty plain-presented arrow-presented refl refl .answer ∙ arrow-refused
 
 -- ---- another right side in the plain form. Rows (2, 4), (1, 4), b = (10, 9)
 

@@ -73,6 +73,10 @@ abbrev pub Refactoring : Type 0
 Refactoring =
     (f : Form) → Keeps f → (i : Input) (v b : List Float) (t : Buffers) → Presented f i t → RefactorsAs t (refactor f (withNumbers i v b) t) (solve f (withNumbers i v b) t)
 
+-- and again: refactor leaves the lists as they were presented, however it ends
+abbrev pub RefactoringOn : Type 0
+RefactoringOn = (f : Form) (i : Input) (v b : List Float) (t : Buffers) → Presented f i t → Presented f i (refactor f (withNumbers i v b) t .buffers)
+
 -- ---- another right side over factors found before
 
 -- a solve or a refactor of the input over s was done, and left t
@@ -99,6 +103,16 @@ abbrev pub Resolving : Type 0
 Resolving =
     (f : Form) → Keeps f → (i : Input) (s t : Buffers) → Factored f i s t → (b : List Float) → Finite (i .n) b
     → ResolvesAs t (resolve f (withNumbers i (i .values) b) t) (solve f (withNumbers i (i .values) b) s)
+
+-- and again: what it leaves are the factors of the new right side, or, refused, the old ones as they were
+pub record ResolvesOn (f : Form) (j : Input) (s t : Buffers) (o : Outcome Ended) : Type 0 where
+  pub done : numberOfEnd (o .answer) ≡ 0 → Factored f j s (o .buffers)
+  pub refused : 1 ≤ numberOfEnd (o .answer) → o .buffers ≡ t
+
+abbrev pub ResolvingOn : Type 0
+ResolvingOn =
+    (f : Form) → Keeps f → (i : Input) (s t : Buffers) → Factored f i s t → (b : List Float) → Finite (i .n) b
+    → ResolvesOn f (withNumbers i (i .values) b) s t (resolve f (withNumbers i (i .values) b) t)
 
 -- with the same b all buffers, x among them, are as they were
 abbrev pub ResolvingSame : Type 0
