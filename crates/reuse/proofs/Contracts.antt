@@ -17,7 +17,7 @@ use Rattle.outcome.specs.Resolve.{resolve}
 use Rattle.outcome.specs.Calls.{StructuresPlain, StructuresShared, SolvesPlain, SolvesShared}
 use Rattle.outcome.specs.Again.{RefactorsPlain, RefactorsShared}
 use Rattle.agreement.specs.Demand.{Stated}
-use Rattle.reuse.specs.Reuse.{Keeps, withNumbers, after-structure, after-solve, SameLists, Presented, RefactorsAs, by-solve, by-refactor, Finite, ResolvesAs, Alike}
+use Rattle.reuse.specs.Reuse.{Keeps, withNumbers, after-structure, after-solve, SameLists, Presented, RefactorsAs, by-solve, by-refactor, FiniteRight, ResolvesAs, Alike}
 use Rattle.reuse.proofs.Refactoring.{refactoring, refactoring-alike}
 use Rattle.reuse.proofs.Resolving.{resolving}
 
@@ -83,28 +83,28 @@ refactors-alike i v b a₁ a₂ ls₁ li₁ us₁ ui₁ m₁ m₁' ls₂ lr₂ l
 
 -- another right side after a solve and after a refactor; t is what it leaves
 pub solve-resolves-plain : (i : Input) (b : List Float) (c : Counts) (a : Ended) (p : Answer) (t : Buffers) (ls₀ li₀ us₀ ui₀ m₀ ls li us ui m ls'' li'' us'' ui'' m'' : List ℕ) (lv₀ uv₀ d₀ x₀ w₀ lv uv d x w lv'' uv'' d'' x'' w'' : List Float)
-    → SolvesPlain i ls₀ li₀ lv₀ us₀ ui₀ uv₀ d₀ x₀ w₀ m₀ (Done c) ls li lv us ui uv d x w m → Finite (i .n) b
+    → SolvesPlain i ls₀ li₀ lv₀ us₀ ui₀ uv₀ d₀ x₀ w₀ m₀ (Done c) ls li lv us ui uv d x w m → FiniteRight (i .n) b
     → ended a t ≡ resolve Plain (withNumbers i (i .values) b) (plainBuffers ls li lv us ui uv d x w m)
     → SolvesPlain (withNumbers i (i .values) b) ls₀ li₀ lv₀ us₀ ui₀ uv₀ d₀ x₀ w₀ m₀ p ls'' li'' lv'' us'' ui'' uv'' d'' x'' w'' m''
     → ResolvesAs (plainBuffers ls li lv us ui uv d x w m) (ended a t) (ended p (plainBuffers ls'' li'' lv'' us'' ui'' uv'' d'' x'' w'' m''))
 solve-resolves-plain i b c a p t ls₀ li₀ us₀ ui₀ m₀ ls li us ui m ls'' li'' us'' ui'' m'' lv₀ uv₀ d₀ x₀ w₀ lv uv d x w lv'' uv'' d'' x'' w'' h n e g = rw (e, g) (resolving Plain plain-keeps i _ _ (by-solve c (sym h)) b n)
 
 pub refactor-resolves-plain : (i : Input) (b : List Float) (a : Ended) (p : Answer) (t : Buffers) (ls li us ui m₀ m ls'' li'' us'' ui'' m'' : List ℕ) (lv₀ uv₀ d₀ x₀ w₀ lv uv d x w lv'' uv'' d'' x'' w'' : List Float)
-    → RefactorsPlain i ls li lv₀ us ui uv₀ d₀ x₀ w₀ m₀ ends.Done lv uv d x w m → Finite (i .n) b
+    → RefactorsPlain i ls li lv₀ us ui uv₀ d₀ x₀ w₀ m₀ ends.Done lv uv d x w m → FiniteRight (i .n) b
     → ended a t ≡ resolve Plain (withNumbers i (i .values) b) (plainBuffers ls li lv us ui uv d x w m)
     → SolvesPlain (withNumbers i (i .values) b) ls li lv₀ us ui uv₀ d₀ x₀ w₀ m₀ p ls'' li'' lv'' us'' ui'' uv'' d'' x'' w'' m''
     → ResolvesAs (plainBuffers ls li lv us ui uv d x w m) (ended a t) (ended p (plainBuffers ls'' li'' lv'' us'' ui'' uv'' d'' x'' w'' m''))
 refactor-resolves-plain i b a p t ls li us ui m₀ m ls'' li'' us'' ui'' m'' lv₀ uv₀ d₀ x₀ w₀ lv uv d x w lv'' uv'' d'' x'' w'' h n e g = rw (e, g) (resolving Plain plain-keeps i _ _ (by-refactor (sym h)) b n)
 
 pub solve-resolves-shared : (i : Input) (b : List Float) (c : Counts) (a : Ended) (p : Answer) (t : Buffers) (ls₀ lr₀ li₀ us₀ ur₀ ui₀ m₀ ls lr li us ur ui m ls'' lr'' li'' us'' ur'' ui'' m'' : List ℕ) (lv₀ uv₀ d₀ x₀ w₀ lv uv d x w lv'' uv'' d'' x'' w'' : List Float)
-    → SolvesShared i ls₀ lr₀ li₀ lv₀ us₀ ur₀ ui₀ uv₀ d₀ x₀ w₀ m₀ (Done c) ls lr li lv us ur ui uv d x w m → Finite (i .n) b
+    → SolvesShared i ls₀ lr₀ li₀ lv₀ us₀ ur₀ ui₀ uv₀ d₀ x₀ w₀ m₀ (Done c) ls lr li lv us ur ui uv d x w m → FiniteRight (i .n) b
     → ended a t ≡ resolve Shared (withNumbers i (i .values) b) (sharedBuffers ls lr li lv us ur ui uv d x w m)
     → SolvesShared (withNumbers i (i .values) b) ls₀ lr₀ li₀ lv₀ us₀ ur₀ ui₀ uv₀ d₀ x₀ w₀ m₀ p ls'' lr'' li'' lv'' us'' ur'' ui'' uv'' d'' x'' w'' m''
     → ResolvesAs (sharedBuffers ls lr li lv us ur ui uv d x w m) (ended a t) (ended p (sharedBuffers ls'' lr'' li'' lv'' us'' ur'' ui'' uv'' d'' x'' w'' m''))
 solve-resolves-shared i b c a p t ls₀ lr₀ li₀ us₀ ur₀ ui₀ m₀ ls lr li us ur ui m ls'' lr'' li'' us'' ur'' ui'' m'' lv₀ uv₀ d₀ x₀ w₀ lv uv d x w lv'' uv'' d'' x'' w'' h n e g = rw (e, g) (resolving Shared shared-keeps i _ _ (by-solve c (sym h)) b n)
 
 pub refactor-resolves-shared : (i : Input) (b : List Float) (a : Ended) (p : Answer) (t : Buffers) (ls lr li us ur ui m₀ m ls'' lr'' li'' us'' ur'' ui'' m'' : List ℕ) (lv₀ uv₀ d₀ x₀ w₀ lv uv d x w lv'' uv'' d'' x'' w'' : List Float)
-    → RefactorsShared i ls lr li lv₀ us ur ui uv₀ d₀ x₀ w₀ m₀ ends.Done lv uv d x w m → Finite (i .n) b
+    → RefactorsShared i ls lr li lv₀ us ur ui uv₀ d₀ x₀ w₀ m₀ ends.Done lv uv d x w m → FiniteRight (i .n) b
     → ended a t ≡ resolve Shared (withNumbers i (i .values) b) (sharedBuffers ls lr li lv us ur ui uv d x w m)
     → SolvesShared (withNumbers i (i .values) b) ls lr li lv₀ us ur ui uv₀ d₀ x₀ w₀ m₀ p ls'' lr'' li'' lv'' us'' ur'' ui'' uv'' d'' x'' w'' m''
     → ResolvesAs (sharedBuffers ls lr li lv us ur ui uv d x w m) (ended a t) (ended p (sharedBuffers ls'' lr'' li'' lv'' us'' ur'' ui'' uv'' d'' x'' w'' m''))

@@ -46,21 +46,21 @@ use Rattle.outcome.proofs.Asking.{number-some}
 use Rattle.outcome.proofs.Lengths.{room-at, values-long, long-listed, left-same}
 use Rattle.outcome.proofs.Meaning.{listed-stops}
 use Rattle.reuse.specs.Reuse.{Keeps, withNumbers, Factored, by-solve, by-refactor}
-use Rattle.reuse.proofs.Standing.{Stands, placed-laid, laid-stands, places-all, presented-at}
+use Rattle.reuse.proofs.Standing.{PlaceStands, placed-laid, laid-stands, places-all, presented-at}
 use Rattle.reuse.proofs.Refactoring.{stop-done, answer-told, end-told}
-use Rattle.reuse.proofs.OtherRight.{Tame, Below, HoldsAll, other, zOf, solved-tame, solved-right}
+use Rattle.reuse.proofs.OtherRight.{Tame, LowerBelow, RowsStored, other, zOf, solved-tame, solved-right}
 use Rattle.reuse.proofs.Stored.{list-is, values-are, lower-plain, lower-shared, lists-rise, values-finite, well-placed}
 
 -- ---- what a solve and a refactor leave
 
 -- the factors of a stand in t, as the call that was lent s left it
-pub record Kept (f : Form) (i : Input) (s t : Buffers) (a : Result) : Type 0 where
+pub record FactorsKept (f : Form) (i : Input) (s t : Buffers) (a : Result) : Type 0 where
   pub run : listed i ≡ ok a
   pub lengths : shape f i (sizes s) ≡ Pass
   pub questions : askSolve i ≡ Pass
   pub places : askPlaces f (stored i) (i .n) (sizes s) (i .n) ≡ Pass
   pub long : sizes t ≡ sizes s
-  pub stands : (side : Side) (k : ℕ) → k < i .n → Stands f side (stored i) (i .n) (buffersOf side t) k
+  pub stands : (side : Side) (k : ℕ) → k < i .n → PlaceStands f side (stored i) (i .n) (buffersOf side t) k
   pub values : (side : Side) → buffersOf side t .values ≡ padded nought (sideOf side (sizes s) .values) (valuesKept f side (stored i) (i .n) (a .rows))
   pub d : t .d ≡ pivotsKept (i .n) (a .rows)
   pub x : t .x ≡ ownOrder (i .c) (i .n) (a .z)
@@ -83,7 +83,7 @@ refactored-ok f i s t (met q) e = absurd (number-some (faultOf q) (ap (λ (o : O
 pub zeros-again : {A : Type 0} (v : A) (m : ℕ) → replicate m v ≡ replicate (length (replicate m v)) v
 zeros-again v m = ap (λ (k : ℕ). replicate k v) (sym (length-replicate m v))
 
-stands-revalued : (f : Form) (side : Side) (P : Pattern) (n : ℕ) (b : SideBuffers) (values : List Float) (k : ℕ) → Stands f side P n b k → Stands f side P n (revalued b values) k
+stands-revalued : (f : Form) (side : Side) (P : Pattern) (n : ℕ) (b : SideBuffers) (values : List Float) (k : ℕ) → PlaceStands f side P n b k → PlaceStands f side P n (revalued b values) k
 unfolding revalued
 stands-revalued Plain side P n b values k h = record { start = h .start; next = h .next; run = h .run; list = h .list }
 stands-revalued Shared side P n b values k h = record { start = h .start; next = h .next; run = h .run; list = h .list }
@@ -98,7 +98,7 @@ module _ (f : Form) (v : Keeps f) (i : Input) (s : Buffers) (a : Result) (run : 
   kept-long : sizes (kept f i (sizes s) a) ≡ sizes s
   kept-long = ap sizes (sym (left-kept f v i (sizes s) a)) ∙ left-same f i (sizes s) a p r run
 
-  kept-stands : (side : Side) (k : ℕ) → k < i .n → Stands f side (stored i) (i .n) (buffersOf side (kept f i (sizes s) a)) k
+  kept-stands : (side : Side) (k : ℕ) → k < i .n → PlaceStands f side (stored i) (i .n) (buffersOf side (kept f i (sizes s) a)) k
   unfolding kept
   kept-stands Lower = laid-stands f v Lower (stored i) (i .n) _ (placed-laid f v Lower (stored i) (i .n) _ _)
   kept-stands Upper = laid-stands f v Upper (stored i) (i .n) _ (placed-laid f v Upper (stored i) (i .n) _ _)
@@ -108,7 +108,7 @@ module _ (f : Form) (v : Keeps f) (i : Input) (s : Buffers) (a : Result) (run : 
   kept-values Lower = refl
   kept-values Upper = refl
 
-  solve-kept : Kept f i s (kept f i (sizes s) a) a
+  solve-kept : FactorsKept f i s (kept f i (sizes s) a) a
   unfolding kept
   solve-kept =
       record {
@@ -131,8 +131,8 @@ module _ (f : Form) (v : Keeps f) (i : Input) (s : Buffers) (a : Result) (run : 
   refilled-long =
       rw (ap (λ (z : Sizes). z .lower .values) kept-long, ap (λ (z : Sizes). z .upper .values) kept-long, ap (λ (z : Sizes). z .d) kept-long, ap (λ (z : Sizes). z .x) kept-long, length-replicate (length (s .work)) nought, length-replicate {A = ℕ} (length (s .marks)) 0)
 
-  module _ (h : (k : ℕ) → k < i .n → (side : Side) → Stands f side (stored i) (i .n) (buffersOf side s) k) where
-    refilled-stands : (side : Side) (k : ℕ) → k < i .n → Stands f side (stored i) (i .n) (buffersOf side (filled-in f i s a)) k
+  module _ (h : (k : ℕ) → k < i .n → (side : Side) → PlaceStands f side (stored i) (i .n) (buffersOf side s) k) where
+    refilled-stands : (side : Side) (k : ℕ) → k < i .n → PlaceStands f side (stored i) (i .n) (buffersOf side (filled-in f i s a)) k
     unfolding refilled
     refilled-stands Lower k l = stands-revalued f Lower (stored i) (i .n) (s .lower) _ k (h k l Lower)
     refilled-stands Upper k l = stands-revalued f Upper (stored i) (i .n) (s .upper) _ k (h k l Upper)
@@ -142,7 +142,7 @@ module _ (f : Form) (v : Keeps f) (i : Input) (s : Buffers) (a : Result) (run : 
     refilled-values Lower = refl
     refilled-values Upper = refl
 
-    refactor-kept : Kept f i s (filled-in f i s a) a
+    refactor-kept : FactorsKept f i s (filled-in f i s a) a
     unfolding refilled
     refactor-kept =
         record {
@@ -159,14 +159,14 @@ module _ (f : Form) (v : Keeps f) (i : Input) (s : Buffers) (a : Result) (run : 
           marks = zeros-again 0 (length (s .marks));
         }
 
-pub factors-kept : (f : Form) → Keeps f → (i : Input) (s t : Buffers) → Factored f i s t → (a : Result) × Kept f i s t a
+pub factors-kept : (f : Form) → Keeps f → (i : Input) (s t : Buffers) → Factored f i s t → (a : Result) × FactorsKept f i s t a
 unfolding solve refactor
 factors-kept f v i s t (by-solve c e) =
     let p = stop-done numberOfAnswer Refused answer-told (Done c) refl (shape f i (sizes s)) s t _ e in
     let q = stop-done numberOfAnswer Refused answer-told (Done c) refl (askSolve i) _ t _ (p .1) in
     let r = stop-done numberOfAnswer Refused answer-told (Done c) refl (askPlaces f (stored i) (i .n) (sizes s) (i .n)) _ t _ (q .1) in
     let o = concluded-ok f i (sizes s) (s .x) c t (listed i) (r .1) in
-    (o .0, subst (λ t. Kept f i s t (o .0)) (sym (o .2 ∙ left-kept f v i (sizes s) (o .0))) (solve-kept f v i s (o .0) (o .1) (p .0) (q .0) (r .0)))
+    (o .0, subst (λ t. FactorsKept f i s t (o .0)) (sym (o .2 ∙ left-kept f v i (sizes s) (o .0))) (solve-kept f v i s (o .0) (o .1) (p .0) (q .0) (r .0)))
 factors-kept f v i s t (by-refactor e) =
     let p = stop-done numberOfEnd ends.Refused end-told ends.Done refl (shape f i (sizes s)) s t _ e in
     let q = stop-done numberOfEnd ends.Refused end-told ends.Done refl (askSolve i) _ t _ (p .1) in
@@ -174,11 +174,11 @@ factors-kept f v i s t (by-refactor e) =
     let o = refactored-ok f i s t (listed i) (r .1) in
     let h = presented-at f (stored i) (i .n) s (r .0) in
     let room = places-all f (stored i) (i .n) (sizes s) (i .n) (λ k l. h k l .0) in
-    (o .0, subst (λ t. Kept f i s t (o .0)) (sym (o .2)) (refactor-kept f v i s (o .0) (o .1) (p .0) (q .0) room (λ k l. h k l .1)))
+    (o .0, subst (λ t. FactorsKept f i s t (o .0)) (sym (o .2)) (refactor-kept f v i s (o .0) (o .1) (p .0) (q .0) room (λ k l. h k l .1)))
 
 -- ---- read place by place
 
-module _ (f : Form) (v : Keeps f) (i : Input) (s t : Buffers) (a : Result) (h : Kept f i s t a) where
+module _ (f : Form) (v : Keeps f) (i : Input) (s t : Buffers) (a : Result) (h : FactorsKept f i s t a) where
   row-long : (k : ℕ) → k < i .n → length (getD (a .rows) k none .l) ≡ length (lowerRow (stored i) k)
   unfolding system
   row-long k l = long-listed i a (h .run) .1 k l .l
@@ -194,7 +194,7 @@ module _ (f : Form) (v : Keeps f) (i : Input) (s t : Buffers) (a : Result) (h : 
   unfolding pivotsKept
   d-is k l = rw (h .d) (getD-table (λ k. getD (a .rows) k none .d) (i .n) nan k l)
 
-  pub below : (k : ℕ) → k < system i .n → Below (system i) k
+  pub below : (k : ℕ) → k < system i .n → LowerBelow (system i) k
   unfolding system lowerRow
   below k l j d = mem-asc (filled (stored i) k) k j d .0
 
@@ -205,7 +205,7 @@ module _ (f : Form) (v : Keeps f) (i : Input) (s t : Buffers) (a : Result) (h : 
   unfolding system
   tame k l = solved-tame (system i) a below run-stops k l
 
-lower-is : (f : Form) (v : Keeps f) (i : Input) (s t : Buffers) (a : Result) (h : Kept f i s t a) (k : ℕ) → k < i .n → givenLower f (t .lower) k ≡ pairs (lowerRow (stored i) k) (getD (a .rows) k none .l)
+lower-is : (f : Form) (v : Keeps f) (i : Input) (s t : Buffers) (a : Result) (h : FactorsKept f i s t a) (k : ℕ) → k < i .n → givenLower f (t .lower) k ≡ pairs (lowerRow (stored i) k) (getD (a .rows) k none .l)
 lower-is Plain v i s t a h k l = lower-plain (stored i) (i .n) (t .lower) (a .rows) k (lists-are Plain v i s t a h Lower k l) (values-is Plain v i s t a h Lower k l)
 lower-is Shared v i s t a h k l =
     lower-shared (stored i) (i .n) (t .lower) (a .rows) k l (row-long Shared v i s t a h k l) (lists-are Shared v i s t a h Lower) (values-is Shared v i s t a h Lower)
@@ -213,8 +213,8 @@ lower-is ByRow v i s t a h k l = absurd (v refl)
 
 -- ---- the arithmetic
 
-module _ (f : Form) (v : Keeps f) (i : Input) (s t : Buffers) (a : Result) (h : Kept f i s t a) (b : List Float) where
-  pub stored-rows : HoldsAll (system i) (rightAt (withNumbers i (i .values) b)) (factorsOf f (withNumbers i (i .values) b) t) (a .rows)
+module _ (f : Form) (v : Keeps f) (i : Input) (s t : Buffers) (a : Result) (h : FactorsKept f i s t a) (b : List Float) where
+  pub stored-rows : RowsStored (system i) (rightAt (withNumbers i (i .values) b)) (factorsOf f (withNumbers i (i .values) b) t) (a .rows)
   unfolding system factorsOf
   stored-rows =
       record {
@@ -243,7 +243,7 @@ no-three a b c e f g = rw (e, f, g)
 no-either : (a b c : Bool) → a ≡ false → b ≡ false → c ≡ true → (a || b || not c) ≡ false
 no-either a b c e f g = rw (e, f, g)
 
-module _ (f : Form) (v : Keeps f) (i : Input) (s t : Buffers) (a : Result) (h : Kept f i s t a) where
+module _ (f : Form) (v : Keeps f) (i : Input) (s t : Buffers) (a : Result) (h : FactorsKept f i s t a) where
   room : (side : Side) → (indexNeed f side (stored i) (i .n) (i .n) ≤ sideOf side (sizes t) .index) × (valueNeed f side (stored i) (i .n) (i .n) ≤ sideOf side (sizes t) .values)
   room side = rw (h .long) (room-at f (stored i) (i .n) (sizes s) (i .n) side (h .places))
 

@@ -71,19 +71,19 @@ abbrev worked : List Float → List Float → Float → Work
 worked l w s = record { l = l; w = w; s = s }
 
 -- what the two eliminations read of row i
-record Reads (G H : Given) (ys : List Float) (i : ℕ) : Type 0 where
+record ReadsSame (G H : Given) (ys : List Float) (i : ℕ) : Type 0 where
   upper : H .upper i ≡ G .upper i
   u : H .u i ≡ G .u i
   y : H .y i ≡ getD ys i nan
 
 -- from a to A along the row: the multipliers, and the same steps from another sum
-record Stepped (k : ℕ) (H : Given) (ys : List Float) (is : List ℕ) (a A : Work) : Type 0 where
+record SteppedWith (k : ℕ) (H : Given) (ys : List Float) (is : List ℕ) (a A : Work) : Type 0 where
   ms : List Float
   l-is : A .l ≡ a .l ++ ms
   tame : finiteAll ms ≡ true
   same : (s : Float) → steps (at k) H is (worked (a .l) (a .w) s) ≡ (sumLess (at k) s (pairs is ms) ys >>= λ s. ok (worked (A .l) (A .w) s))
 
-step-right : (k : ℕ) (G H : Given) (ys : List Float) (i : ℕ) (a A : Work) → Reads G H ys i → stepAt (at k) G i a ≡ ok A
+step-right : (k : ℕ) (G H : Given) (ys : List Float) (i : ℕ) (a A : Work) → ReadsSame G H ys i → stepAt (at k) G i a ≡ ok A
     → (A .l ≡ a .l ++ (getD (a .w) i nan ∷ [])) × (finite (getD (a .w) i nan) ≡ true)
     × ((s : Float) → stepAt (at k) H i (worked (a .l) (a .w) s) ≡ (less (at k) s (getD (a .w) i nan) (getD ys i nan) >>= λ s. ok (worked (A .l) (A .w) s)))
 unfolding stepAt
@@ -102,7 +102,7 @@ step-right k G H ys i a A h e =
     go (ok s) w g = rw g
     go (met q) w g = refl
 
-steps-right : (k : ℕ) (G H : Given) (ys : List Float) (is : List ℕ) (a A : Work) → ((i : ℕ) → List·Memᴰ i is → Reads G H ys i) → steps (at k) G is a ≡ ok A → Stepped k H ys is a A
+steps-right : (k : ℕ) (G H : Given) (ys : List Float) (is : List ℕ) (a A : Work) → ((i : ℕ) → List·Memᴰ i is → ReadsSame G H ys i) → steps (at k) G is a ≡ ok A → SteppedWith k H ys is a A
 unfolding steps sumLess pairs
 steps-right k G H ys [] a A h e =
     let q = ok-inj a A e in
@@ -125,34 +125,34 @@ steps-right k G H ys (i ∷ is) a A h e =
 
 -- ---- step 3
 
-record Finished (k : ℕ) (above : List ℕ) (a : Work) (r : Row) : Type 0 where
+record FinishedWith (k : ℕ) (above : List ℕ) (a : Work) (r : Row) : Type 0 where
   l-is : r .l ≡ a .l
   tame-d : finite (r .d) ≡ true
   tame-u : finiteAll (r .u) ≡ true
   same : (s : Float) → finish (at k) k above (worked (a .l) (a .w) s) ≡ (at k (mul binary64 s (r .d)) >>= λ y. ok (withY r y))
 
-abbrev rowOf : List Float → Float → Float → List Float → Row
-rowOf l d y u = record { l = l; d = d; y = y; u = u }
+abbrev rowMade : List Float → Float → Float → List Float → Row
+rowMade l d y u = record { l = l; d = d; y = y; u = u }
 
 finish-other : (k : ℕ) (above : List ℕ) (l w : List Float) (p d : Float) (u : List Float) → pivot k (getD w k nan) ≡ ok p → at k (div binary64 one p) ≡ ok d
-    → scaled (at k) d w above ≡ ok u → (s : Float) → finish (at k) k above (worked l w s) ≡ (at k (mul binary64 s d) >>= λ y. ok (rowOf l d y u))
+    → scaled (at k) d w above ≡ ok u → (s : Float) → finish (at k) k above (worked l w s) ≡ (at k (mul binary64 s d) >>= λ y. ok (rowMade l d y u))
 unfolding finish
 finish-other k above l w p d u e f g s = rw (e, f) (go (at k (mul binary64 s d)))
   where
-    go : (o : Out Float) → (o >>= λ y. scaled (at k) d w above >>= λ u. ok (rowOf l d y u)) ≡ (o >>= λ y. ok (rowOf l d y u))
+    go : (o : Out Float) → (o >>= λ y. scaled (at k) d w above >>= λ u. ok (rowMade l d y u)) ≡ (o >>= λ y. ok (rowMade l d y u))
     go (ok y) = rw g
     go (met q) = refl
 
-finish-right : (k : ℕ) (above : List ℕ) (a : Work) (r : Row) → finish (at k) k above a ≡ ok r → Finished k above a r
+finish-right : (k : ℕ) (above : List ℕ) (a : Work) (r : Row) → finish (at k) k above a ≡ ok r → FinishedWith k above a r
 unfolding finish
 finish-right k above a r e =
     let p = bind-ok (pivot k (getD (a .w) k nan)) _ r e in
     let d = bind-ok (at k (div binary64 one (p .0))) _ r (p .2) in
     let y = bind-ok (at k (mul binary64 (a .s) (d .0))) _ r (d .2) in
     let u = bind-ok (scaled (at k) (d .0) (a .w) above) _ r (y .2) in
-    let q : rowOf (a .l) (d .0) (y .0) (u .0) ≡ r = ok-inj _ r (u .2) in
+    let q : rowMade (a .l) (d .0) (y .0) (u .0) ≡ r = ok-inj _ r (u .2) in
     let f = at-ok k (div binary64 one (p .0)) (d .0) (d .1) in
-    subst (λ r. Finished k above a r) q (record {
+    subst (λ r. FinishedWith k above a r) q (record {
       l-is = refl;
       tame-d = ap finite (sym (f .0)) ∙ f .1;
       tame-u = scaled-finite k (d .0) (a .w) above (u .0) (u .1);
@@ -166,7 +166,7 @@ abbrev pub other : System → (ℕ → Float) → System
 other S b = record { n = S .n; lower = S .lower; upper = S .upper; entries = S .entries; rhs = b }
 
 -- the factors F hold row r at place k, with the right side b
-pub record Holds (S : System) (b : ℕ → Float) (F : Factors) (k : ℕ) (r : Row) : Type 0 where
+pub record RowStored (S : System) (b : ℕ → Float) (F : Factors) (k : ℕ) (r : Row) : Type 0 where
   pub lower : F .lower k ≡ pairs (S .lower k) (r .l)
   pub d : F .d k ≡ r .d
   pub rhs : F .rhs k ≡ b k
@@ -177,19 +177,19 @@ pub record Tame (r : Row) : Type 0 where
   pub u : finiteAll (r .u) ≡ true
 
 -- lower row k is below k
-abbrev pub Below : System → ℕ → Type 0
-Below S k = (i : ℕ) → List·Memᴰ i (S .lower k) → i < k
+abbrev pub LowerBelow : System → ℕ → Type 0
+LowerBelow S k = (i : ℕ) → List·Memᴰ i (S .lower k) → i < k
 
-reads : (S : System) (b : ℕ → Float) (rows : List Row) (ys : List Float) (i : ℕ) → length rows ≡ length ys → i < length rows → Reads (given S rows) (given (other S b) (withYs rows ys)) ys i
+reads : (S : System) (b : ℕ → Float) (rows : List Row) (ys : List Float) (i : ℕ) → length rows ≡ length ys → i < length rows → ReadsSame (given S rows) (given (other S b) (withYs rows ys)) ys i
 reads S b rows ys i e l = let h = withYs-at rows ys i e l in record { upper = refl; u = ap (λ (r : Row). r .u) h; y = ap (λ (r : Row). r .y) h }
 
-row-then : (k : ℕ) (above : List ℕ) (A : Work) (r : Row) → Finished k above A r → (o : Out Float)
+row-then : (k : ℕ) (above : List ℕ) (A : Work) (r : Row) → FinishedWith k above A r → (o : Out Float)
     → ((o >>= λ s. ok (worked (A .l) (A .w) s)) >>= finish (at k) k above) ≡ ((o >>= λ s. at k (mul binary64 s (r .d))) >>= λ y. ok (withY r y))
 row-then k above A r g (ok s) = g .same s
 row-then k above A r g (met q) = refl
 
 row-other : (S : System) (b : ℕ → Float) (F : Factors) (H : Given) (ys : List Float) (k : ℕ) (w : List Float) (A : Work) (r : Row)
-    → (h : Stepped k H ys (S .lower k) (worked [] w (S .rhs k)) A) → Finished k (S .upper k) A r → Holds S b F k r
+    → (h : SteppedWith k H ys (S .lower k) (worked [] w (S .rhs k)) A) → FinishedWith k (S .upper k) A r → RowStored S b F k r
     → (steps (at k) H (S .lower k) (worked [] w (b k)) >>= finish (at k) k (S .upper k)) ≡ (yAt F ys k >>= λ y. ok (withY r y))
 unfolding yAt
 row-other S b F H ys k w A r h g f =
@@ -213,9 +213,9 @@ row-loads S rows k r e = go (load (at k) (S .entries k) (replicate (S .n) nought
 
 record Rowed (S : System) (b : ℕ → Float) (rows : List Row) (ys : List Float) (k : ℕ) (r : Row) : Type 0 where
   tame : Tame r
-  same : (F : Factors) → Holds S b F k r → row (other S b) (withYs rows ys) k ≡ (yAt F ys k >>= λ y. ok (withY r y))
+  same : (F : Factors) → RowStored S b F k r → row (other S b) (withYs rows ys) k ≡ (yAt F ys k >>= λ y. ok (withY r y))
 
-row-right : (S : System) (b : ℕ → Float) (rows : List Row) (ys : List Float) (k : ℕ) (r : Row) → length rows ≡ k → length ys ≡ k → Below S k → row S rows k ≡ ok r → Rowed S b rows ys k r
+row-right : (S : System) (b : ℕ → Float) (rows : List Row) (ys : List Float) (k : ℕ) (r : Row) → length rows ≡ k → length ys ≡ k → LowerBelow S k → row S rows k ≡ ok r → Rowed S b rows ys k r
 row-right S b rows ys k r m n low e =
     let w = row-loads S rows k r e in
     let a = worked [] (w .0) (S .rhs k) in
@@ -254,7 +254,7 @@ forward-each S Q h (suc f) k rows R b m e j l u =
           rw (p, g) (h rows k (r .0) (omega arith) m (r .1)))
     ]
 
-forward-right : (S : System) (b : ℕ → Float) (F : Factors) (R : List Row) → ((k : ℕ) → k < S .n → Below S k) → ((k : ℕ) → k < S .n → Holds S b F k (getD R k none))
+forward-right : (S : System) (b : ℕ → Float) (F : Factors) (R : List Row) → ((k : ℕ) → k < S .n → LowerBelow S k) → ((k : ℕ) → k < S .n → RowStored S b F k (getD R k none))
     → (f k : ℕ) (rows : List Row) (ys : List Float) → k + f ≤ S .n → length rows ≡ k → length ys ≡ k → forward S f k rows ≡ ok R
     → forward (other S b) f k (withYs rows ys) ≡ (again F f k ys >>= λ zs. ok (withYs R zs))
 unfolding forward again
@@ -284,12 +284,12 @@ record SameBack (G H : Given) (k : ℕ) : Type 0 where
   u : G .u k ≡ H .u k
   y : G .y k ≡ H .y k
 
-back-same : (G H : Given) (k : ℕ) (z : List Float) → ((j : ℕ) → j < k → SameBack G H j) → back G k z ≡ back H k z
+back-alike : (G H : Given) (k : ℕ) (z : List Float) → ((j : ℕ) → j < k → SameBack G H j) → back G k z ≡ back H k z
 unfolding back
-back-same G H zero z h = refl
-back-same G H (suc k) z h =
+back-alike G H zero z h = refl
+back-alike G H (suc k) z h =
     let g = h k (omega arith) in
-    rw (g .upper, g .u, g .y) (go (rest (at k) (H .y k) (H .upper k) (H .u k) z) (λ t. back-same G H k (set z k t) (λ j l. h j (omega arith))))
+    rw (g .upper, g .u, g .y) (go (rest (at k) (H .y k) (H .upper k) (H .u k) z) (λ t. back-alike G H k (set z k t) (λ j l. h j (omega arith))))
   where
     go : (o : Out Float) → ((t : Float) → back G k (set z k t) ≡ back H k (set z k t)) → (o >>= λ t. back G k (set z k t)) ≡ (o >>= λ t. back H k (set z k t))
     go (ok t) ih = ih t
@@ -298,9 +298,9 @@ back-same G H (suc k) z h =
 -- ---- the whole
 
 -- the factors F hold all rows, with the right side b
-pub record HoldsAll (S : System) (b : ℕ → Float) (F : Factors) (R : List Row) : Type 0 where
+pub record RowsStored (S : System) (b : ℕ → Float) (F : Factors) (R : List Row) : Type 0 where
   pub n : F .n ≡ S .n
-  pub rows : (k : ℕ) → k < S .n → Holds S b F k (getD R k none)
+  pub rows : (k : ℕ) → k < S .n → RowStored S b F k (getD R k none)
   pub upper : (k : ℕ) → k < S .n → F .upper k ≡ S .upper k
   pub u : (k : ℕ) → k < S .n → F .u k ≡ getD R k none .u
 
@@ -315,11 +315,11 @@ solved-rows S a e =
     let z = bind-ok (back (given S (r .0)) (S .n) (replicate (S .n) nought)) _ a (r .2) in
     r .1 ∙ ap (λ (a : Result). ok (a .rows)) (ok-inj _ a (z .2))
 
-pub solved-tame : (S : System) (a : Result) → ((k : ℕ) → k < S .n → Below S k) → solved S ≡ ok a → (k : ℕ) → k < S .n → Tame (getD (a .rows) k none)
+pub solved-tame : (S : System) (a : Result) → ((k : ℕ) → k < S .n → LowerBelow S k) → solved S ≡ ok a → (k : ℕ) → k < S .n → Tame (getD (a .rows) k none)
 solved-tame S a low e k l =
     forward-each S Tame (λ rows k r b m g. row-right S (S .rhs) rows (replicate k nought) k r m (length-replicate k nought) (low k b) g .tame) (S .n) 0 [] (a .rows) (omega arith) refl (solved-rows S a e) k (omega arith) (omega arith)
 
-pub solved-right : (S : System) (b : ℕ → Float) (F : Factors) (a : Result) → ((k : ℕ) → k < S .n → Below S k) → solved S ≡ ok a → HoldsAll S b F (a .rows) → solvedAgain F ≡ zOf (solved (other S b))
+pub solved-right : (S : System) (b : ℕ → Float) (F : Factors) (a : Result) → ((k : ℕ) → k < S .n → LowerBelow S k) → solved S ≡ ok a → RowsStored S b F (a .rows) → solvedAgain F ≡ zOf (solved (other S b))
 unfolding solved solvedAgain withYs
 solved-right S b F a low e h =
     let f = solved-rows S a e in
@@ -340,7 +340,7 @@ solved-right S b F a low e h =
         → (o >>= λ ys. back (givenBy F ys) (S .n) (replicate (S .n) nought))
         ≡ zOf ((o >>= λ zs. ok (withYs (a .rows) zs)) >>= λ rows. back (given (other S b) rows) (S .n) (replicate (S .n) nought) >>= λ z. ok (record { rows = rows; z = z }))
     go long (ok ys) m =
-        back-same (givenBy F ys) (given (other S b) (withYs (a .rows) ys)) (S .n) (replicate (S .n) nought) (backs long ys (omega (arith, m ys refl)))
+        back-alike (givenBy F ys) (given (other S b) (withYs (a .rows) ys)) (S .n) (replicate (S .n) nought) (backs long ys (omega (arith, m ys refl)))
         ∙ last ys (back (given (other S b) (withYs (a .rows) ys)) (S .n) (replicate (S .n) nought))
     go long (met q) m = refl
 
@@ -361,7 +361,7 @@ withYs-same rows ys e = record { l = λ k. go k .0; d = λ k. go k .1; u = λ k.
           (ap (λ (r : Row). r .l) h, ap (λ (r : Row). r .d) h, ap (λ (r : Row). r .u) h))
     ]
 
-pub solved-factors : (S : System) (b : ℕ → Float) (F : Factors) (a c : Result) → ((k : ℕ) → k < S .n → Below S k) → solved S ≡ ok a → HoldsAll S b F (a .rows) → solved (other S b) ≡ ok c → SameFactors (a .rows) (c .rows)
+pub solved-factors : (S : System) (b : ℕ → Float) (F : Factors) (a c : Result) → ((k : ℕ) → k < S .n → LowerBelow S k) → solved S ≡ ok a → RowsStored S b F (a .rows) → solved (other S b) ≡ ok c → SameFactors (a .rows) (c .rows)
 unfolding withYs
 solved-factors S b F a c low e h g =
     let f = solved-rows S a e in

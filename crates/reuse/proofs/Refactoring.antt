@@ -34,8 +34,8 @@ use Rattle.outcome.proofs.Asking.{number-some, Within}
 use Rattle.outcome.proofs.Places.{places-pass}
 use Rattle.outcome.proofs.Answers.{verdict, solve-answer, solve-x, shape-within, solve-within, ofMatrix, earlier-stated}
 use Rattle.agreement.specs.Demand.{Stated}
-use Rattle.reuse.specs.Reuse.{Keeps, endOf, withNumbers, Leaves, after-structure, after-solve, SameLists, Presented, RefactorsAs, Refactoring, RefactoringOn, RefactoringAlike}
-use Rattle.reuse.proofs.Standing.{Laid, placed-laid, padded-long, laid-stands, laid-revalued, place-more, places-all, presented}
+use Rattle.reuse.specs.Reuse.{Keeps, endOf, withNumbers, ListsLeft, after-structure, after-solve, SameLists, Presented, RefactorsAs, Refactoring, RefactoringOn, RefactoringAlike}
+use Rattle.reuse.proofs.Standing.{Laid, placed-laid, padded-long, laid-stands, laid-revalued, place-more, places-all, presented-pass}
 
 -- ---- a call that is done
 
@@ -85,7 +85,7 @@ unfolding structured
 structured-left f v i z u c k e Lower = rw (← ap (λ (o : Outcome Answer). o .buffers) e) (left-side f v Lower _ _ _ _)
 structured-left f v i z u c k e Upper = rw (← ap (λ (o : Outcome Answer). o .buffers) e) (left-side f v Upper _ _ _ _)
 
-both-left : (f : Form) → Keeps f → (i : Input) (u : Buffers) → Leaves f i u → LeftBoth f i u
+both-left : (f : Form) → Keeps f → (i : Input) (u : Buffers) → ListsLeft f i u → LeftBoth f i u
 unfolding structure solve
 both-left f v i u (after-structure s c e) =
     let p = stop-done numberOfAnswer Refused answer-told (Done c) refl (askShape (i .n) _) s u _ e in
@@ -126,7 +126,7 @@ module _ (f : Form) (v : Keeps f) (i : Input) (t : Buffers) (h : Presented f i t
 
   -- question 14 is passed
   pub presented-again : askPresented f (stored i) (i .n) t ≡ Pass
-  presented-again = presented f (stored i) (i .n) t place-at (λ side k l. laid-stands f v side (stored i) (i .n) (buffersOf side t) (laid-at side) k l)
+  presented-again = presented-pass f (stored i) (i .n) t place-at (λ side k l. laid-stands f v side (stored i) (i .n) (buffersOf side t) (laid-at side) k l)
 
 -- ---- the answers
 

@@ -45,12 +45,12 @@ use Rattle.outcome.specs.Resolve.{factorsOf, withSolution, resolved, resolve}
 use Rattle.outcome.proofs.Asking.{number-some, holds-pass, then-pass, all-append}
 use Rattle.outcome.proofs.Answers.{solve-left}
 use Rattle.outcome.proofs.Meaning.{listed-stops}
-use Rattle.reuse.specs.Reuse.{Keeps, withNumbers, Factored, by-solve, by-refactor, Finite, ResolvesAs, Resolving, ResolvesOn, ResolvingOn, ResolvingSame, Alike, ResolvingAlike}
+use Rattle.reuse.specs.Reuse.{Keeps, withNumbers, Factored, by-solve, by-refactor, FiniteRight, ResolvesAs, Resolving, ResolvesOn, ResolvingOn, ResolvingSame, Alike, ResolvingAlike}
 use Rattle.reuse.proofs.Standing.{absent-pass}
 use Rattle.reuse.proofs.Refactoring.{stop-done, end-told}
 use Rattle.reuse.proofs.OtherRight.{zOf, SameFactors, solved-factors, Overflows, solvedAgain-over}
 use Rattle.reuse.proofs.Stored.{joined-same}
-use Rattle.reuse.proofs.Kept.{Kept, left-kept, filled-in, refactored-ok, factors-kept, below, run-stops, stored-rows, other-is, again-is, factors-pass}
+use Rattle.reuse.proofs.Kept.{FactorsKept, left-kept, filled-in, refactored-ok, factors-kept, below, run-stops, stored-rows, other-is, again-is, factors-pass}
 
 -- ---- the questions that both put
 
@@ -77,11 +77,11 @@ shape-by : (n : ℕ) (a b : List Bool) → rowsWithin n ≡ true → all a ≡ t
 unfolding askShape
 shape-by n a b e f g = rw (e, all-and a b, f, g)
 
-finite-pass : (n : ℕ) (b : List Float) (from : ℕ) → Finite n b → askFinite b from ≡ Pass
+finite-pass : (n : ℕ) (b : List Float) (from : ℕ) → FiniteRight n b → askFinite b from ≡ Pass
 unfolding askFinite notFinite
 finite-pass n b from h = let e : first (notFinite b) (length b) ≡ Nothing = first-all (notFinite b) (length b) (λ k l. rw (h .all k (omega (arith, h .long)))) in rw e
 
-module _ (i : Input) (b : List Float) (g : Finite (i .n) b) where
+module _ (i : Input) (b : List Float) (g : FiniteRight (i .n) b) where
   right-tests : all (matrixTests i) ≡ true → all (rightTests (withNumbers i (i .values) b)) ≡ true
   right-tests e = let t = all-true (matrixTests i) e in rw (t 2, t 3, eq-eqb (length b) (i .n) (g .long))
 
@@ -107,13 +107,13 @@ module _ (i : Input) (b : List Float) (g : Finite (i .n) b) where
 -- ---- the answers
 
 -- over factors found before only the right side is judged, and the answer is that of the whole elimination
-resolve-is : (f : Form) → Keeps f → (i : Input) (s t : Buffers) (a : Result) → Kept f i s t a → (b : List Float)
+resolve-is : (f : Form) → Keeps f → (i : Input) (s t : Buffers) (a : Result) → FactorsKept f i s t a → (b : List Float)
     → resolve f (withNumbers i (i .values) b) t ≡ stop ends.Refused (askShape (i .n) (rightTests (withNumbers i (i .values) b) ++ bufferTests f (i .n) (sizes t))) t
     (stop ends.Refused (askRight (i .n) (i .r) (i .c) b) (scratchCleared t) (resolved (withNumbers i (i .values) b) t (zOf (listed (withNumbers i (i .values) b)))))
 unfolding resolve
 resolve-is f v i s t a h b = rw (factors-pass f v i s t a h, again-is f v i s t a h b)
 
-module _ (f : Form) (v : Keeps f) (i : Input) (s t : Buffers) (a : Result) (h : Kept f i s t a) (b : List Float) (g : Finite (i .n) b) where
+module _ (f : Form) (v : Keeps f) (i : Input) (s t : Buffers) (a : Result) (h : FactorsKept f i s t a) (b : List Float) (g : FiniteRight (i .n) b) where
   resolve-end : resolve f (withNumbers i (i .values) b) t ≡ resolved (withNumbers i (i .values) b) t (zOf (listed (withNumbers i (i .values) b)))
   resolve-end =
       let e = shape-all f i (sizes s) (h .lengths) in
@@ -188,7 +188,7 @@ refactor-parts f i s t e =
     let r = stop-done numberOfEnd ends.Refused end-told ends.Done refl (askPresented f (stored i) (i .n) s) _ t _ (q .1) in
     (r .0, refactored-ok f i s t (listed i) (r .1))
 
-module _ (f : Form) (v : Keeps f) (i : Input) (s t : Buffers) (a : Result) (h : Kept f i s t a) (b : List Float) (g : Finite (i .n) b) (c : Result) (e : listed (withNumbers i (i .values) b) ≡ ok c) where
+module _ (f : Form) (v : Keeps f) (i : Input) (s t : Buffers) (a : Result) (h : FactorsKept f i s t a) (b : List Float) (g : FiniteRight (i .n) b) (c : Result) (e : listed (withNumbers i (i .values) b) ≡ ok c) where
   factors-same : SameFactors (a .rows) (c .rows)
   factors-same =
       let j = withNumbers i (i .values) b in
@@ -215,7 +215,7 @@ module _ (f : Form) (v : Keeps f) (i : Input) (s t : Buffers) (a : Result) (h : 
       by-refactor
       (refactor-end (q .0) ∙ ap (ended ends.Done) (sym (refactor-same f i b s a c factors-same) ∙ ap (λ (t : Buffers). withSolution t (ownOrder (i .c) (i .n) (c .z))) (sym same)))
 
-ends-on : (f : Form) (v : Keeps f) (i : Input) (s t : Buffers) (a : Result) (h : Kept f i s t a) (b : List Float) (g : Finite (i .n) b) → Factored f i s t → (o : Out Result) → listed (withNumbers i (i .values) b) ≡ o
+ends-on : (f : Form) (v : Keeps f) (i : Input) (s t : Buffers) (a : Result) (h : FactorsKept f i s t a) (b : List Float) (g : FiniteRight (i .n) b) → Factored f i s t → (o : Out Result) → listed (withNumbers i (i .values) b) ≡ o
     → ResolvesOn f (withNumbers i (i .values) b) s t (resolved (withNumbers i (i .values) b) t (zOf o))
 unfolding scratchCleared
 ends-on f v i s t a h b g c (ok r) e = record { done = λ z. factored-on f v i s t a h b g r e c; refused = λ l. absurd (omega arith) }
@@ -229,7 +229,7 @@ resolving-on f v i s t c b g =
 
 -- ---- the same right side
 
-own-finite : (i : Input) → all (matrixTests i) ≡ true → askSolve i ≡ Pass → Finite (i .n) (i .b)
+own-finite : (i : Input) → all (matrixTests i) ≡ true → askSolve i ≡ Pass → FiniteRight (i .n) (i .b)
 unfolding askSolve ask6 askFinite notFinite
 own-finite i e q =
     let p = then-pass (askPattern i) (andThen (ask6 (i .values) (i .b)) (askRows i)) q in
@@ -249,7 +249,7 @@ resolving-same f v i s t c =
 -- ---- the two forms
 
 -- the stated lengths leave question 2 to the right side
-right-shape : (f : Form) (i : Input) (s t : Buffers) (a : Result) → Kept f i s t a → (b : List Float)
+right-shape : (f : Form) (i : Input) (s t : Buffers) (a : Result) → FactorsKept f i s t a → (b : List Float)
     → askShape (i .n) (rightTests (withNumbers i (i .values) b) ++ bufferTests f (i .n) (sizes t)) ≡ askShape (i .n) (rightTests (withNumbers i (i .values) b))
 unfolding askShape
 right-shape f i s t a h b =

@@ -61,7 +61,7 @@ same-is (x ∷ a) (y ∷ b) e =
 -- ---- place k of a side
 
 -- its list starts, its run start and its list are those that the structure call places
-pub record Stands (f : Form) (side : Side) (P : Pattern) (n : ℕ) (b : SideBuffers) (k : ℕ) : Type 0 where
+pub record PlaceStands (f : Form) (side : Side) (P : Pattern) (n : ℕ) (b : SideBuffers) (k : ℕ) : Type 0 where
   pub start : getD (b .starts) k 0 ≡ valueNeed f side P n k
   pub next : getD (b .starts) (k + 1) 0 ≡ valueNeed f side P n (suc k)
   pub run : getD (runsOf f b) k 0 ≡ runOf (placedTo f side P n n) k
@@ -72,7 +72,7 @@ same-run Plain b k run e = refl
 same-run Shared b k run e = eq-eqb _ _ e
 same-run ByRow b k run e = eq-eqb _ _ e
 
-pub stands-same : (f : Form) (side : Side) (P : Pattern) (n : ℕ) (b : SideBuffers) (k : ℕ) → Stands f side P n b k → sameAt f side P n b k ≡ true
+pub stands-same : (f : Form) (side : Side) (P : Pattern) (n : ℕ) (b : SideBuffers) (k : ℕ) → PlaceStands f side P n b k → sameAt f side P n b k ≡ true
 unfolding sameAt
 stands-same f side P n b k h =
     rw (eq-eqb _ _ (h .start), eq-eqb _ _ (h .next), same-run f b k _ (h .run), h .list, same-self (listsOf f side P n k))
@@ -84,7 +84,7 @@ run-is Plain side P n b k l s e = s ∙ sym (plain-starts (listsOf Plain side P 
 run-is Shared side P n b k l s e = eqb-true _ _ e
 run-is ByRow side P n b k l s e = eqb-true _ _ e
 
-pub same-stands : (f : Form) (side : Side) (P : Pattern) (n : ℕ) (b : SideBuffers) (k : ℕ) → k < n → sameAt f side P n b k ≡ true → Stands f side P n b k
+pub same-stands : (f : Form) (side : Side) (P : Pattern) (n : ℕ) (b : SideBuffers) (k : ℕ) → k < n → sameAt f side P n b k ≡ true → PlaceStands f side P n b k
 unfolding sameAt
 same-stands f side P n b k l e =
     let r = and-cases _ _ e in
@@ -121,13 +121,13 @@ unfolding sidePlaced
 placed-laid f v side P n z values =
     record { starts = refl; runs = runs-again f v side P n (z .runs); index = padded-again 0 (z .index) (placedTo f side P n n .slots) }
 
-run-at : (f : Form) → Keeps f → (side : Side) (P : Pattern) (n : ℕ) (b : SideBuffers) (k : ℕ) → k < n → getD (b .starts) k 0 ≡ valueNeed f side P n k → Laid f side P n b
+run-laid : (f : Form) → Keeps f → (side : Side) (P : Pattern) (n : ℕ) (b : SideBuffers) (k : ℕ) → k < n → getD (b .starts) k 0 ≡ valueNeed f side P n k → Laid f side P n b
     → getD (runsOf f b) k 0 ≡ runOf (placedTo f side P n n) k
-run-at Plain v side P n b k l s h = run-is Plain side P n b k l s refl
-run-at Shared v side P n b k l s h = ap (λ (r : List ℕ). getD r k 0) (h .runs)
-run-at ByRow v side P n b k l s h = absurd (v refl)
+run-laid Plain v side P n b k l s h = run-is Plain side P n b k l s refl
+run-laid Shared v side P n b k l s h = ap (λ (r : List ℕ). getD r k 0) (h .runs)
+run-laid ByRow v side P n b k l s h = absurd (v refl)
 
-pub laid-stands : (f : Form) → Keeps f → (side : Side) (P : Pattern) (n : ℕ) (b : SideBuffers) → Laid f side P n b → (k : ℕ) → k < n → Stands f side P n b k
+pub laid-stands : (f : Form) → Keeps f → (side : Side) (P : Pattern) (n : ℕ) (b : SideBuffers) → Laid f side P n b → (k : ℕ) → k < n → PlaceStands f side P n b k
 unfolding padded
 laid-stands f v side P n b h k l =
     let s : getD (b .starts) k 0 ≡ valueNeed f side P n k = rw (h .starts) (getD-table (valueNeed f side P n) (n + 1) 0 k (omega arith)) in
@@ -135,7 +135,7 @@ laid-stands f v side P n b h k l =
     record {
       start = s;
       next = rw (h .starts) (getD-table (valueNeed f side P n) (n + 1) 0 (k + 1) (omega arith) ∙ ap (valueNeed f side P n) (add-one k));
-      run = run-at f v side P n b k l s h;
+      run = run-laid f v side P n b k l s h;
       list =
           ap (λ (x : List ℕ). take (length (listsOf f side P n k)) (drop (runOf (placedTo f side P n n) k) x)) (h .index)
           ∙ part-append (runOf (placedTo f side P n n) k) (length (listsOf f side P n k)) (placedTo f side P n n .slots) (replicate (length (b .index) - length (placedTo f side P n n .slots)) 0) (q .inside)
@@ -187,14 +187,14 @@ passes-pass Pass e = refl
 passes-pass (Stop q) e = absurd (false≢true e)
 
 module _ (f : Form) (P : Pattern) (n : ℕ) (t : Buffers) where
-  pub presented : ((k : ℕ) → k < n → askPlace f P n (sizes t) k ≡ Pass) → ((side : Side) (k : ℕ) → k < n → Stands f side P n (buffersOf side t) k) → askPresented f P n t ≡ Pass
+  pub presented-pass : ((k : ℕ) → k < n → askPlace f P n (sizes t) k ≡ Pass) → ((side : Side) (k : ℕ) → k < n → PlaceStands f side P n (buffersOf side t) k) → askPresented f P n t ≡ Pass
   unfolding askPresented differs
-  presented g h =
+  presented-pass g h =
       let none : first (differs f P n t) n ≡ Nothing =
       first-all (differs f P n t) n (λ k l. rw (g k l, stands-same f Lower P n (t .lower) k (h Lower k l), stands-same f Upper P n (t .upper) k (h Upper k l))) in
       rw none
 
-  pub presented-at : askPresented f P n t ≡ Pass → (k : ℕ) → k < n → (askPlace f P n (sizes t) k ≡ Pass) × ((side : Side) → Stands f side P n (buffersOf side t) k)
+  pub presented-at : askPresented f P n t ≡ Pass → (k : ℕ) → k < n → (askPlace f P n (sizes t) k ≡ Pass) × ((side : Side) → PlaceStands f side P n (buffersOf side t) k)
   unfolding askPresented differs
   presented-at e k l =
       let q = and-cases _ _ (not-true _ (first-none (differs f P n t) n (absent-pass _ _ e) k l)) in

@@ -30,7 +30,7 @@ use Rattle.outcome.specs.Buffers.{SideBuffers}
 use Rattle.outcome.specs.Solve.{multiplier, valuesOf, valuesKept}
 use Rattle.outcome.specs.Resolve.{runsOf, givenList, givenValues, risesIn, rightSide, misplaced, hit, givenLower}
 use Rattle.reuse.specs.Reuse.{Keeps}
-use Rattle.reuse.proofs.Standing.{Stands}
+use Rattle.reuse.proofs.Standing.{PlaceStands}
 use Rattle.reuse.proofs.OtherRight.{Tame}
 
 -- ---- a list of place k, and its values
@@ -39,7 +39,7 @@ value-suc : (f : Form) (side : Side) (P : Pattern) (n k : ℕ) → valueNeed f s
 unfolding valueNeed startOf
 value-suc f side P n k = refl
 
-module _ (f : Form) (side : Side) (P : Pattern) (n : ℕ) (b : SideBuffers) (k : ℕ) (h : Stands f side P n b k) where
+module _ (f : Form) (side : Side) (P : Pattern) (n : ℕ) (b : SideBuffers) (k : ℕ) (h : PlaceStands f side P n b k) where
   -- as many entries as the list starts say
   pub size-is : getD (b .starts) (k + 1) 0 - getD (b .starts) k 0 ≡ length (listsOf f side P n k)
   size-is = omega (arith, h .start, h .next, value-suc f side P n k)
@@ -66,7 +66,7 @@ joined-at g T (suc n) more h k l =
     ])
 
 pub values-are : (f : Form) (side : Side) (P : Pattern) (n m : ℕ) (b : SideBuffers) (rows : List Row) → ((k : ℕ) → k < n → length (valuesOf f side P n rows k) ≡ length (listsOf f side P n k))
-    → b .values ≡ padded nought m (valuesKept f side P n rows) → (k : ℕ) → k < n → Stands f side P n b k → givenValues b k ≡ valuesOf f side P n rows k
+    → b .values ≡ padded nought m (valuesKept f side P n rows) → (k : ℕ) → k < n → PlaceStands f side P n b k → givenValues b k ≡ valuesOf f side P n rows k
 unfolding givenValues listAt padded valuesKept valueNeed
 values-are f side P n m b rows long e k l h =
     rw (size-is f side P n b k h, h .start, e) (joined-at (valuesOf f side P n rows) (listsOf f side P n) n (replicate (m - length (joined (valuesOf f side P n rows) n)) nought) long k l)
@@ -214,7 +214,7 @@ values-finite ByRow v side P n rows k l t long = absurd (v refl)
 any-four : (a b c d : Bool) → a ≡ false → b ≡ false → c ≡ false → d ≡ false → (a || b || c || d) ≡ false
 any-four a b c d e f g h = rw (e, f, g, h)
 
-pub well-placed : (f : Form) (side : Side) (P : Pattern) (n : ℕ) (b : SideBuffers) (k : ℕ) → getD (b .starts) 0 0 ≡ 0 → Stands f side P n b k
+pub well-placed : (f : Form) (side : Side) (P : Pattern) (n : ℕ) (b : SideBuffers) (k : ℕ) → getD (b .starts) 0 0 ≡ 0 → PlaceStands f side P n b k
     → runOf (placedTo f side P n n) k + length (listsOf f side P n k) ≤ length (b .index) → valueNeed f side P n (suc k) ≤ length (b .values) → misplaced f b k ≡ false
 unfolding misplaced
 well-placed f side P n b k z h i v =

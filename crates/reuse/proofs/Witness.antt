@@ -25,7 +25,7 @@ use Rattle.outcome.specs.Solve.{system, listed, shape, solve}
 use Rattle.outcome.specs.Refactor.{refactor}
 use Rattle.outcome.specs.Resolve.{resolve}
 use Rattle.agreement.specs.Demand.{Stated}
-use Rattle.reuse.specs.Reuse.{endOf, withNumbers, Presented, Factored, by-solve, by-refactor, Finite}
+use Rattle.reuse.specs.Reuse.{endOf, withNumbers, withRight, Presented, Factored, by-solve, by-refactor, FiniteRight}
 use Rattle.reuse.proofs.Refactoring.{refactoring, refactoring-alike}
 use Rattle.reuse.proofs.Resolving.{resolving, resolving-same}
 use Rattle.reuse.proofs.Contracts.{plain-keeps, shared-keeps, structure-presents-plain, structure-presents-shared}
@@ -91,23 +91,19 @@ values = floats (0x4000000000000000 ∷ 0x3ff0000000000000 ∷ 0x3ff000000000000
 abbrev right : List Float
 right = floats (0x4010000000000000 ∷ 0x4008000000000000 ∷ 0x4008000000000000 ∷ [])
 
-arrow-solve : endOf (solve Shared (withNumbers arrow values right) dirty .answer) ≡ ends.Done
-unfolding floats arrow dirty solve shape askShape askSolve askPattern askRows ask3 ask4 ask5 ask6 ask7 ask8 askFinite first badStart badColumn badIndex isOf notFinite emptyRow noEntry repeatRow repeats seenAt listAt pairs askPlaces askPlace filled reach stored has fits indexNeed valueNeed placedTo placed after shared appendAll fresh meets overlap tailOr tails bestFrom countAbove firstAt agree startOf upperRow lowerRow asc upper listed system entries rightAt ic judged wholeRun loadRun step1 subtractRun stepRun step2 scaledRun step3 rowRun forwardRun restRun backRun ofBits sub mul div eq
-arrow-solve = refl
-
-pub arrow-refactored : refactor Shared (withNumbers arrow values right) dirty .answer ≡ ends.Done
-arrow-refactored = refactoring Shared shared-keeps arrow values right dirty arrow-presented .answer ∙ arrow-solve
-
 -- all values 1: the pivot of place 1 vanishes
 abbrev ones : List Float
 ones = replicate 7 (ofBits binary64 0x3ff0000000000000)
 
-arrow-zero : endOf (solve Shared (withNumbers arrow ones right) dirty .answer) ≡ ends.Refused (ZeroPivot (spot 1))
+arrow-solves : (endOf (solve Shared (withNumbers arrow values right) dirty .answer) ≡ ends.Done) × (endOf (solve Shared (withNumbers arrow ones right) dirty .answer) ≡ ends.Refused (ZeroPivot (spot 1)))
 unfolding floats arrow dirty solve shape askShape askSolve askPattern askRows ask3 ask4 ask5 ask6 ask7 ask8 askFinite first badStart badColumn badIndex isOf notFinite emptyRow noEntry repeatRow repeats seenAt listAt pairs askPlaces askPlace filled reach stored has fits indexNeed valueNeed placedTo placed after shared appendAll fresh meets overlap tailOr tails bestFrom countAbove firstAt agree startOf upperRow lowerRow asc upper listed system entries rightAt ic judged wholeRun loadRun step1 subtractRun stepRun step2 scaledRun step3 rowRun forwardRun restRun backRun ofBits sub mul div eq
-arrow-zero = refl
+arrow-solves = (refl, refl)
+
+pub arrow-refactored : refactor Shared (withNumbers arrow values right) dirty .answer ≡ ends.Done
+arrow-refactored = refactoring Shared shared-keeps arrow values right dirty arrow-presented .answer ∙ arrow-solves .0
 
 pub arrow-refused : refactor Shared (withNumbers arrow ones right) dirty .answer ≡ ends.Refused (ZeroPivot (spot 1))
-arrow-refused = refactoring Shared shared-keeps arrow ones right dirty arrow-presented .answer ∙ arrow-zero
+arrow-refused = refactoring Shared shared-keeps arrow ones right dirty arrow-presented .answer ∙ arrow-solves .1
 
 -- the factors found so are those that another right side takes
 pub arrow-factored : Factored Shared (withNumbers arrow values right) dirty (refactor Shared (withNumbers arrow values right) dirty .buffers)
@@ -129,28 +125,24 @@ unfoldable pub given : Buffers
 given =
     plainBuffers (replicate 3 77) (replicate 1 79) (replicate 1 nan) (replicate 3 77) (replicate 1 79) (replicate 1 nan) (replicate 2 nan) (replicate 2 nan) (replicate 6 nan) (replicate 24 80)
 
-two-answer : solve Plain two given .answer ≡ Done (counted 1 1 1)
+-- the greatest number and its negative: finite, and 13 at place 1
+abbrev huge : List Float
+huge = floats (0x7fefffffffffffff ∷ 0xffefffffffffffff ∷ [])
+
+two-solves : (solve Plain two given .answer ≡ Done (counted 1 1 1)) × (endOf (solve Plain (withRight two huge) given .answer) ≡ ends.Refused (Overflow (spot 1)))
 unfolding floats two given solve shape askShape askSolve askPattern askRows ask3 ask4 ask5 ask6 ask7 ask8 askFinite first badStart badColumn badIndex isOf notFinite emptyRow noEntry repeatRow repeats seenAt listAt pairs askPlaces askPlace filled reach stored has fits indexNeed valueNeed placedTo placed after plain appendAll startOf upperRow lowerRow asc upper listed system entries rightAt ic judged wholeRun loadRun step1 subtractRun stepRun step2 scaledRun step3 rowRun forwardRun restRun backRun counts sum count lowerColumn products ofBits sub mul div eq
-two-answer = refl
+two-solves = (refl, refl)
 
 pub two-factored : Factored Plain two given (solve Plain two given .buffers)
-two-factored = by-solve (counted 1 1 1) (ap (λ a. ended a (solve Plain two given .buffers)) two-answer)
+two-factored = by-solve (counted 1 1 1) (ap (λ a. ended a (solve Plain two given .buffers)) (two-solves .0))
 
 -- the same b: all buffers are as they were
 pub two-same : resolve Plain two (solve Plain two given .buffers) ≡ ended ends.Done (solve Plain two given .buffers)
 two-same = resolving-same Plain plain-keeps two given (solve Plain two given .buffers) two-factored
 
--- the greatest number and its negative: finite, and 13 at place 1
-abbrev huge : List Float
-huge = floats (0x7fefffffffffffff ∷ 0xffefffffffffffff ∷ [])
-
-huge-finite : Finite (two .n) huge
+huge-finite : FiniteRight (two .n) huge
 unfolding two floats ofBits
 huge-finite = record { long = refl; all = elim [ zero ↦ λ l. refl | suc k ↦ elim k [ zero ↦ λ l. refl | suc j ↦ λ l. absurd (omega arith) ] ] }
 
-huge-answer : endOf (solve Plain (withNumbers two (two .values) huge) given .answer) ≡ ends.Refused (Overflow (spot 1))
-unfolding floats two given solve shape askShape askSolve askPattern askRows ask3 ask4 ask5 ask6 ask7 ask8 askFinite first badStart badColumn badIndex isOf notFinite emptyRow noEntry repeatRow repeats seenAt listAt pairs askPlaces askPlace filled reach stored has fits indexNeed valueNeed placedTo placed after plain appendAll startOf upperRow lowerRow asc upper listed system entries rightAt ic judged wholeRun loadRun step1 subtractRun stepRun step2 scaledRun step3 rowRun forwardRun restRun backRun ofBits sub mul div eq
-huge-answer = refl
-
-pub two-over : resolve Plain (withNumbers two (two .values) huge) (solve Plain two given .buffers) .answer ≡ ends.Refused (Overflow (spot 1))
-two-over = resolving Plain plain-keeps two given (solve Plain two given .buffers) two-factored huge huge-finite .answer ∙ huge-answer
+pub two-over : resolve Plain (withRight two huge) (solve Plain two given .buffers) .answer ≡ ends.Refused (Overflow (spot 1))
+two-over = resolving Plain plain-keeps two given (solve Plain two given .buffers) two-factored huge huge-finite .answer ∙ two-solves .1

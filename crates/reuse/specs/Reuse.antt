@@ -38,12 +38,16 @@ endOf (Refused q) = ends.Refused q
 abbrev pub withNumbers : Input → List Float → List Float → Input
 withNumbers i v b = inputOf (i .n) (i .starts) (i .columns) v (i .r) (i .c) b
 
+-- the same values too
+abbrev pub withRight : Input → List Float → Input
+withRight i b = withNumbers i (i .values) b
+
 -- ---- refactor over lists found before
 
 -- a structure call or a solve of the input was done, and left u
-pub data Leaves (f : Form) (i : Input) (u : Buffers) : Type 0 where
-  after-structure : (s : Buffers) (c : Counts) → structure f i s ≡ ended (Done c) u → Leaves f i u
-  after-solve : (s : Buffers) (c : Counts) → solve f i s ≡ ended (Done c) u → Leaves f i u
+pub data ListsLeft (f : Form) (i : Input) (u : Buffers) : Type 0 where
+  after-structure : (s : Buffers) (c : Counts) → structure f i s ≡ ended (Done c) u → ListsLeft f i u
+  after-solve : (s : Buffers) (c : Counts) → solve f i s ≡ ended (Done c) u → ListsLeft f i u
 
 -- a side with the lists of another and a value store no shorter, whatever it holds
 pub record SameLists (u t : SideBuffers) : Type 0 where
@@ -55,7 +59,7 @@ pub record SameLists (u t : SideBuffers) : Type 0 where
 -- t has the lists that a call left; its value stores, d, x and scratch are free
 pub record Presented (f : Form) (i : Input) (t : Buffers) : Type 0 where
   pub u : Buffers
-  pub left : Leaves f i u
+  pub left : ListsLeft f i u
   pub lower : SameLists (u .lower) (t .lower)
   pub upper : SameLists (u .upper) (t .upper)
 
@@ -85,7 +89,7 @@ pub data Factored (f : Form) (i : Input) (s t : Buffers) : Type 0 where
   by-refactor : refactor f i s ≡ ended ends.Done t → Factored f i s t
 
 -- a right side that passes the questions: n finite numbers
-pub record Finite (n : ℕ) (b : List Float) : Type 0 where
+pub record FiniteRight (n : ℕ) (b : List Float) : Type 0 where
   pub long : length b ≡ n
   pub all : (k : ℕ) → k < n → finite (getD b k nan) ≡ true
 
@@ -101,8 +105,8 @@ pub record ResolvesAs (t : Buffers) (o : Outcome Ended) (p : Outcome Answer) : T
 -- "another right side: factors found before, a new b"
 abbrev pub Resolving : Type 0
 Resolving =
-    (f : Form) → Keeps f → (i : Input) (s t : Buffers) → Factored f i s t → (b : List Float) → Finite (i .n) b
-    → ResolvesAs t (resolve f (withNumbers i (i .values) b) t) (solve f (withNumbers i (i .values) b) s)
+    (f : Form) → Keeps f → (i : Input) (s t : Buffers) → Factored f i s t → (b : List Float) → FiniteRight (i .n) b
+    → ResolvesAs t (resolve f (withRight i b) t) (solve f (withRight i b) s)
 
 -- and again: what it leaves are the factors of the new right side, or, refused, the old ones as they were
 pub record ResolvesOn (f : Form) (j : Input) (s t : Buffers) (o : Outcome Ended) : Type 0 where
@@ -111,8 +115,8 @@ pub record ResolvesOn (f : Form) (j : Input) (s t : Buffers) (o : Outcome Ended)
 
 abbrev pub ResolvingOn : Type 0
 ResolvingOn =
-    (f : Form) → Keeps f → (i : Input) (s t : Buffers) → Factored f i s t → (b : List Float) → Finite (i .n) b
-    → ResolvesOn f (withNumbers i (i .values) b) s t (resolve f (withNumbers i (i .values) b) t)
+    (f : Form) → Keeps f → (i : Input) (s t : Buffers) → Factored f i s t → (b : List Float) → FiniteRight (i .n) b
+    → ResolvesOn f (withRight i b) s t (resolve f (withRight i b) t)
 
 -- with the same b all buffers, x among them, are as they were
 abbrev pub ResolvingSame : Type 0
@@ -134,4 +138,4 @@ RefactoringAlike =
 abbrev pub ResolvingAlike : Type 0
 ResolvingAlike =
     (f g : Form) → Keeps f → Keeps g → (i : Input) (s p t q : Buffers) → Factored f i s p → Factored g i t q → (b : List Float)
-    → Alike (resolve f (withNumbers i (i .values) b) p) (resolve g (withNumbers i (i .values) b) q)
+    → Alike (resolve f (withRight i b) p) (resolve g (withRight i b) q)
