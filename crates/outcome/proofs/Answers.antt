@@ -58,7 +58,7 @@ solve-answer f i s = chain-answer f i (sizes s) (s .x) s _ _ (shape f i (sizes s
 
 -- ---- the solution
 
-left-x : (f : Form) (i : Input) (z : Sizes) (a : Result) → left f i z a .x ≡ ownOrder (i .c) (i .n) (a .z)
+pub left-x : (f : Form) (i : Input) (z : Sizes) (a : Result) → left f i z a .x ≡ ownOrder (i .c) (i .n) (a .z)
 unfolding kept cleared
 left-x Plain i z a = refl
 left-x Shared i z a = refl

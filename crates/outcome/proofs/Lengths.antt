@@ -57,7 +57,7 @@ scratch-same s = rw (length-replicate, length-replicate)
 
 -- ---- used parts
 
-joined-length : (g : ℕ → List Float) (T : ℕ → List ℕ) (n : ℕ) → ((k : ℕ) → k < n → length (g k) ≡ length (T k)) → length (joined g n) ≡ startOf T n
+pub joined-length : (g : ℕ → List Float) (T : ℕ → List ℕ) (n : ℕ) → ((k : ℕ) → k < n → length (g k) ≡ length (T k)) → length (joined g n) ≡ startOf T n
 unfolding joined startOf
 joined-length g T zero h = refl
 joined-length g T (suc n) h = omega (arith, length-append (joined g n) (g n), joined-length g T n (λ k l. h k (omega arith)), h n (omega arith))

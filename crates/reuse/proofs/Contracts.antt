@@ -17,9 +17,9 @@ use Rattle.outcome.specs.Resolve.{resolve}
 use Rattle.outcome.specs.Calls.{StructuresPlain, StructuresShared, SolvesPlain, SolvesShared}
 use Rattle.outcome.specs.Again.{RefactorsPlain, RefactorsShared}
 use Rattle.agreement.specs.Demand.{Stated}
-use Rattle.reuse.specs.Reuse.{Keeps, withNumbers, after-structure, after-solve, SameLists, Presented, RefactorsAs, by-solve, by-refactor, FiniteRight, ResolvesAs, Alike}
+use Rattle.reuse.specs.Reuse.{Keeps, withNumbers, withRight, after-structure, after-solve, SameLists, Presented, RefactorsAs, by-solve, by-refactor, FiniteRight, ResolvesAs, Alike}
 use Rattle.reuse.proofs.Refactoring.{refactoring, refactoring-alike}
-use Rattle.reuse.proofs.Resolving.{resolving}
+use Rattle.reuse.proofs.Resolving.{resolving, resolving-alike}
 
 pub plain-keeps : Keeps Plain
 plain-keeps e = let z : _≡_ {A = ℕ} 0 1 = cc in omega arith
@@ -84,28 +84,38 @@ refactors-alike i v b a₁ a₂ ls₁ li₁ us₁ ui₁ m₁ m₁' ls₂ lr₂ l
 -- another right side after a solve and after a refactor; t is what it leaves
 pub solve-resolves-plain : (i : Input) (b : List Float) (c : Counts) (a : Ended) (p : Answer) (t : Buffers) (ls₀ li₀ us₀ ui₀ m₀ ls li us ui m ls'' li'' us'' ui'' m'' : List ℕ) (lv₀ uv₀ d₀ x₀ w₀ lv uv d x w lv'' uv'' d'' x'' w'' : List Float)
     → SolvesPlain i ls₀ li₀ lv₀ us₀ ui₀ uv₀ d₀ x₀ w₀ m₀ (Done c) ls li lv us ui uv d x w m → FiniteRight (i .n) b
-    → ended a t ≡ resolve Plain (withNumbers i (i .values) b) (plainBuffers ls li lv us ui uv d x w m)
-    → SolvesPlain (withNumbers i (i .values) b) ls₀ li₀ lv₀ us₀ ui₀ uv₀ d₀ x₀ w₀ m₀ p ls'' li'' lv'' us'' ui'' uv'' d'' x'' w'' m''
+    → ended a t ≡ resolve Plain (withRight i b) (plainBuffers ls li lv us ui uv d x w m)
+    → SolvesPlain (withRight i b) ls₀ li₀ lv₀ us₀ ui₀ uv₀ d₀ x₀ w₀ m₀ p ls'' li'' lv'' us'' ui'' uv'' d'' x'' w'' m''
     → ResolvesAs (plainBuffers ls li lv us ui uv d x w m) (ended a t) (ended p (plainBuffers ls'' li'' lv'' us'' ui'' uv'' d'' x'' w'' m''))
 solve-resolves-plain i b c a p t ls₀ li₀ us₀ ui₀ m₀ ls li us ui m ls'' li'' us'' ui'' m'' lv₀ uv₀ d₀ x₀ w₀ lv uv d x w lv'' uv'' d'' x'' w'' h n e g = rw (e, g) (resolving Plain plain-keeps i _ _ (by-solve c (sym h)) b n)
 
 pub refactor-resolves-plain : (i : Input) (b : List Float) (a : Ended) (p : Answer) (t : Buffers) (ls li us ui m₀ m ls'' li'' us'' ui'' m'' : List ℕ) (lv₀ uv₀ d₀ x₀ w₀ lv uv d x w lv'' uv'' d'' x'' w'' : List Float)
     → RefactorsPlain i ls li lv₀ us ui uv₀ d₀ x₀ w₀ m₀ ends.Done lv uv d x w m → FiniteRight (i .n) b
-    → ended a t ≡ resolve Plain (withNumbers i (i .values) b) (plainBuffers ls li lv us ui uv d x w m)
-    → SolvesPlain (withNumbers i (i .values) b) ls li lv₀ us ui uv₀ d₀ x₀ w₀ m₀ p ls'' li'' lv'' us'' ui'' uv'' d'' x'' w'' m''
+    → ended a t ≡ resolve Plain (withRight i b) (plainBuffers ls li lv us ui uv d x w m)
+    → SolvesPlain (withRight i b) ls li lv₀ us ui uv₀ d₀ x₀ w₀ m₀ p ls'' li'' lv'' us'' ui'' uv'' d'' x'' w'' m''
     → ResolvesAs (plainBuffers ls li lv us ui uv d x w m) (ended a t) (ended p (plainBuffers ls'' li'' lv'' us'' ui'' uv'' d'' x'' w'' m''))
 refactor-resolves-plain i b a p t ls li us ui m₀ m ls'' li'' us'' ui'' m'' lv₀ uv₀ d₀ x₀ w₀ lv uv d x w lv'' uv'' d'' x'' w'' h n e g = rw (e, g) (resolving Plain plain-keeps i _ _ (by-refactor (sym h)) b n)
 
 pub solve-resolves-shared : (i : Input) (b : List Float) (c : Counts) (a : Ended) (p : Answer) (t : Buffers) (ls₀ lr₀ li₀ us₀ ur₀ ui₀ m₀ ls lr li us ur ui m ls'' lr'' li'' us'' ur'' ui'' m'' : List ℕ) (lv₀ uv₀ d₀ x₀ w₀ lv uv d x w lv'' uv'' d'' x'' w'' : List Float)
     → SolvesShared i ls₀ lr₀ li₀ lv₀ us₀ ur₀ ui₀ uv₀ d₀ x₀ w₀ m₀ (Done c) ls lr li lv us ur ui uv d x w m → FiniteRight (i .n) b
-    → ended a t ≡ resolve Shared (withNumbers i (i .values) b) (sharedBuffers ls lr li lv us ur ui uv d x w m)
-    → SolvesShared (withNumbers i (i .values) b) ls₀ lr₀ li₀ lv₀ us₀ ur₀ ui₀ uv₀ d₀ x₀ w₀ m₀ p ls'' lr'' li'' lv'' us'' ur'' ui'' uv'' d'' x'' w'' m''
+    → ended a t ≡ resolve Shared (withRight i b) (sharedBuffers ls lr li lv us ur ui uv d x w m)
+    → SolvesShared (withRight i b) ls₀ lr₀ li₀ lv₀ us₀ ur₀ ui₀ uv₀ d₀ x₀ w₀ m₀ p ls'' lr'' li'' lv'' us'' ur'' ui'' uv'' d'' x'' w'' m''
     → ResolvesAs (sharedBuffers ls lr li lv us ur ui uv d x w m) (ended a t) (ended p (sharedBuffers ls'' lr'' li'' lv'' us'' ur'' ui'' uv'' d'' x'' w'' m''))
 solve-resolves-shared i b c a p t ls₀ lr₀ li₀ us₀ ur₀ ui₀ m₀ ls lr li us ur ui m ls'' lr'' li'' us'' ur'' ui'' m'' lv₀ uv₀ d₀ x₀ w₀ lv uv d x w lv'' uv'' d'' x'' w'' h n e g = rw (e, g) (resolving Shared shared-keeps i _ _ (by-solve c (sym h)) b n)
 
 pub refactor-resolves-shared : (i : Input) (b : List Float) (a : Ended) (p : Answer) (t : Buffers) (ls lr li us ur ui m₀ m ls'' lr'' li'' us'' ur'' ui'' m'' : List ℕ) (lv₀ uv₀ d₀ x₀ w₀ lv uv d x w lv'' uv'' d'' x'' w'' : List Float)
     → RefactorsShared i ls lr li lv₀ us ur ui uv₀ d₀ x₀ w₀ m₀ ends.Done lv uv d x w m → FiniteRight (i .n) b
-    → ended a t ≡ resolve Shared (withNumbers i (i .values) b) (sharedBuffers ls lr li lv us ur ui uv d x w m)
-    → SolvesShared (withNumbers i (i .values) b) ls lr li lv₀ us ur ui uv₀ d₀ x₀ w₀ m₀ p ls'' lr'' li'' lv'' us'' ur'' ui'' uv'' d'' x'' w'' m''
+    → ended a t ≡ resolve Shared (withRight i b) (sharedBuffers ls lr li lv us ur ui uv d x w m)
+    → SolvesShared (withRight i b) ls lr li lv₀ us ur ui uv₀ d₀ x₀ w₀ m₀ p ls'' lr'' li'' lv'' us'' ur'' ui'' uv'' d'' x'' w'' m''
     → ResolvesAs (sharedBuffers ls lr li lv us ur ui uv d x w m) (ended a t) (ended p (sharedBuffers ls'' lr'' li'' lv'' us'' ur'' ui'' uv'' d'' x'' w'' m''))
 refactor-resolves-shared i b a p t ls lr li us ur ui m₀ m ls'' lr'' li'' us'' ur'' ui'' m'' lv₀ uv₀ d₀ x₀ w₀ lv uv d x w lv'' uv'' d'' x'' w'' h n e g = rw (e, g) (resolving Shared shared-keeps i _ _ (by-refactor (sym h)) b n)
+
+-- with 1 the plain form's lists, with 2 the shared form's; t and u are what another right side leaves
+pub resolves-alike : (i : Input) (b : List Float) (c₁ c₂ : Counts) (a₁ a₂ : Ended) (t u : Buffers) (ls₁ li₁ us₁ ui₁ m₁ ls₁' li₁' us₁' ui₁' m₁' ls₂ lr₂ li₂ us₂ ur₂ ui₂ m₂ ls₂' lr₂' li₂' us₂' ur₂' ui₂' m₂' : List ℕ) (lv₁ uv₁ d₁ x₁ w₁ lv₁' uv₁' d₁' x₁' w₁' lv₂ uv₂ d₂ x₂ w₂ lv₂' uv₂' d₂' x₂' w₂' : List Float)
+    → SolvesPlain i ls₁ li₁ lv₁ us₁ ui₁ uv₁ d₁ x₁ w₁ m₁ (Done c₁) ls₁' li₁' lv₁' us₁' ui₁' uv₁' d₁' x₁' w₁' m₁'
+    → SolvesShared i ls₂ lr₂ li₂ lv₂ us₂ ur₂ ui₂ uv₂ d₂ x₂ w₂ m₂ (Done c₂) ls₂' lr₂' li₂' lv₂' us₂' ur₂' ui₂' uv₂' d₂' x₂' w₂' m₂'
+    → ended a₁ t ≡ resolve Plain (withRight i b) (plainBuffers ls₁' li₁' lv₁' us₁' ui₁' uv₁' d₁' x₁' w₁' m₁')
+    → ended a₂ u ≡ resolve Shared (withRight i b) (sharedBuffers ls₂' lr₂' li₂' lv₂' us₂' ur₂' ui₂' uv₂' d₂' x₂' w₂' m₂')
+    → Alike (ended a₁ t) (ended a₂ u)
+resolves-alike i b c₁ c₂ a₁ a₂ t u ls₁ li₁ us₁ ui₁ m₁ ls₁' li₁' us₁' ui₁' m₁' ls₂ lr₂ li₂ us₂ ur₂ ui₂ m₂ ls₂' lr₂' li₂' us₂' ur₂' ui₂' m₂' lv₁ uv₁ d₁ x₁ w₁ lv₁' uv₁' d₁' x₁' w₁' lv₂ uv₂ d₂ x₂ w₂ lv₂' uv₂' d₂' x₂' w₂' h k e g =
+    rw (e, g) (resolving-alike Plain Shared plain-keeps shared-keeps i _ _ _ _ (by-solve c₁ (sym h)) (by-solve c₂ (sym k)) b)

@@ -43,7 +43,7 @@ use Rattle.outcome.specs.Solve.{system, listed, faultOf, multiplier, valuesOf, 
 use Rattle.outcome.specs.Refactor.{askPresented, refilled, refactor}
 use Rattle.outcome.specs.Resolve.{factorsOf, withSolution, resolved, resolve}
 use Rattle.outcome.proofs.Asking.{number-some, holds-pass, then-pass, all-append}
-use Rattle.outcome.proofs.Answers.{solve-left}
+use Rattle.outcome.proofs.Answers.{left-x, solve-left}
 use Rattle.outcome.proofs.Meaning.{listed-stops}
 use Rattle.reuse.specs.Reuse.{Keeps, withNumbers, Factored, by-solve, by-refactor, FiniteRight, ResolvesAs, Resolving, ResolvesOn, ResolvingOn, ResolvingSame, Alike, ResolvingAlike}
 use Rattle.reuse.proofs.Standing.{absent-pass}
@@ -126,14 +126,8 @@ module _ (f : Form) (v : Keeps f) (i : Input) (s t : Buffers) (a : Result) (h : 
       let e = shape-all f i (sizes s) (h .lengths) in
       rw (shape-by (i .n) (matrixTests (withNumbers i (i .values) b)) (bufferTests f (i .n) (sizes s)) (e .0) (matrix-tests i b g (e .1)) (e .2), solve-asks i b g (h .questions), h .places)
 
-left-x : (f : Form) → Keeps f → (i : Input) (z : Sizes) (a : Result) → left f i z a .x ≡ ownOrder (i .c) (i .n) (a .z)
-unfolding kept
-left-x Plain v i z a = refl
-left-x Shared v i z a = refl
-left-x ByRow v i z a = absurd (v refl)
-
 ends-again : (f : Form) → Keeps f → (j : Input) (s t : Buffers) (o : Out Result) → Overflows (zOf o) → ResolvesAs t (resolved j t (zOf o)) (concluded f j (sizes s) (s .x) o)
-ends-again f v j s t (ok a) w = record { answer = refl; buffers = λ e. ap (withSolution t) (sym (left-x f v j (sizes s) a)); over = λ l. absurd (omega arith) }
+ends-again f v j s t (ok a) w = record { answer = refl; buffers = λ e. ap (withSolution t) (sym (left-x f j (sizes s) a)); over = λ l. absurd (omega arith) }
 ends-again f v j s t (met q) w =
     let k = w q refl in
     record { answer = refl; buffers = λ e. absurd (number-some (faultOf q) e); over = λ l. (ap (λ (q : Fault). numberOf (faultOf q)) (k .1), refl) }

@@ -5,7 +5,7 @@ use mathlib.Core.List.{List, [], _∷_, _++_, map, append-nil, append-assoc, Lis
 use Prim.Native.Nat.{ℕ, zero, suc, _+_, _-_, _≤_, _<_}
 use native.Mathlib.Omega.{arith}
 use native.Mathlib.Decide.{decLt}
-use lib.ListN.{length, getD, take, drop, replicate, length-append}
+use lib.ListN.{length, getD, take, drop, replicate}
 use lib.Seq.{take-at, drop-at}
 use lib.Dec.{ltb, eqb}
 use lib.Ieee.{Float, nan}
@@ -29,6 +29,7 @@ use Rattle.outcome.specs.Forms.{listsOf, placedTo, valueNeed}
 use Rattle.outcome.specs.Buffers.{SideBuffers}
 use Rattle.outcome.specs.Solve.{multiplier, valuesOf, valuesKept}
 use Rattle.outcome.specs.Resolve.{runsOf, givenList, givenValues, risesIn, rightSide, misplaced, hit, givenLower}
+use Rattle.outcome.proofs.Lengths.{joined-length}
 use Rattle.reuse.specs.Reuse.{Keeps}
 use Rattle.reuse.proofs.Standing.{PlaceStands}
 use Rattle.reuse.proofs.OtherRight.{Tame}
@@ -48,11 +49,6 @@ module _ (f : Form) (side : Side) (P : Pattern) (n : ℕ) (b : SideBuffers) (k :
   unfolding givenList listAt
   list-is = rw (size-is, h .run) (h .list)
 
-joined-long : (g : ℕ → List Float) (T : ℕ → List ℕ) (n : ℕ) → ((k : ℕ) → k < n → length (g k) ≡ length (T k)) → length (joined g n) ≡ startOf T n
-unfolding joined startOf
-joined-long g T zero h = refl
-joined-long g T (suc n) h = omega (arith, length-append (joined g n) (g n), joined-long g T n (λ k l. h k (omega arith)), h n (omega arith))
-
 joined-at : (g : ℕ → List Float) (T : ℕ → List ℕ) (n : ℕ) (more : List Float) → ((k : ℕ) → k < n → length (g k) ≡ length (T k)) → (k : ℕ) → k < n
     → take (length (T k)) (drop (startOf T k) (joined g n ++ more)) ≡ g k
 unfolding joined
@@ -62,7 +58,7 @@ joined-at g T (suc n) more h k l =
     (elim (decLt k n) [
       | yes q ↦ joined-at g T n (g n ++ more) (λ j m. h j (omega arith)) k q
       | no q ↦ (let e : k ≡ n = omega arith in
-          rw (e, drop-at (joined g n) (g n ++ more) (startOf T n) (joined-long g T n (λ j m. h j (omega arith)))) (take-at (g n) more (length (T n)) (h n (omega arith))))
+          rw (e, drop-at (joined g n) (g n ++ more) (startOf T n) (joined-length g T n (λ j m. h j (omega arith)))) (take-at (g n) more (length (T n)) (h n (omega arith))))
     ])
 
 pub values-are : (f : Form) (side : Side) (P : Pattern) (n m : ℕ) (b : SideBuffers) (rows : List Row) → ((k : ℕ) → k < n → length (valuesOf f side P n rows k) ≡ length (listsOf f side P n k))
