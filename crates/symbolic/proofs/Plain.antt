@@ -6,7 +6,7 @@ use Prim.Native.Nat.{ℕ, _+_, _<_}
 use native.Mathlib.Omega.{arith}
 use native.Mathlib.Numerals.{add-one}
 use lib.ListN.{length}
-use Rattle.base.specs.Lists.{blank, sum}
+use Rattle.base.specs.Lists.{sum}
 use Rattle.base.specs.Answers.{spot}
 use Rattle.base.specs.declared.Form.the-variants.{Plain}
 use Rattle.base.specs.declared.Side.the-variants.{Upper}
@@ -82,7 +82,7 @@ module _ (i : Input) (low : List ℕ) (lv : ℕ) (up : List ℕ) (uv k : ℕ) (l
       plain-full c =
           stop-upper Plain P n _ k place (h .passed) (found .diagonal) (fits-plain P n (length low) lv (length up) uv k ∙ fits) (fits-upper P n (length low) lv (length up) uv k Plain ∙ c)
 
-      pub plain-next : (ls′ li′ : List ℕ) (e : Extent) → Holding OneAfterAnother (lowerRow P) (lowerRow (flip P)) lv (k + 1) (blank 0 low) ls′ ls′ li′ e → length ls′ ≡ length ls
+      pub plain-next : (ls′ li′ : List ℕ) (e : Extent) → Holding OneAfterAnother (lowerRow P) (lowerRow (flip P)) lv (k + 1) low ls′ ls′ li′ e → length ls′ ≡ length ls
           → (p : ℕ) → p ≡ sum (k + 1) (rowSteps P n) → (us′ ui′ s₂ : List ℕ) (u : Extent) → length s₂ ≡ length s₁ → ListKept OneAfterAnother P n k (upperCuts n) up uv us′ us′ ui′ s₁ s₂ u
           → At Plain i low lv up uv (k + 1) ls′ ls′ li′ us′ us′ ui′ s₂ (record { lower = e; upper = u; products = p; window = 0 })
       plain-next ls′ li′ e held size p sums us′ ui′ s₂ u same kept =
