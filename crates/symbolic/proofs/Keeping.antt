@@ -42,9 +42,9 @@ pub suited-of : (way : Way) (P : Pattern) (n : ℕ) → Suited way (upperRow P n
 suited-of way P n = fill-suited way P n
 
 -- the lists that are placed can be read
-pub stored-held : {way : Way} {P : Pattern} {n values k : ℕ} {index₀ index runs starts : List ℕ} {e : Extent} → k ≤ n
+pub stored-held : {way : Way} {P : Pattern} {n values k : ℕ} {index₀ starts runs index : List ℕ} {e : Extent} → k ≤ n
     → Holding way (upperRow P n) (lowerRow P) values k index₀ starts runs index e → Stored P n k starts runs index
-stored-held {way} {P} {n} {values} {k} {index₀} {index} {runs} {starts} {e} l h = record {
+stored-held {way} {P} {n} {values} {k} {index₀} {starts} {runs} {index} {e} l h = record {
   list = λ i b. list-held h n (suited-of way P n) l i b;
   read = λ i b.
       let r = list-readable h n (suited-of way P n) l i b in
@@ -87,7 +87,7 @@ module _ {way : Way} {P : Pattern} {n k t cuts : ℕ} {store : List ℕ} {values
       (omega (arith, z .slots-fit)) (omega (arith, z .values-fit))
       (rw l (λ j b. let u = upper-below P n k j b in omega (arith, h .few)))
 
-  module _ (e′ : Extent) (index′ runs′ starts′ : List ℕ) (held : Holding way (upperRow P n) (lowerRow P) values (suc k) store starts′ runs′ index′ e′) where
+  module _ (e′ : Extent) (starts′ runs′ index′ : List ℕ) (held : Holding way (upperRow P n) (lowerRow P) values (suc k) store starts′ runs′ index′ e′) where
     next-store : Stored P n (k + 1) starts′ runs′ index′
     next-store = let b = h .below in rw add-one (stored-held (omega arith) held)
 
@@ -110,13 +110,13 @@ module _ {way : Way} {P : Pattern} {n k t cuts : ℕ} {store : List ℕ} {values
         }
 
 -- what a step of placing told
-pub stepped-done : (way : Way) (T R : ℕ → List ℕ) (values k : ℕ) (index₀ index runs starts : List ℕ) (r : Put) (e : Extent) → r ≡ Done e
+pub stepped-done : (way : Way) (T R : ℕ → List ℕ) (values k : ℕ) (index₀ starts runs index : List ℕ) (r : Put) (e : Extent) → r ≡ Done e
     → Stepped way T R values k index₀ starts runs index r → (room (wayOf way) T R (length index₀) values k ≡ true) × Holding way T R values (suc k) index₀ starts runs index e
-stepped-done way T R values k index₀ index runs starts r e q h = rw q at h
+stepped-done way T R values k index₀ starts runs index r e q h = rw q at h
 
-pub stepped-full : (way : Way) (T R : ℕ → List ℕ) (values k : ℕ) (index₀ index runs starts : List ℕ) (r : Put) → r ≡ Full
+pub stepped-full : (way : Way) (T R : ℕ → List ℕ) (values k : ℕ) (index₀ starts runs index : List ℕ) (r : Put) → r ≡ Full
     → Stepped way T R values k index₀ starts runs index r → room (wayOf way) T R (length index₀) values k ≡ false
-stepped-full way T R values k index₀ index runs starts r q h = rw q at h
+stepped-full way T R values k index₀ starts runs index r q h = rw q at h
 
 -- ---- lower row k in the plain form
 
@@ -140,14 +140,14 @@ module _ {P : Pattern} {n k : ℕ} {store : List ℕ} {values : ℕ} {starts ind
       (rw (l, part-is (listFrom n) count s, h .list) (λ j b. omega (arith, lower-below P k j b, h .below, h .few)))
 
 -- what a step of placing told of it
-pub lower-stepped : (P : Pattern) (values k : ℕ) (store index starts : List ℕ) (r : Put)
+pub lower-stepped : (P : Pattern) (values k : ℕ) (store starts index : List ℕ) (r : Put)
     → Stepped OneAfterAnother (lowerRow P) (lowerRow (flip P)) values k store starts starts index r → LowerEnds P k store values starts index r
-lower-stepped P values k store index starts (Done e) h = (h .0, rw add-one (h .1))
-lower-stepped P values k store index starts Full h = h
+lower-stepped P values k store starts index (Done e) h = (h .0, rw add-one (h .1))
+lower-stepped P values k store starts index Full h = h
 
 -- ---- products
 
-module _ {P : Pattern} {n k : ℕ} {index runs starts s : List ℕ} {count products : ℕ} (a : Adding P n k index runs starts s count products) where
+module _ {P : Pattern} {n k : ℕ} {starts runs index s : List ℕ} {count products : ℕ} (a : Adding P n k starts runs index s count products) where
   pub adding-fits : listFrom n + count < regionsEnd n
   adding-fits = omega (arith, a .below, a .size, lower-le P k)
 

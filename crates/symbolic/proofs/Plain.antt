@@ -39,7 +39,7 @@ module _ (i : Input) (low : List ℕ) (lv : ℕ) (up : List ℕ) (uv k : ℕ) (l
   abbrev P : Pattern
   P = stored i
 
-  pub plain-open : Open Upper i k (k + 1) 0 ui us us s
+  pub plain-open : Open Upper i k (k + 1) 0 us us ui s
   plain-open = lists-open (h .begun) place (h .upper) (h .fresh) tt
 
   pub plain-null : filled P k k ≡ false → askPlaces Plain P n (slotsOf (length low) lv (length up) uv) n ≡ Stop (NullPivot (spot k))
@@ -63,7 +63,7 @@ module _ (i : Input) (low : List ℕ) (lv : ℕ) (up : List ℕ) (uv k : ℕ) (l
     pub plain-short : room plain (lowerRow P) (lowerRow (flip P)) (length low) lv k ≡ false → askPlaces Plain P n (slotsOf (length low) lv (length up) uv) n ≡ Stop (LowerSlots (spot k))
     plain-short b = stop-lower Plain P n _ k place (h .passed) (found .diagonal) (fits-plain P n (length low) lv (length up) uv k ∙ b)
 
-    pub plain-adding : Adding P n k ui us us s₁ (o .below) (g .products)
+    pub plain-adding : Adding P n k us us ui s₁ (o .below) (g .products)
     plain-adding = record {
       below = place;
       few = h .begun .few;

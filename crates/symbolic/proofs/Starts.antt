@@ -106,9 +106,9 @@ cleared-held : (way : Way) (T R : ℕ → List ℕ) (n values : ℕ) (starts sta
 cleared-held way T R n values starts starts′ runs index l b =
     holding-none way T R values starts′ runs index (rw (b, blank-length) (omega arith)) (ap (λ x. getD x 0 0) b ∙ blank-at 0 starts 0 0 (omega arith))
 
-pub cleared-stores : (way : Way) (n values : ℕ) (index index′ starts starts′ runs runs′ : List ℕ) → Stores way n index values starts runs → length starts′ ≡ length starts → length runs′ ≡ length runs
+pub cleared-stores : (way : Way) (n values : ℕ) (starts starts′ runs runs′ index index′ : List ℕ) → Stores way n index values starts runs → length starts′ ≡ length starts → length runs′ ≡ length runs
     → length index′ ≡ length index → Stores way n index′ values starts′ runs′
-cleared-stores way n values index index′ starts starts′ runs runs′ z a b c =
+cleared-stores way n values starts starts′ runs runs′ index index′ z a b c =
     record { starts-size = a ∙ z .starts-size; runs-size = b ∙ z .runs-size; slots-fit = omega (arith, z .slots-fit); values-fit = z .values-fit }
 
 blank-long : (l l′ : List ℕ) → l′ ≡ blank 0 l → length l′ ≡ length l
@@ -119,7 +119,7 @@ cleared-lists : (way : Way) (P : Pattern) (n cuts values : ℕ) (starts starts�
 cleared-lists way P n cuts values starts starts′ runs runs′ index index′ s z a b c = record {
   held = cleared-held way (upperRow P n) (lowerRow P) n values starts starts′ runs′ index′ (z .starts-size) a;
   cut = λ j l. absurd (omega arith);
-  stores = cleared-stores way n values index index′ starts starts′ runs runs′ z (blank-long starts starts′ a) b (blank-long index index′ c);
+  stores = cleared-stores way n values starts starts′ runs runs′ index index′ z (blank-long starts starts′ a) b (blank-long index index′ c);
 }
 
 -- ---- the forms
@@ -150,7 +150,7 @@ pub plain-start : (i : Input) (ls ls′ li li′ : List ℕ) (lv : ℕ) (us us�
 plain-start i ls ls′ li li′ lv us us′ ui ui′ uv s₀ s l a b c d e =
     form-start Plain i li′ lv uv ls′ ls′ li′ us us′ us ui ui′ s (begun-of i s₀ s (l .matrix) e) (fresh-of i s₀ s (l .matrix) e) (l .upper) us′ c (blank-long us us′ c) d (
       cleared-held OneAfterAnother (lowerRow (stored i)) (lowerRow (flip (stored i))) (i .n) lv ls ls′ ls′ li′ (l .lower .starts-size) a,
-      cleared-stores OneAfterAnother (i .n) lv li li′ ls ls′ ls ls′ (l .lower) (blank-long ls ls′ a) (blank-long ls ls′ a) (blank-long li li′ b),
+      cleared-stores OneAfterAnother (i .n) lv ls ls′ ls ls′ li li′ (l .lower) (blank-long ls ls′ a) (blank-long ls ls′ a) (blank-long li li′ b),
     )
 
 pub row-start : (i : Input) (us us′ ur ui ui′ : List ℕ) (uv : ℕ) (s₀ s : List ℕ) → RowLent i us ur ui uv (length s₀) → us′ ≡ blank 0 us → ui′ ≡ blank 0 ui

@@ -52,7 +52,7 @@ part-stays index index′ slots slots′ more rest rest′ q a b c l h =
     rw (a, b, List·getD-append slots rest 0 q l, List·getD-append slots′ rest′ 0 q (omega arith), c, List·getD-append slots more 0 q l)
 
 module _ (way : Way) (T R : ℕ → List ℕ) (n values k m : ℕ) (suited : Suited way T R n) (up : k ≤ m) (most : m ≤ n)
-    (index₀ index runs starts index′ runs′ starts′ : List ℕ) (e e′ : Extent)
+    (index₀ starts runs index starts′ runs′ index′ : List ℕ) (e e′ : Extent)
     (h : Holding way T R values k index₀ starts runs index e) (h′ : Holding way T R values m index₀ starts′ runs′ index′ e′) where
   slot-stays : (q : ℕ) → q < e .used → getD index′ q 0 ≡ getD index q 0
   slot-stays q l =

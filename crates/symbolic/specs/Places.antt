@@ -61,17 +61,17 @@ pub record Begun (i : Input) (s : List ℕ) : Type 0 where
 -- ---- opening place k: its lists are found
 
 -- what it finds; starts are the side's list starts
-pub record Open (side : Side) (i : Input) (k t window : ℕ) (index runs starts s : List ℕ) : Type 0 where
+pub record Open (side : Side) (i : Input) (k t window : ℕ) (starts runs index s : List ℕ) : Type 0 where
   pub begun : Begun i s
   pub below : k < i .n
   pub held : PlaceReady (patternOf side i) (i .n) k t (cutsOf side (i .n)) s starts runs index
   pub ready : SideReady side (i .n) k window (rowsIn i s) s
 
 -- the same, for some column order and some list starts: neither is lent
-pub record Opening (side : Side) (n k t window : ℕ) (starts columns r index runs s : List ℕ) : Type 0 where
+pub record Opening (side : Side) (n k t window : ℕ) (starts columns r runs index s : List ℕ) : Type 0 where
   pub order : List ℕ
   pub lists : List ℕ
-  pub due : Open side (inputOf n starts columns [] r order []) k t window index runs lists s
+  pub due : Open side (inputOf n starts columns [] r order []) k t window lists runs index s
 
 -- lower row k and T(k) of the pattern stand in scratch from slot 5n on, and the marks are row k of the fill
 pub record Listing (P : Pattern) (n k t : ℕ) (s : List ℕ) (below above : ℕ) : Type 0 where
@@ -162,7 +162,7 @@ LowerEnds P k store values starts index Full = room plain (lowerRow P) (lowerRow
 -- ---- the products of place k, added to those before
 
 -- lower row k stands in scratch, and the lists of the places before k in their stores
-pub record Adding (P : Pattern) (n k : ℕ) (index runs starts s : List ℕ) (count products : ℕ) : Type 0 where
+pub record Adding (P : Pattern) (n k : ℕ) (starts runs index s : List ℕ) (count products : ℕ) : Type 0 where
   pub below : k < n
   pub few : n ≤ maxRows
   pub space : Room n s
@@ -171,13 +171,13 @@ pub record Adding (P : Pattern) (n k : ℕ) (index runs starts s : List ℕ) (co
   pub store : Stored P n k starts runs index
   pub before : products ≡ sum k (rowSteps P n)
 
--- the same, for some pattern, place, index store and run starts
+-- the same, for some pattern, place, run starts and index store
 pub record Addable (n : ℕ) (starts s : List ℕ) (count products : ℕ) : Type 0 where
   pub pattern : Pattern
   pub place : ℕ
-  pub index : List ℕ
   pub runs : List ℕ
-  pub adding : Adding pattern n place index runs starts s count products
+  pub index : List ℕ
+  pub adding : Adding pattern n place starts runs index s count products
 
 -- ---- one side of the sharing forms at place k
 
