@@ -49,26 +49,27 @@ way-is Shared = refl
 way-is ByRow = refl
 
 module _ (f : Form) (side : Side) (P : Pattern) (n : ℕ) (store : List ℕ) (values : ℕ) (starts runs index : List ℕ) (e : Extent)
-    (h : Holding (placingOf f) (listsOf f side P n) (rowsOf side P) values n (blank 0 store) starts runs index e) (z : Stores (placingOf f) n store values starts runs) (r : RunsIn f starts runs) where
+    (h : Holding (placingOf f) (listsOf f side P n) (rowsOf side P) values n store starts runs index e) (z : Stores (placingOf f) n store values starts runs) (r : RunsIn f starts runs) where
   runs-end : RunsAre f side P n starts runs
   unfolding placedTo
   runs-end = go f h (z .runs-size) r
     where
-      go : (f : Form) → Holding (placingOf f) (listsOf f side P n) (rowsOf side P) values n (blank 0 store) starts runs index e → length runs ≡ runCount (placingOf f) n → RunsIn f starts runs
+      go : (f : Form) → Holding (placingOf f) (listsOf f side P n) (rowsOf side P) values n store starts runs index e → length runs ≡ runCount (placingOf f) n → RunsIn f starts runs
           → RunsAre f side P n starts runs
       go Plain h l r = r
       go Shared h l r = runs-whole h l
       go ByRow h l r = runs-whole h l
 
-  side-end : PlacedSide f side P n starts runs index values
+  -- the store was cleared before the first place
+  side-end : (lent : List ℕ) → store ≡ blank 0 lent → PlacedSide f side P n starts runs index values
   unfolding placedTo indexNeed valueNeed
-  side-end =
+  side-end lent b =
       let st : placed (ways.wayOf (placingOf f)) (listsOf f side P n) (rowsOf side P) n ≡ placed (wayOf f) (listsOf f side P n) (rowsOf side P) n = rw (way-is f) in
-      let long : length index ≡ length store = index-long h ∙ blank-length 0 store in
+      let long : length index ≡ length lent = index-long h ∙ ap length b ∙ blank-length 0 lent in
       record {
         starts-are = starts-whole h (z .starts-size) ∙ table-ext (startOf (listsOf f side P n)) (valueNeed f side P n) (n + 1) (λ j b. refl);
         runs-are = runs-end;
-        index-is = rw long (padded-held store h ∙ ap (λ x. padded 0 (length store) (x .slots)) st);
+        index-is = rw long (padded-held lent (rw b at h) ∙ ap (λ x. padded 0 (length lent) (x .slots)) st);
         index-in = omega (arith, ap (λ x. length (x .slots)) st, h .used-is, h .used-in, index-long h);
         values-in = omega (arith, h .entries-are, h .entries-in);
       }
@@ -80,7 +81,7 @@ Keeps Shared = Unit {0}
 Keeps ByRow = ⊥
 
 lower-end : (f : Form) (i : Input) (low : List ℕ) (lv : ℕ) (ls lr li s : List ℕ) (g : Progress) → Keeps f → RunsIn f ls lr → LowerAt f i low lv (i .n) ls lr li s g
-    → PlacedSide f Lower (stored i) (i .n) ls lr li lv
+    → (lent : List ℕ) → low ≡ blank 0 lent → PlacedSide f Lower (stored i) (i .n) ls lr li lv
 lower-end Plain i low lv ls lr li s g x r h = side-end Plain Lower (stored i) (i .n) low lv ls lr li (g .lower) (rw r (h .0)) (rw r (h .1)) r
 lower-end Shared i low lv ls lr li s g x r h = side-end Shared Lower (stored i) (i .n) low lv ls lr li (g .lower) (h .0 .held) (h .0 .stores) r
 lower-end ByRow i low lv ls lr li s g x r h = absurd x
@@ -121,22 +122,27 @@ module _ (f : Form) (i : Input) (low : List ℕ) (lv : ℕ) (up : List ℕ) (uv 
   pub both-stop : (q : Refusal) → asked ≡ Stop q → (ls lr li us ur ui : List ℕ) → AnalyzedBoth f i (slotsOf a lv b uv) ls lr li lv us ur ui uv (answers.Refused q)
   both-stop q e ls lr li us ur ui = record { found = found-stop q e us ur ui; lower = λ p. absurd (stop-pass q (sym (stops q e) ∙ p)) }
 
--- after the last place
-form-end : (f : Form) (i : Input) (low : List ℕ) (lv : ℕ) (up : List ℕ) (uv a b : ℕ) (ls lr li us ur ui s : List ℕ) (g : Progress) → length low ≡ a → length up ≡ b
-    → At f i low lv up uv (i .n) ls lr li us ur ui s g → RunsIn f us ur → Analyzed f i (slotsOf a lv b uv) us ur ui uv (answers.Done (countsAt g))
-form-end f i low lv up uv a b ls lr li us ur ui s g ea eb h r =
-    rw (← ea, ← eb) (record {
+-- after the last place; the index stores were lent and cleared
+blank-long : (l lent : List ℕ) → l ≡ blank 0 lent → length l ≡ length lent
+blank-long l lent e = ap length e ∙ blank-length 0 lent
+
+at-last : (f : Form) (i : Input) (low : List ℕ) (lv : ℕ) (up : List ℕ) (uv k : ℕ) (ls lr li us ur ui s : List ℕ) (g : Progress)
+    → At f i low lv up uv k ls lr li us ur ui s g → i .n ≤ k → At f i low lv up uv (i .n) ls lr li us ur ui s g
+at-last f i low lv up uv k ls lr li us ur ui s g at most = let e : k ≡ i .n = omega (arith, at .most) in rw e at at
+
+pub found-end : (f : Form) (i : Input) (low : List ℕ) (lv : ℕ) (up : List ℕ) (uv a : ℕ) (above : List ℕ) (k : ℕ) (ls lr li us ur ui s : List ℕ) (g : Progress) (c : Counts) → length low ≡ a → up ≡ blank 0 above
+    → At f i low lv up uv k ls lr li us ur ui s g → i .n ≤ k → c ≡ countsAt g → RunsIn f us ur → Analyzed f i (slotsOf a lv (length above) uv) us ur ui uv (answers.Done c)
+found-end f i low lv up uv a above k ls lr li us ur ui s g c ea eb at most q r =
+    let h = at-last f i low lv up uv k ls lr li us ur ui s g at most in
+    rw (q, ← ea, ← blank-long up above eb) (record {
       answer = rw (h .passed, counts-of i g (lower-count f i low lv ls lr li s g (h .lower)) (h .upper .held .entries-are) (h .products-are));
-      upper = λ x. side-end f Upper (stored i) (i .n) up uv us ur ui (g .upper) (h .upper .held) (h .upper .stores) r;
+      upper = λ x. side-end f Upper (stored i) (i .n) up uv us ur ui (g .upper) (h .upper .held) (h .upper .stores) r above eb;
     })
 
-module _ (f : Form) (i : Input) (low : List ℕ) (lv : ℕ) (up : List ℕ) (uv a b k : ℕ) (ls lr li us ur ui s : List ℕ) (g : Progress) (c : Counts) (ea : length low ≡ a) (eb : length up ≡ b)
-    (at : At f i low lv up uv k ls lr li us ur ui s g) (most : i .n ≤ k) (q : c ≡ countsAt g) (r : RunsIn f us ur) where
-  last : At f i low lv up uv (i .n) ls lr li us ur ui s g
-  last = let e : k ≡ i .n = omega (arith, at .most) in rw e at at
-
-  pub found-end : Analyzed f i (slotsOf a lv b uv) us ur ui uv (answers.Done c)
-  found-end = rw q (form-end f i low lv up uv a b ls lr li us ur ui s g ea eb last r)
-
-  pub both-end : RunsIn f ls lr → Keeps f → AnalyzedBoth f i (slotsOf a lv b uv) ls lr li lv us ur ui uv (answers.Done c)
-  both-end e x = record { found = found-end; lower = λ p. lower-end f i low lv ls lr li s g x e (last .lower) }
+pub both-end : (f : Form) (i : Input) (low : List ℕ) (lv : ℕ) (up : List ℕ) (uv : ℕ) (below above : List ℕ) (k : ℕ) (ls lr li us ur ui s : List ℕ) (g : Progress) (c : Counts) → low ≡ blank 0 below → up ≡ blank 0 above
+    → At f i low lv up uv k ls lr li us ur ui s g → i .n ≤ k → c ≡ countsAt g → RunsIn f us ur → RunsIn f ls lr → Keeps f
+    → AnalyzedBoth f i (slotsOf (length below) lv (length above) uv) ls lr li lv us ur ui uv (answers.Done c)
+both-end f i low lv up uv below above k ls lr li us ur ui s g c ea eb at most q r e x = record {
+  found = found-end f i low lv up uv (length below) above k ls lr li us ur ui s g c (blank-long low below ea) eb at most q r;
+  lower = λ p. lower-end f i low lv ls lr li s g x e (at-last f i low lv up uv k ls lr li us ur ui s g at most .lower) below ea;
+}

@@ -36,7 +36,7 @@ use Rattle.symbolic.proofs.Asking.{fits-upper, fits-shared, stop-null, 
 use Rattle.base.specs.Scratch.{upperCuts, lowerCuts}
 use Rattle.base.specs.Limits.{maxRows}
 
-stored-before : {P : Pattern} {n k : ℕ} {index runs starts : List ℕ} → Stored P n (k + 1) starts runs index → Stored P n k starts runs index
+stored-before : {P : Pattern} {n k : ℕ} {starts runs index : List ℕ} → Stored P n (k + 1) starts runs index → Stored P n k starts runs index
 stored-before h = record { list = λ i b. h .list i (omega arith); read = λ i b. h .read i (omega arith) }
 
 -- ---- the upper side: s₁ is scratch once the lower side is done, t the upper side's stamp
@@ -69,7 +69,7 @@ module _ (f : Form) (sharing : placingOf f ≡ Sharing) (i : Input) (low : List 
       begun-next : Begun i s₂
       begun-next = begun-apart (next .apart) begun
 
-      pub upper-adding : Adding P n k ui′ ur′ us′ s₂ (p .below) (g .products)
+      pub upper-adding : Adding P n k us′ ur′ ui′ s₂ (p .below) (g .products)
       upper-adding = record {
         below = place;
         few = begun .few;

@@ -25,7 +25,7 @@ use Rattle.base.specs.Scratch.{listFrom}
 
 module _ {way : Way} {side : Side} {i : Input} {k : ℕ} {store : List ℕ} {values : ℕ} {starts runs index s : List ℕ} {e : Extent} (begun : Begun i s) (place : k < i .n)
     (at : ListsAt way (patternOf side i) (i .n) k (cutsOf side (i .n)) store values starts runs index s e) where
-  pub lists-open : {t window : ℕ} → Fresh (i .n) t s → SideReady side (i .n) k window (rowsIn i s) s → Open side i k t window index runs starts s
+  pub lists-open : {t window : ℕ} → Fresh (i .n) t s → SideReady side (i .n) k window (rowsIn i s) s → Open side i k t window starts runs index s
   lists-open f r = record {
     begun = begun;
     below = place;
@@ -74,7 +74,7 @@ module _ (side : Side) (i : Input) (k t : ℕ) (s₀ s₁ s₂ : List ℕ) (o : 
 -- ---- by what the code finds
 
 module _ {side : Side} {i : Input} {store : List ℕ} {values k t window : ℕ} {starts runs index s : List ℕ} {e : Extent} (h : SideAt side i store values k t window starts runs index s e) where
-  pub side-open : Open side i k t window index runs starts s
+  pub side-open : Open side i k t window starts runs index s
   side-open = lists-open (h .begun) (h .below) (h .at) (h .fresh) (h .ready)
 
   module _ {s₁ : List ℕ} {o : OpenRow} (found : RowFound side i k t s s₁ o) (cuts : ℕ) (c : cuts ≡ cutsOf side (i .n)) where

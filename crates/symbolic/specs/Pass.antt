@@ -3,7 +3,7 @@ use mathlib.Core.Path.{_≡_}
 use mathlib.Core.List.{List, []}
 use Prim.Native.Nat.{ℕ, _+_, _*_, _<_, _≤_}
 use lib.ListN.{length}
-use Rattle.base.specs.Lists.{blank, sum}
+use Rattle.base.specs.Lists.{sum}
 use Rattle.base.specs.declared.Form.{Form}
 use Rattle.base.specs.declared.Form.the-variants.{Plain, Shared, ByRow}
 use Rattle.base.specs.declared.Side.{Side}
@@ -80,13 +80,13 @@ stampAt ByRow k = k + 1
 -- the lower side: rows one after another, columns with their cuts and the columns of M' still to come, or the count of its entries
 abbrev pub LowerAt : Form → Input → List ℕ → ℕ → ℕ → List ℕ → List ℕ → List ℕ → List ℕ → Progress → Type 0
 LowerAt Plain i store values k starts runs index s g =
-    Holding OneAfterAnother (lowerRow (stored i)) (lowerRow (flip (stored i))) values k (blank 0 store) starts starts index (g .lower)
+    Holding OneAfterAnother (lowerRow (stored i)) (lowerRow (flip (stored i))) values k store starts starts index (g .lower)
     × Stores OneAfterAnother (i .n) store values starts starts
 LowerAt Shared i store values k starts runs index s g =
     ListsAt Sharing (flip (stored i)) (i .n) k (lowerCuts (i .n)) store values starts runs index s (g .lower) × Ready (i .n) k (g .window) (rowsIn i s) s
 LowerAt ByRow i store values k starts runs index s g = g .lower .entries ≡ sum k (λ j. length (lowerRow (stored i) j))
 
--- low and up are the index stores before the pass
+-- low and up are the index stores as they stood before the first place
 pub record At (f : Form) (i : Input) (low : List ℕ) (lv : ℕ) (up : List ℕ) (uv k : ℕ) (ls lr li us ur ui s : List ℕ) (g : Progress) : Type 0 where
   pub passed : askPlaces f (stored i) (i .n) (slotsOf (length low) lv (length up) uv) k ≡ Pass
   pub most : k ≤ i .n

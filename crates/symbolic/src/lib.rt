@@ -69,8 +69,8 @@ pub enum Turned {
     Stopped(Refusal),
 }
 
-// Where the cuts of a side's lists stand in scratch.
-fn cuts_of(side: Side, n: usize) -> usize
+// Tells where the cuts of a side's lists stand in scratch.
+pub fn cuts_of(side: Side, n: usize) -> usize
     requires { ⌜ n ≤ maxRows ⌝ }
     ensures { λ r. ⌜ r ≡ cutsOf side n ⌝ }
 {
@@ -81,7 +81,7 @@ fn cuts_of(side: Side, n: usize) -> usize
 }
 
 // Finds lower row k and T(k) of a side: row k of M' above the diagonal, column k below, closed over the lists before it.
-fn open_place(
+pub fn open_place(
     side: Side,
     n: usize,
     starts: &[u32],
@@ -94,8 +94,8 @@ fn open_place(
     k: Place,
     window: usize,
 ) -> Opened
-    requires { ⌜ Opening side n (k .0) stamp window (now starts) (now columns) (now r) (now index) (now runs) (now marks) ⌝ }
-    ensures { λ o. ⌜ ((c lists : List ℕ) → Open side (inputOf n (now (starts .entry)) (now (columns .entry)) [] (now (r .entry)) c []) (k .0) stamp window (now (index .entry)) (now (runs .entry)) lists (now (marks .entry)) → OpenEnds side (inputOf n (now (starts .entry)) (now (columns .entry)) [] (now (r .entry)) c []) (k .0) stamp (now (marks .entry)) (now (marks .exit)) o) ⌝ }
+    requires { ⌜ Opening side n (k .0) stamp window (now starts) (now columns) (now r) (now runs) (now index) (now marks) ⌝ }
+    ensures { λ o. ⌜ ((c lists : List ℕ) → Open side (inputOf n (now (starts .entry)) (now (columns .entry)) [] (now (r .entry)) c []) (k .0) stamp window lists (now (runs .entry)) (now (index .entry)) (now (marks .entry)) → OpenEnds side (inputOf n (now (starts .entry)) (now (columns .entry)) [] (now (r .entry)) c []) (k .0) stamp (now (marks .entry)) (now (marks .exit)) o) ⌝ }
 {
     let p = k.0 as usize;
     let end = columns::load(side, marks, n, stamp, p, window, starts, columns, r);
@@ -208,7 +208,7 @@ fn append_lower(
 // The products of place k, added to those before it: its lower row stands in scratch.
 fn add_products(n: usize, starts: &[u32], marks: &[u32], below: usize, before: u64) -> u64
     requires { ⌜ Addable n (now starts) (now marks) below before ⌝ }
-    ensures { λ r. ⌜ ((P : Pattern) (k : ℕ) (index runs : List ℕ) → Adding P n k index runs (now (starts .entry)) (now (marks .entry)) below before → r ≡ sum (k + 1) (rowSteps P n)) ⌝ }
+    ensures { λ r. ⌜ ((P : Pattern) (k : ℕ) (runs index : List ℕ) → Adding P n k (now (starts .entry)) runs index (now (marks .entry)) below before → r ≡ sum (k + 1) (rowSteps P n)) ⌝ }
 {
     let at = scratch::LIST * n;
     let end = at + below;
@@ -276,8 +276,8 @@ fn place_side(
 
 // ---- the ends of the pass
 
-// Scratch is zero but for the inverse column order.
-fn begin_marks(n: usize, c: &[Index], marks: &mut [u32])
+// Clears scratch but for the inverse column order, which it writes there.
+pub fn begin_marks(n: usize, c: &[Index], marks: &mut [u32])
     requires { ⌜ InverseLent n (now c) (length (now marks) - n) ⌝ }
     ensures { λ _. ⌜ now (marks .exit) ≡ invertedAt (now (c .entry)) n (blank 0 (now (marks .entry))) ⌝ }
 {
@@ -285,8 +285,8 @@ fn begin_marks(n: usize, c: &[Index], marks: &mut [u32])
     questions::invert_at(n, c, marks);
 }
 
-// The same, and the columns of M' can be handed out.
-fn begin_columns(
+// Does the same, and lets the columns of M' be handed out.
+pub fn begin_columns(
     n: usize,
     starts: &[u32],
     columns: &[Index],

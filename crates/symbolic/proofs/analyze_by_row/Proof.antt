@@ -76,7 +76,7 @@ loop-again c =
 returns-2 : tie.Need-returns-2 Inv-loop μ-loop
 returns-2 c =
     let l = c .before .before in
-    found-end ByRow _ _ _ _ _ _ _ _ _ _ _ _ _ _ _ _ _ refl (l .before .before .before .before .before .before .before .before .clear-index .kept .0) (l .loop .inv .0) (c .before .loop-test .left) (c .counts-at .ensures) tt
+    found-end ByRow _ _ _ _ _ _ _ _ _ _ _ _ _ _ _ _ _ refl (l .before .before .before .before .before .before .before .before .clear-index .ensures) (l .loop .inv .0) (c .before .loop-test .left) (c .counts-at .ensures) tt
 
 -- the place that ended the pass
 abbrev Last : tie.After-known-told2 Inv-loop μ-loop → tie.After-analyze-place-by-row Inv-loop μ-loop

@@ -61,14 +61,14 @@ next e c low up h = told (SideEnds Upper _ _ _ _ _ _ _ _ _ _) (e .side .given .1
 adding : (e : tie.After-side) (c low up : List ℕ) → Holds (Begin (Ended e)) c low up
     → let a = Begin (Ended e) .args in
     let r = Ended e .place-side in
-    Adding (stored (given (Begin (Ended e)) c)) (a .n) (a .k .0) (r .last .1 .1 .1 .1 .1 .1 .1 .0) (r .last .1 .1 .1 .1 .1 .1 .0) (r .last .1 .1 .1 .1 .1 .0) (r .last .1 .1 .1 .1 .1 .1 .1 .1 .1 .0) (e .side .given .0 .0 .below) (a .g .products)
+    Adding (stored (given (Begin (Ended e)) c)) (a .n) (a .k .0) (r .last .1 .1 .1 .1 .1 .0) (r .last .1 .1 .1 .1 .1 .1 .0) (r .last .1 .1 .1 .1 .1 .1 .1 .0) (r .last .1 .1 .1 .1 .1 .1 .1 .1 .1 .0) (e .side .given .0 .0 .below) (a .g .products)
 adding e c low up h = upper-adding ByRow refl _ _ _ _ _ _ _ _ _ _ _ _ _ _ h (Begin (Ended e) .pre .place) (fits-row _ _ _ _) _ _ (h .begun) _ _ _ _ _ (next e c low up h)
 
 add-products-requires : tie.Need-add-products-requires
 add-products-requires c κs =
     let e = c .before .before .before in
     let d = Begin (Ended e) .pre in
-    record { pattern = _; place = _; index = _; runs = _; adding = adding e (d .order) (d .low) (d .up) (d .at) }
+    record { pattern = _; place = _; runs = _; index = _; adding = adding e (d .order) (d .low) (d .up) (d .at) }
 
 add-t35 : tie.Need-add-t35
 add-t35 c =

@@ -101,7 +101,7 @@ above u c low up h = told (SideEnds Upper _ _ _ _ _ _ _ _ _ _) (u .up .given .1)
 adding : (u : tie.After-up) (c low up : List ℕ) → Holds (Start (Second u)) c low up
     → let a = Start (Second u) .args in
     let r = Second u .place-side2 in
-    Adding (stored (given (Start (Second u)) c)) (a .n) (a .k .0) (r .last .1 .1 .1 .1 .1 .1 .1 .0) (r .last .1 .1 .1 .1 .1 .1 .0) (r .last .1 .1 .1 .1 .1 .0) (r .last .1 .1 .1 .1 .1 .1 .1 .1 .1 .0) (u .up .given .0 .0 .below) (a .g .products)
+    Adding (stored (given (Start (Second u)) c)) (a .n) (a .k .0) (r .last .1 .1 .1 .1 .1 .0) (r .last .1 .1 .1 .1 .1 .1 .0) (r .last .1 .1 .1 .1 .1 .1 .1 .0) (r .last .1 .1 .1 .1 .1 .1 .1 .1 .1 .0) (u .up .given .0 .0 .below) (a .g .products)
 adding u c low up h =
     let w = Second u in
     let b = below (Low w) c low up h in
@@ -112,7 +112,7 @@ add-products-requires : tie.Need-add-products-requires
 add-products-requires c κs =
     let u = c .before .before .before in
     let d = Start (Second u) .pre in
-    record { pattern = _; place = _; index = _; runs = _; adding = adding u (d .order) (d .low) (d .up) (d .at) }
+    record { pattern = _; place = _; runs = _; index = _; adding = adding u (d .order) (d .low) (d .up) (d .at) }
 
 same-length-23 : tie.Need-same-length-23
 same-length-23 c = First (c .before .before .before .before .before .before .before .before .before .before .before .before .before .before .before .before .before .before .before .before .before .before) .place-side .kept .1 .1 .1 .1 .1 .0
