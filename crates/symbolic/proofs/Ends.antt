@@ -116,11 +116,15 @@ module _ (f : Form) (i : Input) (low : List ℕ) (lv : ℕ) (up : List ℕ) (uv 
   stops : (q : Refusal) → asked ≡ Stop q → askPlaces f (stored i) (i .n) (slotsOf a lv b uv) (i .n) ≡ Stop q
   stops q e = rw (← ea, ← eb) e
 
-  pub found-stop : (q : Refusal) → asked ≡ Stop q → (us ur ui : List ℕ) → Analyzed f i (slotsOf a lv b uv) us ur ui uv (answers.Refused q)
-  found-stop q e us ur ui = record { answer = rw (stops q e); upper = λ p. absurd (stop-pass q (sym (stops q e) ∙ p)) }
+  pub found-stop : (q : Refusal) → asked ≡ Stop q → (us ur ui s : List ℕ) → Analyzed f i (slotsOf a lv b uv) us ur ui uv s (answers.Refused q)
+  found-stop q e us ur ui s = record {
+    answer = rw (stops q e);
+    upper = λ p. absurd (stop-pass q (sym (stops q e) ∙ p));
+    inverse = λ p. absurd (stop-pass q (sym (stops q e) ∙ p));
+  }
 
-  pub both-stop : (q : Refusal) → asked ≡ Stop q → (ls lr li us ur ui : List ℕ) → AnalyzedBoth f i (slotsOf a lv b uv) ls lr li lv us ur ui uv (answers.Refused q)
-  both-stop q e ls lr li us ur ui = record { found = found-stop q e us ur ui; lower = λ p. absurd (stop-pass q (sym (stops q e) ∙ p)) }
+  pub both-stop : (q : Refusal) → asked ≡ Stop q → (ls lr li us ur ui s : List ℕ) → AnalyzedBoth f i (slotsOf a lv b uv) ls lr li lv us ur ui uv s (answers.Refused q)
+  both-stop q e ls lr li us ur ui s = record { found = found-stop q e us ur ui s; lower = λ p. absurd (stop-pass q (sym (stops q e) ∙ p)) }
 
 -- after the last place; the index stores were lent and cleared
 blank-long : (l lent : List ℕ) → l ≡ blank 0 lent → length l ≡ length lent
@@ -131,17 +135,18 @@ at-last : (f : Form) (i : Input) (low : List ℕ) (lv : ℕ) (up : List ℕ) (uv
 at-last f i low lv up uv k ls lr li us ur ui s g at most = let e : k ≡ i .n = omega (arith, at .most) in rw e at at
 
 pub found-end : (f : Form) (i : Input) (low : List ℕ) (lv : ℕ) (up : List ℕ) (uv a : ℕ) (above : List ℕ) (k : ℕ) (ls lr li us ur ui s : List ℕ) (g : Progress) (c : Counts) → length low ≡ a → up ≡ blank 0 above
-    → At f i low lv up uv k ls lr li us ur ui s g → i .n ≤ k → c ≡ countsAt g → RunsIn f us ur → Analyzed f i (slotsOf a lv (length above) uv) us ur ui uv (answers.Done c)
+    → At f i low lv up uv k ls lr li us ur ui s g → i .n ≤ k → c ≡ countsAt g → RunsIn f us ur → Analyzed f i (slotsOf a lv (length above) uv) us ur ui uv s (answers.Done c)
 found-end f i low lv up uv a above k ls lr li us ur ui s g c ea eb at most q r =
     let h = at-last f i low lv up uv k ls lr li us ur ui s g at most in
     rw (q, ← ea, ← blank-long up above eb) (record {
       answer = rw (h .passed, counts-of i g (lower-count f i low lv ls lr li s g (h .lower)) (h .upper .held .entries-are) (h .products-are));
       upper = λ x. side-end f Upper (stored i) (i .n) up uv us ur ui (g .upper) (h .upper .held) (h .upper .stores) r above eb;
+      inverse = λ x. h .begun .inverse;
     })
 
 pub both-end : (f : Form) (i : Input) (low : List ℕ) (lv : ℕ) (up : List ℕ) (uv : ℕ) (below above : List ℕ) (k : ℕ) (ls lr li us ur ui s : List ℕ) (g : Progress) (c : Counts) → low ≡ blank 0 below → up ≡ blank 0 above
     → At f i low lv up uv k ls lr li us ur ui s g → i .n ≤ k → c ≡ countsAt g → RunsIn f us ur → RunsIn f ls lr → Keeps f
-    → AnalyzedBoth f i (slotsOf (length below) lv (length above) uv) ls lr li lv us ur ui uv (answers.Done c)
+    → AnalyzedBoth f i (slotsOf (length below) lv (length above) uv) ls lr li lv us ur ui uv s (answers.Done c)
 both-end f i low lv up uv below above k ls lr li us ur ui s g c ea eb at most q r e x = record {
   found = found-end f i low lv up uv (length below) above k ls lr li us ur ui s g c (blank-long low below ea) eb at most q r;
   lower = λ p. lower-end f i low lv ls lr li s g x e (at-last f i low lv up uv k ls lr li us ur ui s g at most .lower) below ea;

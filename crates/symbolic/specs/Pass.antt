@@ -19,7 +19,7 @@ use Rattle.matrix.specs.Input.{Input, inputOf, stored}
 use Rattle.marks.specs.Marks.{Fresh}
 use Rattle.marks.specs.Rows.{rowSteps}
 use Rattle.columns.specs.Columns.{Ready}
-use Rattle.columns.specs.Sides.{rowsIn}
+use Rattle.columns.specs.Sides.{Inverse, rowsIn}
 use Rattle.questions.specs.Settled.{Structured}
 use Rattle.base.specs.declared.SideSizes.{SideSizes}
 use Rattle.base.specs.declared.Sizes.{Sizes}
@@ -53,14 +53,15 @@ foundAnswer (Stop q) c = answers.Refused q
 abbrev pub SidePlaced : Form → Side → Input → Sizes → List ℕ → List ℕ → List ℕ → ℕ → Type 0
 SidePlaced f side i z starts runs index values = askPlaces f (stored i) (i .n) z (i .n) ≡ Pass → PlacedSide f side (stored i) (i .n) starts runs index values
 
--- the answer of a form's pass, and its upper side
-pub record Analyzed (f : Form) (i : Input) (z : Sizes) (us ur ui : List ℕ) (uv : ℕ) (a : Answer) : Type 0 where
+-- the answer of a form's pass, its upper side, and the inverse column order that it leaves in scratch s
+pub record Analyzed (f : Form) (i : Input) (z : Sizes) (us ur ui : List ℕ) (uv : ℕ) (s : List ℕ) (a : Answer) : Type 0 where
   pub answer : a ≡ foundAnswer (askPlaces f (stored i) (i .n) z (i .n)) (counts i)
   pub upper : SidePlaced f Upper i z us ur ui uv
+  pub inverse : askPlaces f (stored i) (i .n) z (i .n) ≡ Pass → Inverse i s
 
 -- and its lower side, which the row form has not
-pub record AnalyzedBoth (f : Form) (i : Input) (z : Sizes) (ls lr li : List ℕ) (lv : ℕ) (us ur ui : List ℕ) (uv : ℕ) (a : Answer) : Type 0 where
-  pub found : Analyzed f i z us ur ui uv a
+pub record AnalyzedBoth (f : Form) (i : Input) (z : Sizes) (ls lr li : List ℕ) (lv : ℕ) (us ur ui : List ℕ) (uv : ℕ) (s : List ℕ) (a : Answer) : Type 0 where
+  pub found : Analyzed f i z us ur ui uv s a
   pub lower : SidePlaced f Lower i z ls lr li lv
 
 -- ---- before place k

@@ -418,7 +418,7 @@ pub fn analyze_plain(
     marks: &mut [u32],
 ) -> Answer
     requires { ⌜ PlainLent (inputOf n (now starts) (now columns) [] (now r) (now c) []) (now «lower_starts») (now «lower_index») «lower_values» (now «upper_starts») (now «upper_index») «upper_values» (length (now marks)) ⌝ }
-    ensures { λ a. ⌜ AnalyzedBoth Form.Plain (inputOf n (now (starts .entry)) (now (columns .entry)) [] (now (r .entry)) (now (c .entry)) []) (slotsOf (length (now («lower_index» .entry))) «lower_values» (length (now («upper_index» .entry))) «upper_values») (now («lower_starts» .exit)) (now («lower_starts» .exit)) (now («lower_index» .exit)) «lower_values» (now («upper_starts» .exit)) (now («upper_starts» .exit)) (now («upper_index» .exit)) «upper_values» a ⌝ }
+    ensures { λ a. ⌜ AnalyzedBoth Form.Plain (inputOf n (now (starts .entry)) (now (columns .entry)) [] (now (r .entry)) (now (c .entry)) []) (slotsOf (length (now («lower_index» .entry))) «lower_values» (length (now («upper_index» .entry))) «upper_values») (now («lower_starts» .exit)) (now («lower_starts» .exit)) (now («lower_index» .exit)) «lower_values» (now («upper_starts» .exit)) (now («upper_starts» .exit)) (now («upper_index» .exit)) «upper_values» (now (marks .exit)) a ⌝ }
 {
     base::clear_u32(lower_starts);
     base::clear_index(lower_index);
@@ -528,7 +528,7 @@ pub fn analyze_by_row(
     marks: &mut [u32],
 ) -> Answer
     requires { ⌜ RowLent (inputOf n (now starts) (now columns) [] (now r) (now c) []) (now «upper_starts») (now «upper_runs») (now «upper_index») «upper_values» (length (now marks)) ⌝ }
-    ensures { λ a. ⌜ Analyzed Form.ByRow (inputOf n (now (starts .entry)) (now (columns .entry)) [] (now (r .entry)) (now (c .entry)) []) (slotsOf 0 0 (length (now («upper_index» .entry))) «upper_values») (now («upper_starts» .exit)) (now («upper_runs» .exit)) (now («upper_index» .exit)) «upper_values» a ⌝ }
+    ensures { λ a. ⌜ Analyzed Form.ByRow (inputOf n (now (starts .entry)) (now (columns .entry)) [] (now (r .entry)) (now (c .entry)) []) (slotsOf 0 0 (length (now («upper_index» .entry))) «upper_values») (now («upper_starts» .exit)) (now («upper_runs» .exit)) (now («upper_index» .exit)) «upper_values» (now (marks .exit)) a ⌝ }
 {
     base::clear_u32(upper_starts);
     base::clear_index(upper_index);
@@ -660,7 +660,7 @@ pub fn analyze_shared(
     marks: &mut [u32],
 ) -> Answer
     requires { ⌜ SharedLent (inputOf n (now starts) (now columns) [] (now r) (now c) []) (now «lower_starts») (now «lower_runs») (now «lower_index») «lower_values» (now «upper_starts») (now «upper_runs») (now «upper_index») «upper_values» (length (now marks)) ⌝ }
-    ensures { λ a. ⌜ AnalyzedBoth Form.Shared (inputOf n (now (starts .entry)) (now (columns .entry)) [] (now (r .entry)) (now (c .entry)) []) (slotsOf (length (now («lower_index» .entry))) «lower_values» (length (now («upper_index» .entry))) «upper_values») (now («lower_starts» .exit)) (now («lower_runs» .exit)) (now («lower_index» .exit)) «lower_values» (now («upper_starts» .exit)) (now («upper_runs» .exit)) (now («upper_index» .exit)) «upper_values» a ⌝ }
+    ensures { λ a. ⌜ AnalyzedBoth Form.Shared (inputOf n (now (starts .entry)) (now (columns .entry)) [] (now (r .entry)) (now (c .entry)) []) (slotsOf (length (now («lower_index» .entry))) «lower_values» (length (now («upper_index» .entry))) «upper_values») (now («lower_starts» .exit)) (now («lower_runs» .exit)) (now («lower_index» .exit)) «lower_values» (now («upper_starts» .exit)) (now («upper_runs» .exit)) (now («upper_index» .exit)) «upper_values» (now (marks .exit)) a ⌝ }
 {
     base::clear_u32(lower_starts);
     base::clear_index(lower_index);
