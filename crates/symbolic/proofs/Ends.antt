@@ -25,11 +25,11 @@ use Rattle.marks.specs.Rows.{rowSteps}
 use Rattle.marks.specs.ListLaws.{products-rows}
 use Rattle.outcome.specs.Forms.{wayOf, listsOf, rowsOf, placedTo, indexNeed, valueNeed}
 use Rattle.outcome.specs.Structure.{askPlaces, counts}
-use Rattle.outcome.specs.Placed.{RunsAre, PlacedSide}
+use Rattle.outcome.specs.Placed.{RunsAre, PlacedSide, WrittenSide}
 use Rattle.outcome.proofs.Asking.{stop-pass}
 use Rattle.storing.specs.Ways as ways
 use Rattle.storing.specs.Held.{Holding}
-use Rattle.storing.specs.HeldLaws.{index-long, starts-whole, runs-whole, padded-held}
+use Rattle.storing.specs.HeldLaws.{slots-same, index-long, starts-whole, runs-whole, padded-held}
 use Rattle.storing.specs.declared.Extent.{Extent}
 use Rattle.symbolic.specs.Places.{runCount, Stores}
 use Rattle.symbolic.specs.Pass.{slotsOf, Analyzed, AnalyzedBoth, placingOf, countsAt, LowerAt, At}
@@ -60,19 +60,26 @@ module _ (f : Form) (side : Side) (P : Pattern) (n : ℕ) (store : List ℕ) (va
       go Shared h l r = runs-whole h l
       go ByRow h l r = runs-whole h l
 
-  -- the store was cleared before the first place
-  side-end : (lent : List ℕ) → store ≡ blank 0 lent → PlacedSide f side P n starts runs index values
-  unfolding placedTo indexNeed valueNeed
-  side-end lent b =
-      let st : placed (ways.wayOf (placingOf f)) (listsOf f side P n) (rowsOf side P) n ≡ placed (wayOf f) (listsOf f side P n) (rowsOf side P) n = rw (way-is f) in
-      let long : length index ≡ length lent = index-long h ∙ ap length b ∙ blank-length 0 lent in
+  state-is : placed (ways.wayOf (placingOf f)) (listsOf f side P n) (rowsOf side P) n ≡ placedTo f side P n n
+  unfolding placedTo
+  state-is = rw (way-is f)
+
+  pub side-end : PlacedSide f side P n starts runs index values
+  unfolding indexNeed valueNeed
+  side-end =
       record {
         starts-are = starts-whole h (z .starts-size) ∙ table-ext (startOf (listsOf f side P n)) (valueNeed f side P n) (n + 1) (λ j b. refl);
         runs-are = runs-end;
-        index-is = rw long (padded-held lent (rw b at h) ∙ ap (λ x. padded 0 (length lent) (x .slots)) st);
-        index-in = omega (arith, ap (λ x. length (x .slots)) st, h .used-is, h .used-in, index-long h);
+        slots-are = rw (← state-is, ← h .used-is) (slots-same h);
+        index-in = omega (arith, ap (λ x. length (x .slots)) state-is, h .used-is, h .used-in, index-long h);
         values-in = omega (arith, h .entries-are, h .entries-in);
       }
+
+  -- the store was cleared before the first place
+  side-written : (lent : List ℕ) → store ≡ blank 0 lent → WrittenSide f side P n starts runs index values
+  side-written lent b =
+      let long : length index ≡ length lent = index-long h ∙ ap length b ∙ blank-length 0 lent in
+      record { placed = side-end; index-is = rw long (padded-held lent (rw b at h) ∙ ap (λ x. padded 0 (length lent) (x .slots)) state-is) }
 
 -- the forms that keep lower lists
 abbrev Keeps : Form → Type 0
@@ -81,9 +88,9 @@ Keeps Shared = Unit {0}
 Keeps ByRow = ⊥
 
 lower-end : (f : Form) (i : Input) (low : List ℕ) (lv : ℕ) (ls lr li s : List ℕ) (g : Progress) → Keeps f → RunsIn f ls lr → LowerAt f i low lv (i .n) ls lr li s g
-    → (lent : List ℕ) → low ≡ blank 0 lent → PlacedSide f Lower (stored i) (i .n) ls lr li lv
-lower-end Plain i low lv ls lr li s g x r h = side-end Plain Lower (stored i) (i .n) low lv ls lr li (g .lower) (rw r (h .0)) (rw r (h .1)) r
-lower-end Shared i low lv ls lr li s g x r h = side-end Shared Lower (stored i) (i .n) low lv ls lr li (g .lower) (h .0 .held) (h .0 .stores) r
+    → (lent : List ℕ) → low ≡ blank 0 lent → WrittenSide f Lower (stored i) (i .n) ls lr li lv
+lower-end Plain i low lv ls lr li s g x r h = side-written Plain Lower (stored i) (i .n) low lv ls lr li (g .lower) (rw r (h .0)) (rw r (h .1)) r
+lower-end Shared i low lv ls lr li s g x r h = side-written Shared Lower (stored i) (i .n) low lv ls lr li (g .lower) (h .0 .held) (h .0 .stores) r
 lower-end ByRow i low lv ls lr li s g x r h = absurd x
 
 -- ---- the counts
@@ -136,7 +143,7 @@ found-end f i low lv up uv a above k ls lr li us ur ui s g c ea eb at most q r =
     let h = at-last f i low lv up uv k ls lr li us ur ui s g at most in
     rw (q, ← ea, ← blank-long up above eb) (record {
       answer = rw (h .passed, counts-of i g (lower-count f i low lv ls lr li s g (h .lower)) (h .upper .held .entries-are) (h .products-are));
-      upper = λ x. side-end f Upper (stored i) (i .n) up uv us ur ui (g .upper) (h .upper .held) (h .upper .stores) r above eb;
+      upper = λ x. side-written f Upper (stored i) (i .n) up uv us ur ui (g .upper) (h .upper .held) (h .upper .stores) r above eb;
     })
 
 pub both-end : (f : Form) (i : Input) (low : List ℕ) (lv : ℕ) (up : List ℕ) (uv : ℕ) (below above : List ℕ) (k : ℕ) (ls lr li us ur ui s : List ℕ) (g : Progress) (c : Counts) → low ≡ blank 0 below → up ≡ blank 0 above

@@ -24,7 +24,7 @@ use Rattle.questions.specs.Settled.{Structured}
 use Rattle.base.specs.declared.SideSizes.{SideSizes}
 use Rattle.base.specs.declared.Sizes.{Sizes}
 use Rattle.outcome.specs.Structure.{askPlaces, counts}
-use Rattle.outcome.specs.Placed.{PlacedSide}
+use Rattle.outcome.specs.Placed.{WrittenSide}
 use Rattle.storing.specs.Held.{Holding}
 use Rattle.storing.specs.declared.Extent.{Extent}
 use Rattle.storing.specs.declared.Way.{Way}
@@ -49,9 +49,9 @@ abbrev pub foundAnswer : Asked → Counts → Answer
 foundAnswer Pass c = answers.Done c
 foundAnswer (Stop q) c = answers.Refused q
 
--- where 9 to 11 are passed at every place, a side's lists stand in its stores
+-- where 9 to 11 are passed at every place, a side's lists stand in its stores, and zeros after them
 abbrev pub SidePlaced : Form → Side → Input → Sizes → List ℕ → List ℕ → List ℕ → ℕ → Type 0
-SidePlaced f side i z starts runs index values = askPlaces f (stored i) (i .n) z (i .n) ≡ Pass → PlacedSide f side (stored i) (i .n) starts runs index values
+SidePlaced f side i z starts runs index values = askPlaces f (stored i) (i .n) z (i .n) ≡ Pass → WrittenSide f side (stored i) (i .n) starts runs index values
 
 -- the answer of a form's pass, and its upper side
 pub record Analyzed (f : Form) (i : Input) (z : Sizes) (us ur ui : List ℕ) (uv : ℕ) (a : Answer) : Type 0 where
