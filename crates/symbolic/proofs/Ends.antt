@@ -38,7 +38,7 @@ use Rattle.symbolic.specs.declared.Progress.{Progress}
 -- ---- a side after the last place
 
 -- the plain form's run starts are its list starts
-abbrev RunsIn : Form → List ℕ → List ℕ → Type 0
+abbrev pub RunsIn : Form → List ℕ → List ℕ → Type 0
 RunsIn Plain starts runs = runs ≡ starts
 RunsIn Shared starts runs = Unit {0}
 RunsIn ByRow starts runs = Unit {0}
@@ -87,11 +87,11 @@ Keeps Plain = Unit {0}
 Keeps Shared = Unit {0}
 Keeps ByRow = ⊥
 
-lower-end : (f : Form) (i : Input) (low : List ℕ) (lv : ℕ) (ls lr li s : List ℕ) (g : Progress) → Keeps f → RunsIn f ls lr → LowerAt f i low lv (i .n) ls lr li s g
+lower-end : (f : Form) (i : Input) (low : List ℕ) (lv : ℕ) (ls lr li s : List ℕ) (e : Extent) (window : ℕ) → Keeps f → RunsIn f ls lr → LowerAt f i low lv (i .n) ls lr li s e window
     → (lent : List ℕ) → low ≡ blank 0 lent → WrittenSide f Lower (stored i) (i .n) ls lr li lv
-lower-end Plain i low lv ls lr li s g x r h = side-written Plain Lower (stored i) (i .n) low lv ls lr li (g .lower) (rw r (h .0)) (rw r (h .1)) r
-lower-end Shared i low lv ls lr li s g x r h = side-written Shared Lower (stored i) (i .n) low lv ls lr li (g .lower) (h .0 .held) (h .0 .stores) r
-lower-end ByRow i low lv ls lr li s g x r h = absurd x
+lower-end Plain i low lv ls lr li s e window x r h = side-written Plain Lower (stored i) (i .n) low lv ls lr li e (rw r (h .0)) (rw r (h .1)) r
+lower-end Shared i low lv ls lr li s e window x r h = side-written Shared Lower (stored i) (i .n) low lv ls lr li e (h .0 .held) (h .0 .stores) r
+lower-end ByRow i low lv ls lr li s e window x r h = absurd x
 
 -- ---- the counts
 
@@ -106,13 +106,13 @@ unfolding counts
 counts-of i g a b c = rw (a, b, c, start-sum (upperRow (stored i) (i .n)) (i .n), products-rows (stored i) (i .n))
 
 -- those of the sides
-lower-count : (f : Form) (i : Input) (low : List ℕ) (lv : ℕ) (ls lr li s : List ℕ) (g : Progress) → LowerAt f i low lv (i .n) ls lr li s g
-    → g .lower .entries ≡ sum (i .n) (λ j. length (lowerRow (stored i) j))
-lower-count Plain i low lv ls lr li s g h = h .0 .entries-are ∙ start-sum (lowerRow (stored i)) (i .n)
-lower-count Shared i low lv ls lr li s g h =
+lower-count : (f : Form) (i : Input) (low : List ℕ) (lv : ℕ) (ls lr li s : List ℕ) (e : Extent) (window : ℕ) → LowerAt f i low lv (i .n) ls lr li s e window
+    → e .entries ≡ sum (i .n) (λ j. length (lowerRow (stored i) j))
+lower-count Plain i low lv ls lr li s e window h = h .0 .entries-are ∙ start-sum (lowerRow (stored i)) (i .n)
+lower-count Shared i low lv ls lr li s e window h =
     h .0 .held .entries-are ∙ start-sum (upperRow (flip (stored i)) (i .n)) (i .n)
     ∙ sum-ext (i .n) _ _ (λ k l. ap length (sym (lower-is-upper (stored i) (i .n) k))) ∙ sym (lower-rows-columns (stored i) (i .n))
-lower-count ByRow i low lv ls lr li s g h = h
+lower-count ByRow i low lv ls lr li s e window h = h
 
 -- ---- the answer: low and up are the cleared index stores, as long as those that were lent
 
@@ -142,7 +142,7 @@ pub found-end : (f : Form) (i : Input) (low : List ℕ) (lv : ℕ) (up : List �
 found-end f i low lv up uv a above k ls lr li us ur ui s g c ea eb at most q r =
     let h = at-last f i low lv up uv k ls lr li us ur ui s g at most in
     rw (q, ← ea, ← blank-long up above eb) (record {
-      answer = rw (h .passed, counts-of i g (lower-count f i low lv ls lr li s g (h .lower)) (h .upper .held .entries-are) (h .products-are));
+      answer = rw (h .passed, counts-of i g (lower-count f i low lv ls lr li s (g .lower) (g .window) (h .lower)) (h .upper .held .entries-are) (h .products-are));
       upper = λ x. side-written f Upper (stored i) (i .n) up uv us ur ui (g .upper) (h .upper .held) (h .upper .stores) r above eb;
     })
 
@@ -151,5 +151,5 @@ pub both-end : (f : Form) (i : Input) (low : List ℕ) (lv : ℕ) (up : List ℕ
     → AnalyzedBoth f i (slotsOf (length below) lv (length above) uv) ls lr li lv us ur ui uv (answers.Done c)
 both-end f i low lv up uv below above k ls lr li us ur ui s g c ea eb at most q r e x = record {
   found = found-end f i low lv up uv (length below) above k ls lr li us ur ui s g c (blank-long low below ea) eb at most q r;
-  lower = λ p. lower-end f i low lv ls lr li s g x e (at-last f i low lv up uv k ls lr li us ur ui s g at most .lower) below ea;
+  lower = λ p. lower-end f i low lv ls lr li s (g .lower) (g .window) x e (at-last f i low lv up uv k ls lr li us ur ui s g at most .lower) below ea;
 }

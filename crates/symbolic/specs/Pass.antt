@@ -78,13 +78,13 @@ stampAt Shared k = k + k + 1
 stampAt ByRow k = k + 1
 
 -- the lower side: rows one after another, columns with their cuts and the columns of M' still to come, or the count of its entries
-abbrev pub LowerAt : Form → Input → List ℕ → ℕ → ℕ → List ℕ → List ℕ → List ℕ → List ℕ → Progress → Type 0
-LowerAt Plain i store values k starts runs index s g =
-    Holding OneAfterAnother (lowerRow (stored i)) (lowerRow (flip (stored i))) values k store starts starts index (g .lower)
+abbrev pub LowerAt : Form → Input → List ℕ → ℕ → ℕ → List ℕ → List ℕ → List ℕ → List ℕ → Extent → ℕ → Type 0
+LowerAt Plain i store values k starts runs index s e window =
+    Holding OneAfterAnother (lowerRow (stored i)) (lowerRow (flip (stored i))) values k store starts starts index e
     × Stores OneAfterAnother (i .n) store values starts starts
-LowerAt Shared i store values k starts runs index s g =
-    ListsAt Sharing (flip (stored i)) (i .n) k (lowerCuts (i .n)) store values starts runs index s (g .lower) × Ready (i .n) k (g .window) (rowsIn i s) s
-LowerAt ByRow i store values k starts runs index s g = g .lower .entries ≡ sum k (λ j. length (lowerRow (stored i) j))
+LowerAt Shared i store values k starts runs index s e window =
+    ListsAt Sharing (flip (stored i)) (i .n) k (lowerCuts (i .n)) store values starts runs index s e × Ready (i .n) k window (rowsIn i s) s
+LowerAt ByRow i store values k starts runs index s e window = e .entries ≡ sum k (λ j. length (lowerRow (stored i) j))
 
 -- low and up are the index stores as they stood before the first place
 pub record At (f : Form) (i : Input) (low : List ℕ) (lv : ℕ) (up : List ℕ) (uv k : ℕ) (ls lr li us ur ui s : List ℕ) (g : Progress) : Type 0 where
@@ -92,7 +92,7 @@ pub record At (f : Form) (i : Input) (low : List ℕ) (lv : ℕ) (up : List ℕ)
   pub most : k ≤ i .n
   pub begun : Begun i s
   pub fresh : Fresh (i .n) (stampAt f k) s
-  pub lower : LowerAt f i low lv k ls lr li s g
+  pub lower : LowerAt f i low lv k ls lr li s (g .lower) (g .window)
   pub upper : ListsAt (placingOf f) (stored i) (i .n) k (upperCuts (i .n)) up uv us ur ui s (g .upper)
   pub products-are : g .products ≡ sum k (rowSteps (stored i) (i .n))
 
