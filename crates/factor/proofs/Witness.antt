@@ -44,10 +44,10 @@ sides : PlacedSide Plain Upper (stored example) 2 (0 ∷ 1 ∷ 1 ∷ []) (0 ∷ 
     × Starts Shared (stored example) 2 (0 ∷ 1 ∷ 1 ∷ []) 1
 unfolding table valueNeed startOf indexNeed placedTo placed after shared plain appendAll tailOr bestFrom tails countAbove overlap fresh meets firstAt agree padded upperRow lowerRow asc upper filled reach stored ic first isOf has listAt
 sides = (
-  record { starts-are = refl; runs-are = refl; index-is = refl; index-in = omega arith; values-in = omega arith },
-  record { starts-are = refl; runs-are = refl; index-is = refl; index-in = omega arith; values-in = omega arith },
-  record { starts-are = refl; runs-are = refl; index-is = refl; index-in = omega arith; values-in = omega arith },
-  record { starts-are = refl; runs-are = refl; index-is = refl; index-in = omega arith; values-in = omega arith },
+  record { starts-are = refl; runs-are = refl; slots-are = refl; index-in = omega arith; values-in = omega arith },
+  record { starts-are = refl; runs-are = refl; slots-are = refl; index-in = omega arith; values-in = omega arith },
+  record { starts-are = refl; runs-are = refl; slots-are = refl; index-in = omega arith; values-in = omega arith },
+  record { starts-are = refl; runs-are = refl; slots-are = refl; index-in = omega arith; values-in = omega arith },
   record { starts-are = refl; values-in = omega arith },
 )
 

@@ -13,7 +13,7 @@ use Rattle.fill.specs.Fill.{Pattern}
 use Rattle.matrix.specs.Input.{Input, stored, ownOrder}
 use Rattle.outcome.specs.Buffers.{SideBuffers, Buffers, allBuffers, sideBuffers, noSide, sideSizes, sizes, sideCleared, cleared, scratchCleared, ended}
 use Rattle.outcome.specs.Forms.{placedTo}
-use Rattle.outcome.specs.Placed.{RunsAre, PlacedSide}
+use Rattle.outcome.specs.Placed.{RunsAre, PlacedSide, WrittenSide}
 use Rattle.outcome.specs.Structure.{askPlaces, counts, runsKept, sidePlaced, structured, structure}
 use Rattle.outcome.specs.Solve.{listed, faultOf, valuesKept, kept, concluded, solve}
 use Rattle.arithmetic.specs.Arith.{Out, ok, met, Result}
@@ -82,12 +82,12 @@ abbrev pub Stands : Form → Side → Pattern → ℕ → SideBuffers → SideBu
 Stands f side P n s t = (values : List Float) → t .values ≡ padded nought (length (s .values)) values → t ≡ sidePlaced f side P n (sideSizes s) values
 
 -- runs are those that the lists are read by
-pub stands : (f : Form) (side : Side) (P : Pattern) (n : ℕ) (s t : SideBuffers) (runs : List ℕ) (room : ℕ) → PlacedSide f side P n (t .starts) runs (t .index) room
+pub stands : (f : Form) (side : Side) (P : Pattern) (n : ℕ) (s t : SideBuffers) (runs : List ℕ) (room : ℕ) → WrittenSide f side P n (t .starts) runs (t .index) room
     → length (t .index) ≡ length (s .index) → t .runs ≡ runsKept f (length (s .runs)) (placedTo f side P n n) → Stands f side P n s t
 unfolding sidePlaced
 stands f side P n s t runs room h e r values v =
     let i : t .index ≡ padded 0 (length (s .index)) (placedTo f side P n n .slots) = h .index-is ∙ ap (λ (m : ℕ). padded 0 m (placedTo f side P n n .slots)) e in
-    rw (h .starts-are, i, r, v)
+    rw (h .placed .starts-are, i, r, v)
 
 -- ---- 12 and 13
 
@@ -174,7 +174,7 @@ module _ (f : Form) (i : Input) (s t : Buffers) (us ur ui : List ℕ) (uv : ℕ)
 
 -- where the lists of both sides are placed, and the inverse order stands; `lr` and `ur` are the runs that the lists are read by
 both-placed : (f : Form) (i : Input) (z : Sizes) (ls lr li us ur ui m : List ℕ) (lv uv : ℕ) (a : Answer) (k : Counts) → AnalyzedBoth f (pattern i) z ls lr li lv us ur ui uv m a → a ≡ Done k
-    → (k ≡ counts i) × PlacedSide f Lower (stored i) (i .n) ls lr li lv × PlacedSide f Upper (stored i) (i .n) us ur ui uv × Inverse i m
+    → (k ≡ counts i) × WrittenSide f Lower (stored i) (i .n) ls lr li lv × WrittenSide f Upper (stored i) (i .n) us ur ui uv × Inverse i m
 both-placed f i z ls lr li us ur ui m lv uv a k found done =
     let g = both-pattern f i z ls lr li us ur ui m lv uv a found in
     let p = found-done _ (counts i) k a (g .found .answer) done in
@@ -186,7 +186,7 @@ pub both-due : (f : Form) (i : Input) (z y : Sizes) (ls lr li us ur ui m : List 
     → (PlacedSide f Lower (stored i) (i .n) ls lr li (length lv) → LowerPlaced f (stored i) (i .n) (lists ls li us ur ui) lv) → FactorDue f i (lists ls li us ur ui) (written lv uv d w m) x k
 both-due f i z y ls lr li us ur ui m lv uv d w x a k found done h em ed ew ex g =
     let p = both-placed f i z ls lr li us ur ui m (length lv) (length uv) a k found done in
-    factor-due f i y (lists ls li us ur ui) (written lv uv d w m) x k h em ed ew ex (g (p .1)) (p .2) (p .3) (p .0)
+    factor-due f i y (lists ls li us ur ui) (written lv uv d w m) x k h em ed ew ex (g (p .1 .placed)) (p .2 .placed) (p .3) (p .0)
 
 both-kept : (f : Form) (i : Input) (z : Sizes) (s t : Buffers) (lr ur m : List ℕ) (lv uv : ℕ) (a : Answer) (k : Counts)
     → AnalyzedBoth f (pattern i) z (t .lower .starts) lr (t .lower .index) lv (t .upper .starts) ur (t .upper .index) uv m a → a ≡ Done k
@@ -196,8 +196,8 @@ both-kept : (f : Form) (i : Input) (z : Sizes) (s t : Buffers) (lr ur m : List �
 both-kept f i z s t lr ur m lv uv a k found done kl ku kw km rl ru =
     let p = both-placed f i z (t .lower .starts) lr (t .lower .index) (t .upper .starts) ur (t .upper .index) m lv uv a k found done in
     record {
-      lower = stands f Lower (stored i) (i .n) (s .lower) (t .lower) lr lv (p .1) (kl .index) (rl (p .1 .runs-are));
-      upper = stands f Upper (stored i) (i .n) (s .upper) (t .upper) ur uv (p .2) (ku .index) (ru (p .2 .runs-are));
+      lower = stands f Lower (stored i) (i .n) (s .lower) (t .lower) lr lv (p .1) (kl .index) (rl (p .1 .placed .runs-are));
+      upper = stands f Upper (stored i) (i .n) (s .upper) (t .upper) ur uv (p .2) (ku .index) (ru (p .2 .placed .runs-are));
       lower-values = kl .values;
       upper-values = ku .values;
       work = kw;
@@ -230,7 +230,7 @@ pub row-due : (i : Input) (z y : Sizes) (ls li us ur ui m : List ℕ) (lv uv d w
 row-due i z y ls li us ur ui m lv uv d w x a k found done h em ed ew ex el =
     let g = found-pattern ByRow i z us ur ui (length uv) m a found in
     let p = found-done _ (counts i) k a (g .answer) done in
-    factor-due ByRow i y (lists ls li us ur ui) (written lv uv d w m) x k h em ed ew ex el (g .upper (p .0)) (g .inverse (p .0)) (p .1)
+    factor-due ByRow i y (lists ls li us ur ui) (written lv uv d w m) x k h em ed ew ex el (g .upper (p .0) .placed) (g .inverse (p .0)) (p .1)
 
 pub row-leaves : (i : Input) (us₀ ur₀ ui₀ m₀ us ur ui m m₁ : List ℕ) (uv₀ d₀ x₀ w₀ lv uv d x w : List Float) (a r : Answer) (k : Counts) → Analyzed ByRow (pattern i) (slotsOf 0 0 (length ui₀) (length uv₀)) us ur ui (length uv₀) m₁ a → a ≡ Done k
     → Concluded ByRow i k r lv uv d x₀ x → length lv ≡ 0 → Leaves ByRow i (allBuffers noSide (sideBuffers us₀ ur₀ ui₀ uv₀) d₀ x₀ w₀ m₀) r (allBuffers noSide (sideBuffers us ur ui uv) d x w m)
@@ -280,7 +280,7 @@ nothing-stored v = rw sub-zero
 lists-zero : (s t u : SideBuffers) → Long s t → ListsIf true t u → u ≡ sideCleared (sideSizes s)
 lists-zero s t u l h = side-zero s t u l (record { starts = h .starts; runs = h .runs; index = h .index; values = h .values })
 
-lists-placed : (f : Form) (side : Side) (P : Pattern) (n : ℕ) (s t u : SideBuffers) (runs : List ℕ) (room : ℕ) → PlacedSide f side P n (t .starts) runs (t .index) room → Long s t
+lists-placed : (f : Form) (side : Side) (P : Pattern) (n : ℕ) (s t u : SideBuffers) (runs : List ℕ) (room : ℕ) → WrittenSide f side P n (t .starts) runs (t .index) room → Long s t
     → t .runs ≡ runsKept f (length (s .runs)) (placedTo f side P n n) → ListsIf false t u → u ≡ sidePlaced f side P n (sideSizes s) []
 lists-placed f side P n s t u runs room h l r g =
     stands f side P n s u runs room (rw (g .starts, g .index) h) (ap length (g .index) ∙ l .index) (g .runs ∙ r) [] (g .values ∙ nothing-stored (t .values) ∙ ap (λ (m : ℕ). padded nought m []) (l .values))
@@ -298,7 +298,7 @@ structure-by f i l u l₁ u₁ l₂ u₂ w w₁ w₂ m m₁ m₂ lr ur (Done c) 
     let p = found-done _ (counts i) c (Done c) (g .found .answer) refl in
     let x = g .lower (p .0) in
     let y = g .found .upper (p .0) in
-    rw (places-slots f (stored i) (i .n) (sizes (allBuffers l u [] [] w m)) (i .n) ∙ p .0, p .1, lists-placed f Lower (stored i) (i .n) l l₁ l₂ lr _ x kl (rl (x .runs-are)) hl, lists-placed f Upper (stored i) (i .n) u u₁ u₂ ur _ y ku (ru (y .runs-are)) hu, hs .0, hs .1, kw, km)
+    rw (places-slots f (stored i) (i .n) (sizes (allBuffers l u [] [] w m)) (i .n) ∙ p .0, p .1, lists-placed f Lower (stored i) (i .n) l l₁ l₂ lr _ x kl (rl (x .placed .runs-are)) hl, lists-placed f Upper (stored i) (i .n) u u₁ u₂ ur _ y ku (ru (y .placed .runs-are)) hu, hs .0, hs .1, kw, km)
 structure-by f i l u l₁ u₁ l₂ u₂ w w₁ w₂ m m₁ m₂ lr ur (Refused q) true g e rl ru kl ku kw km hl hu hs =
     rw (places-slots f (stored i) (i .n) (sizes (allBuffers l u [] [] w m)) (i .n) ∙ found-refused _ (counts i) q (Refused q) (g .found .answer) refl, lists-zero l l₁ l₂ kl hl, lists-zero u u₁ u₂ ku hu, hs .0, hs .1, kw, km)
 

@@ -25,11 +25,11 @@ use Rattle.marks.specs.Rows.{rowSteps}
 use Rattle.marks.specs.ListLaws.{products-rows}
 use Rattle.outcome.specs.Forms.{wayOf, listsOf, rowsOf, placedTo, indexNeed, valueNeed}
 use Rattle.outcome.specs.Structure.{askPlaces, counts}
-use Rattle.outcome.specs.Placed.{RunsAre, PlacedSide}
+use Rattle.outcome.specs.Placed.{RunsAre, PlacedSide, WrittenSide}
 use Rattle.outcome.proofs.Asking.{stop-pass}
 use Rattle.storing.specs.Ways as ways
 use Rattle.storing.specs.Held.{Holding}
-use Rattle.storing.specs.HeldLaws.{index-long, starts-whole, runs-whole, padded-held}
+use Rattle.storing.specs.HeldLaws.{slots-same, index-long, starts-whole, runs-whole, padded-held}
 use Rattle.storing.specs.declared.Extent.{Extent}
 use Rattle.symbolic.specs.Places.{runCount, Stores}
 use Rattle.symbolic.specs.Pass.{slotsOf, Analyzed, AnalyzedBoth, placingOf, countsAt, LowerAt, At}
@@ -38,7 +38,7 @@ use Rattle.symbolic.specs.declared.Progress.{Progress}
 -- ---- a side after the last place
 
 -- the plain form's run starts are its list starts
-abbrev RunsIn : Form → List ℕ → List ℕ → Type 0
+abbrev pub RunsIn : Form → List ℕ → List ℕ → Type 0
 RunsIn Plain starts runs = runs ≡ starts
 RunsIn Shared starts runs = Unit {0}
 RunsIn ByRow starts runs = Unit {0}
@@ -60,19 +60,26 @@ module _ (f : Form) (side : Side) (P : Pattern) (n : ℕ) (store : List ℕ) (va
       go Shared h l r = runs-whole h l
       go ByRow h l r = runs-whole h l
 
-  -- the store was cleared before the first place
-  side-end : (lent : List ℕ) → store ≡ blank 0 lent → PlacedSide f side P n starts runs index values
-  unfolding placedTo indexNeed valueNeed
-  side-end lent b =
-      let st : placed (ways.wayOf (placingOf f)) (listsOf f side P n) (rowsOf side P) n ≡ placed (wayOf f) (listsOf f side P n) (rowsOf side P) n = rw (way-is f) in
-      let long : length index ≡ length lent = index-long h ∙ ap length b ∙ blank-length 0 lent in
+  state-is : placed (ways.wayOf (placingOf f)) (listsOf f side P n) (rowsOf side P) n ≡ placedTo f side P n n
+  unfolding placedTo
+  state-is = rw (way-is f)
+
+  pub side-end : PlacedSide f side P n starts runs index values
+  unfolding indexNeed valueNeed
+  side-end =
       record {
         starts-are = starts-whole h (z .starts-size) ∙ table-ext (startOf (listsOf f side P n)) (valueNeed f side P n) (n + 1) (λ j b. refl);
         runs-are = runs-end;
-        index-is = rw long (padded-held lent (rw b at h) ∙ ap (λ x. padded 0 (length lent) (x .slots)) st);
-        index-in = omega (arith, ap (λ x. length (x .slots)) st, h .used-is, h .used-in, index-long h);
+        slots-are = rw (← state-is, ← h .used-is) (slots-same h);
+        index-in = omega (arith, ap (λ x. length (x .slots)) state-is, h .used-is, h .used-in, index-long h);
         values-in = omega (arith, h .entries-are, h .entries-in);
       }
+
+  -- the store was cleared before the first place
+  side-written : (lent : List ℕ) → store ≡ blank 0 lent → WrittenSide f side P n starts runs index values
+  side-written lent b =
+      let long : length index ≡ length lent = index-long h ∙ ap length b ∙ blank-length 0 lent in
+      record { placed = side-end; index-is = rw long (padded-held lent (rw b at h) ∙ ap (λ x. padded 0 (length lent) (x .slots)) state-is) }
 
 -- the forms that keep lower lists
 abbrev Keeps : Form → Type 0
@@ -80,11 +87,11 @@ Keeps Plain = Unit {0}
 Keeps Shared = Unit {0}
 Keeps ByRow = ⊥
 
-lower-end : (f : Form) (i : Input) (low : List ℕ) (lv : ℕ) (ls lr li s : List ℕ) (g : Progress) → Keeps f → RunsIn f ls lr → LowerAt f i low lv (i .n) ls lr li s g
-    → (lent : List ℕ) → low ≡ blank 0 lent → PlacedSide f Lower (stored i) (i .n) ls lr li lv
-lower-end Plain i low lv ls lr li s g x r h = side-end Plain Lower (stored i) (i .n) low lv ls lr li (g .lower) (rw r (h .0)) (rw r (h .1)) r
-lower-end Shared i low lv ls lr li s g x r h = side-end Shared Lower (stored i) (i .n) low lv ls lr li (g .lower) (h .0 .held) (h .0 .stores) r
-lower-end ByRow i low lv ls lr li s g x r h = absurd x
+lower-end : (f : Form) (i : Input) (low : List ℕ) (lv : ℕ) (ls lr li s : List ℕ) (e : Extent) (window : ℕ) → Keeps f → RunsIn f ls lr → LowerAt f i low lv (i .n) ls lr li s e window
+    → (lent : List ℕ) → low ≡ blank 0 lent → WrittenSide f Lower (stored i) (i .n) ls lr li lv
+lower-end Plain i low lv ls lr li s e window x r h = side-written Plain Lower (stored i) (i .n) low lv ls lr li e (rw r (h .0)) (rw r (h .1)) r
+lower-end Shared i low lv ls lr li s e window x r h = side-written Shared Lower (stored i) (i .n) low lv ls lr li e (h .0 .held) (h .0 .stores) r
+lower-end ByRow i low lv ls lr li s e window x r h = absurd x
 
 -- ---- the counts
 
@@ -99,13 +106,13 @@ unfolding counts
 counts-of i g a b c = rw (a, b, c, start-sum (upperRow (stored i) (i .n)) (i .n), products-rows (stored i) (i .n))
 
 -- those of the sides
-lower-count : (f : Form) (i : Input) (low : List ℕ) (lv : ℕ) (ls lr li s : List ℕ) (g : Progress) → LowerAt f i low lv (i .n) ls lr li s g
-    → g .lower .entries ≡ sum (i .n) (λ j. length (lowerRow (stored i) j))
-lower-count Plain i low lv ls lr li s g h = h .0 .entries-are ∙ start-sum (lowerRow (stored i)) (i .n)
-lower-count Shared i low lv ls lr li s g h =
+lower-count : (f : Form) (i : Input) (low : List ℕ) (lv : ℕ) (ls lr li s : List ℕ) (e : Extent) (window : ℕ) → LowerAt f i low lv (i .n) ls lr li s e window
+    → e .entries ≡ sum (i .n) (λ j. length (lowerRow (stored i) j))
+lower-count Plain i low lv ls lr li s e window h = h .0 .entries-are ∙ start-sum (lowerRow (stored i)) (i .n)
+lower-count Shared i low lv ls lr li s e window h =
     h .0 .held .entries-are ∙ start-sum (upperRow (flip (stored i)) (i .n)) (i .n)
     ∙ sum-ext (i .n) _ _ (λ k l. ap length (sym (lower-is-upper (stored i) (i .n) k))) ∙ sym (lower-rows-columns (stored i) (i .n))
-lower-count ByRow i low lv ls lr li s g h = h
+lower-count ByRow i low lv ls lr li s e window h = h
 
 -- ---- the answer: low and up are the cleared index stores, as long as those that were lent
 
@@ -139,8 +146,8 @@ pub found-end : (f : Form) (i : Input) (low : List ℕ) (lv : ℕ) (up : List �
 found-end f i low lv up uv a above k ls lr li us ur ui s g c ea eb at most q r =
     let h = at-last f i low lv up uv k ls lr li us ur ui s g at most in
     rw (q, ← ea, ← blank-long up above eb) (record {
-      answer = rw (h .passed, counts-of i g (lower-count f i low lv ls lr li s g (h .lower)) (h .upper .held .entries-are) (h .products-are));
-      upper = λ x. side-end f Upper (stored i) (i .n) up uv us ur ui (g .upper) (h .upper .held) (h .upper .stores) r above eb;
+      answer = rw (h .passed, counts-of i g (lower-count f i low lv ls lr li s (g .lower) (g .window) (h .lower)) (h .upper .held .entries-are) (h .products-are));
+      upper = λ x. side-written f Upper (stored i) (i .n) up uv us ur ui (g .upper) (h .upper .held) (h .upper .stores) r above eb;
       inverse = λ x. h .begun .inverse;
     })
 
@@ -149,5 +156,5 @@ pub both-end : (f : Form) (i : Input) (low : List ℕ) (lv : ℕ) (up : List ℕ
     → AnalyzedBoth f i (slotsOf (length below) lv (length above) uv) ls lr li lv us ur ui uv s (answers.Done c)
 both-end f i low lv up uv below above k ls lr li us ur ui s g c ea eb at most q r e x = record {
   found = found-end f i low lv up uv (length below) above k ls lr li us ur ui s g c (blank-long low below ea) eb at most q r;
-  lower = λ p. lower-end f i low lv ls lr li s g x e (at-last f i low lv up uv k ls lr li us ur ui s g at most .lower) below ea;
+  lower = λ p. lower-end f i low lv ls lr li s (g .lower) (g .window) x e (at-last f i low lv up uv k ls lr li us ur ui s g at most .lower) below ea;
 }

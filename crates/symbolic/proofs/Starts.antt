@@ -131,7 +131,7 @@ fresh-first Shared n s h = h
 fresh-first ByRow n s h = h
 
 form-start : (f : Form) (i : Input) (low : List ℕ) (lv uv : ℕ) (ls lr li us us′ ur ui ui′ s : List ℕ) → Begun i s → Fresh (i .n) 1 s → Stores (placingOf f) (i .n) ui uv us ur
-    → (ur′ : List ℕ) → us′ ≡ blank 0 us → length ur′ ≡ length ur → ui′ ≡ blank 0 ui → LowerAt f i low lv 0 ls lr li s noProgress
+    → (ur′ : List ℕ) → us′ ≡ blank 0 us → length ur′ ≡ length ur → ui′ ≡ blank 0 ui → LowerAt f i low lv 0 ls lr li s nothing 0
     → (g : Progress) → g ≡ noProgress → At f i low lv ui′ uv 0 ls lr li us′ ur′ ui′ s g
 unfolding sum
 form-start f i low lv uv ls lr li us us′ ur ui ui′ s begun fresh upper ur′ a b c lower g q = rw q (record {

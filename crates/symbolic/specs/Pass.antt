@@ -24,7 +24,7 @@ use Rattle.questions.specs.Settled.{Structured}
 use Rattle.base.specs.declared.SideSizes.{SideSizes}
 use Rattle.base.specs.declared.Sizes.{Sizes}
 use Rattle.outcome.specs.Structure.{askPlaces, counts}
-use Rattle.outcome.specs.Placed.{PlacedSide}
+use Rattle.outcome.specs.Placed.{WrittenSide}
 use Rattle.storing.specs.Held.{Holding}
 use Rattle.storing.specs.declared.Extent.{Extent}
 use Rattle.storing.specs.declared.Way.{Way}
@@ -49,9 +49,9 @@ abbrev pub foundAnswer : Asked → Counts → Answer
 foundAnswer Pass c = answers.Done c
 foundAnswer (Stop q) c = answers.Refused q
 
--- where 9 to 11 are passed at every place, a side's lists stand in its stores
+-- where 9 to 11 are passed at every place, a side's lists stand in its stores, and zeros after them
 abbrev pub SidePlaced : Form → Side → Input → Sizes → List ℕ → List ℕ → List ℕ → ℕ → Type 0
-SidePlaced f side i z starts runs index values = askPlaces f (stored i) (i .n) z (i .n) ≡ Pass → PlacedSide f side (stored i) (i .n) starts runs index values
+SidePlaced f side i z starts runs index values = askPlaces f (stored i) (i .n) z (i .n) ≡ Pass → WrittenSide f side (stored i) (i .n) starts runs index values
 
 -- the answer of a form's pass, its upper side, and the inverse column order that it leaves in scratch s
 pub record Analyzed (f : Form) (i : Input) (z : Sizes) (us ur ui : List ℕ) (uv : ℕ) (s : List ℕ) (a : Answer) : Type 0 where
@@ -79,13 +79,13 @@ stampAt Shared k = k + k + 1
 stampAt ByRow k = k + 1
 
 -- the lower side: rows one after another, columns with their cuts and the columns of M' still to come, or the count of its entries
-abbrev pub LowerAt : Form → Input → List ℕ → ℕ → ℕ → List ℕ → List ℕ → List ℕ → List ℕ → Progress → Type 0
-LowerAt Plain i store values k starts runs index s g =
-    Holding OneAfterAnother (lowerRow (stored i)) (lowerRow (flip (stored i))) values k store starts starts index (g .lower)
+abbrev pub LowerAt : Form → Input → List ℕ → ℕ → ℕ → List ℕ → List ℕ → List ℕ → List ℕ → Extent → ℕ → Type 0
+LowerAt Plain i store values k starts runs index s e window =
+    Holding OneAfterAnother (lowerRow (stored i)) (lowerRow (flip (stored i))) values k store starts starts index e
     × Stores OneAfterAnother (i .n) store values starts starts
-LowerAt Shared i store values k starts runs index s g =
-    ListsAt Sharing (flip (stored i)) (i .n) k (lowerCuts (i .n)) store values starts runs index s (g .lower) × Ready (i .n) k (g .window) (rowsIn i s) s
-LowerAt ByRow i store values k starts runs index s g = g .lower .entries ≡ sum k (λ j. length (lowerRow (stored i) j))
+LowerAt Shared i store values k starts runs index s e window =
+    ListsAt Sharing (flip (stored i)) (i .n) k (lowerCuts (i .n)) store values starts runs index s e × Ready (i .n) k window (rowsIn i s) s
+LowerAt ByRow i store values k starts runs index s e window = e .entries ≡ sum k (λ j. length (lowerRow (stored i) j))
 
 -- low and up are the index stores as they stood before the first place
 pub record At (f : Form) (i : Input) (low : List ℕ) (lv : ℕ) (up : List ℕ) (uv k : ℕ) (ls lr li us ur ui s : List ℕ) (g : Progress) : Type 0 where
@@ -93,7 +93,7 @@ pub record At (f : Form) (i : Input) (low : List ℕ) (lv : ℕ) (up : List ℕ)
   pub most : k ≤ i .n
   pub begun : Begun i s
   pub fresh : Fresh (i .n) (stampAt f k) s
-  pub lower : LowerAt f i low lv k ls lr li s g
+  pub lower : LowerAt f i low lv k ls lr li s (g .lower) (g .window)
   pub upper : ListsAt (placingOf f) (stored i) (i .n) k (upperCuts (i .n)) up uv us ur ui s (g .upper)
   pub products-are : g .products ≡ sum k (rowSteps (stored i) (i .n))
 

@@ -179,33 +179,33 @@ pub record Addable (n : ℕ) (starts s : List ℕ) (count products : ℕ) : Type
   pub index : List ℕ
   pub adding : Adding pattern n place starts runs index s count products
 
--- ---- one side of the sharing forms at place k
+-- ---- one side at place k
 
-pub record SideAt (side : Side) (i : Input) (store : List ℕ) (values k t window : ℕ) (starts runs index s : List ℕ) (e : Extent) : Type 0 where
+pub record SideAt (way : Way) (side : Side) (i : Input) (store : List ℕ) (values k t window : ℕ) (starts runs index s : List ℕ) (e : Extent) : Type 0 where
   pub begun : Begun i s
   pub below : k < i .n
   pub fresh : Fresh (i .n) t s
   pub ready : SideReady side (i .n) k window (rowsIn i s) s
-  pub at : ListsAt Sharing (patternOf side i) (i .n) k (cutsOf side (i .n)) store values starts runs index s e
+  pub at : ListsAt way (patternOf side i) (i .n) k (cutsOf side (i .n)) store values starts runs index s e
 
 -- the same, for some column order and some store
-pub record SideDue (side : Side) (n values k t window : ℕ) (mstarts columns r starts runs index s : List ℕ) (e : Extent) : Type 0 where
+pub record SideDue (way : Way) (side : Side) (n values k t window : ℕ) (mstarts columns r starts runs index s : List ℕ) (e : Extent) : Type 0 where
   pub order : List ℕ
   pub store : List ℕ
-  pub due : SideAt side (inputOf n mstarts columns [] r order []) store values k t window starts runs index s e
+  pub due : SideAt way side (inputOf n mstarts columns [] r order []) store values k t window starts runs index s e
 
-pub record SideNext (side : Side) (i : Input) (store : List ℕ) (values k t : ℕ) (starts runs index s₀ s : List ℕ) (p : SidePlace) : Type 0 where
+pub record SideNext (way : Way) (side : Side) (i : Input) (store : List ℕ) (values k t : ℕ) (starts runs index s₀ s : List ℕ) (p : SidePlace) : Type 0 where
   pub diagonal : filled (patternOf side i) k k ≡ true
-  pub fits : room (wayOf Sharing) (upperRow (patternOf side i) (i .n)) (lowerRow (patternOf side i)) (length store) values k ≡ true
-  pub at : ListsAt Sharing (patternOf side i) (i .n) (k + 1) (cutsOf side (i .n)) store values starts runs index s (p .extent)
+  pub fits : room (wayOf way) (upperRow (patternOf side i) (i .n)) (lowerRow (patternOf side i)) (length store) values k ≡ true
+  pub at : ListsAt way (patternOf side i) (i .n) (k + 1) (cutsOf side (i .n)) store values starts runs index s (p .extent)
   pub ready : SideReady side (i .n) (k + 1) (p .window) (rowsIn i s) s
   pub last : Fresh (i .n) (suc t) s
   pub apart : Apart side (i .n) s₀ s
   pub size : p .below ≡ length (lowerRow (patternOf side i) k)
   pub lower : take (p .below) (drop (listFrom (i .n)) s) ≡ lowerRow (patternOf side i) k
 
-abbrev pub SideEnds : Side → Input → List ℕ → ℕ → ℕ → ℕ → List ℕ → List ℕ → List ℕ → List ℕ → List ℕ → SideEnd → Type 0
-SideEnds side i store values k t starts runs index s₀ s NoDiagonal = filled (patternOf side i) k k ≡ false
-SideEnds side i store values k t starts runs index s₀ s NoRoom =
-    (filled (patternOf side i) k k ≡ true) × (room (wayOf Sharing) (upperRow (patternOf side i) (i .n)) (lowerRow (patternOf side i)) (length store) values k ≡ false)
-SideEnds side i store values k t starts runs index s₀ s (Placed p) = SideNext side i store values k t starts runs index s₀ s p
+abbrev pub SideEnds : Way → Side → Input → List ℕ → ℕ → ℕ → ℕ → List ℕ → List ℕ → List ℕ → List ℕ → List ℕ → SideEnd → Type 0
+SideEnds way side i store values k t starts runs index s₀ s NoDiagonal = filled (patternOf side i) k k ≡ false
+SideEnds way side i store values k t starts runs index s₀ s NoRoom =
+    (filled (patternOf side i) k k ≡ true) × (room (wayOf way) (upperRow (patternOf side i) (i .n)) (lowerRow (patternOf side i)) (length store) values k ≡ false)
+SideEnds way side i store values k t starts runs index s₀ s (Placed p) = SideNext way side i store values k t starts runs index s₀ s p

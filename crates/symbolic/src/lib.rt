@@ -232,8 +232,8 @@ fn place_side(
     window: usize,
     e: Extent,
 ) -> SideEnd
-    requires { ⌜ SideDue side n «side_values» (k .0) stamp window (now starts) (now columns) (now r) (now «side_starts») (now «side_runs») (now «side_index») (now marks) e ⌝ }
-    ensures { λ o. ⌜ ((c store : List ℕ) → SideAt side (inputOf n (now (starts .entry)) (now (columns .entry)) [] (now (r .entry)) c []) store «side_values» (k .0) stamp window (now («side_starts» .entry)) (now («side_runs» .entry)) (now («side_index» .entry)) (now (marks .entry)) e → SideEnds side (inputOf n (now (starts .entry)) (now (columns .entry)) [] (now (r .entry)) c []) store «side_values» (k .0) stamp (now («side_starts» .exit)) (now («side_runs» .exit)) (now («side_index» .exit)) (now (marks .entry)) (now (marks .exit)) o) ⌝ }
+    requires { ⌜ SideDue Way.Sharing side n «side_values» (k .0) stamp window (now starts) (now columns) (now r) (now «side_starts») (now «side_runs») (now «side_index») (now marks) e ⌝ }
+    ensures { λ o. ⌜ ((c store : List ℕ) → SideAt Way.Sharing side (inputOf n (now (starts .entry)) (now (columns .entry)) [] (now (r .entry)) c []) store «side_values» (k .0) stamp window (now («side_starts» .entry)) (now («side_runs» .entry)) (now («side_index» .entry)) (now (marks .entry)) e → SideEnds Way.Sharing side (inputOf n (now (starts .entry)) (now (columns .entry)) [] (now (r .entry)) c []) store «side_values» (k .0) stamp (now («side_starts» .exit)) (now («side_runs» .exit)) (now («side_index» .exit)) (now (marks .entry)) (now (marks .exit)) o) ⌝ }
 {
     let opened = open_place(
         side,
