@@ -3,6 +3,7 @@ use mathlib.Core.Path.{_≡_, refl}
 use mathlib.Core.List.{List, [], _∷_}
 use Prim.Native.Nat.{ℕ}
 use native.Mathlib.Omega.{arith}
+use native.Mathlib.Decide.{decLt}
 use lib.ListN.{replicate}
 use lib.Ieee.{Float, binary64, ofBits}
 use Rattle.base.specs.Lists.{nought, has, asc, table, listAt, padded}
@@ -18,7 +19,7 @@ use Rattle.questions.specs.SettledLaws.{settled}
 use Rattle.placement.specs.Placing.{countAbove, tails, bestFrom, firstAt, agree, appendAll, fresh, meets, overlap, tailOr, shared, plain, after, placed, startOf}
 use Rattle.outcome.specs.Forms.{placedTo, indexNeed, valueNeed}
 use Rattle.outcome.specs.Placed.{PlacedSide}
-use Rattle.factor.specs.Factoring.{lists, written, Starts, Factorable}
+use Rattle.factor.specs.Factoring.{lists, written, Starts, Inverse, Factorable}
 
 -- rows (2, 4), (1, 4), b = (10, 9), orders 0, 1
 abbrev example : Input
@@ -43,21 +44,29 @@ sides : PlacedSide Plain Upper (stored example) 2 (0 ∷ 1 ∷ 1 ∷ []) (0 ∷ 
     × Starts Shared (stored example) 2 (0 ∷ 1 ∷ 1 ∷ []) 1
 unfolding table valueNeed startOf indexNeed placedTo placed after shared plain appendAll tailOr bestFrom tails countAbove overlap fresh meets firstAt agree padded upperRow lowerRow asc upper filled reach stored ic first isOf has listAt
 sides = (
-  record { starts-are = refl; runs-are = refl; index-is = refl; index-in = omega arith; values-in = omega arith },
-  record { starts-are = refl; runs-are = refl; index-is = refl; index-in = omega arith; values-in = omega arith },
-  record { starts-are = refl; runs-are = refl; index-is = refl; index-in = omega arith; values-in = omega arith },
-  record { starts-are = refl; runs-are = refl; index-is = refl; index-in = omega arith; values-in = omega arith },
+  record { starts-are = refl; runs-are = refl; slots-are = refl; index-in = omega arith; values-in = omega arith },
+  record { starts-are = refl; runs-are = refl; slots-are = refl; index-in = omega arith; values-in = omega arith },
+  record { starts-are = refl; runs-are = refl; slots-are = refl; index-in = omega arith; values-in = omega arith },
+  record { starts-are = refl; runs-are = refl; slots-are = refl; index-in = omega arith; values-in = omega arith },
   record { starts-are = refl; values-in = omega arith },
 )
 
 abbrev zeros : ℕ → List Float
 zeros m = replicate m nought
 
-pub plain-met : Factorable Plain example (lists (0 ∷ 0 ∷ 1 ∷ []) (0 ∷ []) (0 ∷ 1 ∷ 1 ∷ []) (0 ∷ 1 ∷ 1 ∷ []) (1 ∷ [])) (written (zeros 1) (zeros 1) (zeros 2) (zeros 6) (replicate 16 0))
-plain-met = record { lent = lent; settled = settled example passed; lower-side = sides .3; upper-side = sides .0; reciprocals = refl; scratch = refl; slots = omega arith }
+-- the inverse order 0, 1 in slots 2 and 3
+abbrev scratch : List ℕ
+scratch = 0 ∷ 0 ∷ 0 ∷ 1 ∷ replicate 12 0
 
-pub shared-met : Factorable Shared example (lists (0 ∷ 1 ∷ 1 ∷ []) [] (0 ∷ 1 ∷ 1 ∷ []) (0 ∷ 1 ∷ []) (1 ∷ [])) (written (zeros 1) (zeros 1) (zeros 2) (zeros 6) (replicate 16 0))
-shared-met = record { lent = lent; settled = settled example passed; lower-side = sides .4; upper-side = sides .1; reciprocals = refl; scratch = refl; slots = omega arith }
+inverse : Inverse example scratch
+unfolding ic first isOf
+inverse j h = elim (decLt j 1) [ yes q ↦ (let e : j ≡ 0 = omega arith in rw e) | no q ↦ (let e : j ≡ 1 = omega arith in rw e) ]
 
-pub row-met : Factorable ByRow example (lists [] [] (0 ∷ 1 ∷ 1 ∷ []) (0 ∷ 1 ∷ []) (1 ∷ [])) (written [] (zeros 1) (zeros 2) (zeros 6) (replicate 16 0))
-row-met = record { lent = lent; settled = settled example passed; lower-side = refl; upper-side = sides .2; reciprocals = refl; scratch = refl; slots = omega arith }
+pub plain-met : Factorable Plain example (lists (0 ∷ 0 ∷ 1 ∷ []) (0 ∷ []) (0 ∷ 1 ∷ 1 ∷ []) (0 ∷ 1 ∷ 1 ∷ []) (1 ∷ [])) (written (zeros 1) (zeros 1) (zeros 2) (zeros 6) scratch)
+plain-met = record { lent = lent; settled = settled example passed; lower-side = sides .3; upper-side = sides .0; reciprocals = refl; scratch = refl; slots = omega arith; inverse = inverse }
+
+pub shared-met : Factorable Shared example (lists (0 ∷ 1 ∷ 1 ∷ []) [] (0 ∷ 1 ∷ 1 ∷ []) (0 ∷ 1 ∷ []) (1 ∷ [])) (written (zeros 1) (zeros 1) (zeros 2) (zeros 6) scratch)
+shared-met = record { lent = lent; settled = settled example passed; lower-side = sides .4; upper-side = sides .1; reciprocals = refl; scratch = refl; slots = omega arith; inverse = inverse }
+
+pub row-met : Factorable ByRow example (lists [] [] (0 ∷ 1 ∷ 1 ∷ []) (0 ∷ 1 ∷ []) (1 ∷ [])) (written [] (zeros 1) (zeros 2) (zeros 6) scratch)
+row-met = record { lent = lent; settled = settled example passed; lower-side = refl; upper-side = sides .2; reciprocals = refl; scratch = refl; slots = omega arith; inverse = inverse }

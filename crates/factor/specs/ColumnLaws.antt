@@ -1,13 +1,14 @@
 -- L by columns: what the cursors leave is the paper's L along column k.
 use mathlib.Core.Path.{_≡_, refl, sym, ap, ap₂, _∙_}
 use mathlib.Core.Bool.{Bool, true, false, _&&_, true≢false}
-use mathlib.Core.List.{List, [], _∷_, _++_, map, map-append, append-nil}
+use mathlib.Core.List.{List, [], _∷_, _++_, map, map-append}
 use Prim.Native.Nat.{ℕ, zero, suc, _+_, _-_}
 use native.Mathlib.Omega.{arith}
 use lib.ListN.{length, getD}
+use lib.Seq.{take-length}
 use lib.Dec.{eqb, ltb}
 use lib.Ieee.{Float, nan}
-use Rattle.base.specs.Lists.{has, asc, keep, padded}
+use Rattle.base.specs.Lists.{has, asc, keep}
 use Rattle.base.specs.Tests.{by-test}
 use Rattle.base.specs.AscLaws.{has-asc, length-asc, count-ext}
 use Rattle.base.specs.declared.Form.the-variants.{Shared}
@@ -55,11 +56,11 @@ column-is P n rows i = column-to P rows n i
 -- the lower side, with the index store that its starts belong to
 pub shared-side : (P : Pattern) (n : ℕ) (starts : List ℕ) (values : ℕ) → Starts Shared P n starts values
     → PlacedSide Shared Lower P n starts (placedTo Shared Lower P n n .runs) (placedTo Shared Lower P n n .slots) values
-unfolding padded indexNeed
+unfolding indexNeed
 shared-side P n starts values S = record {
   starts-are = S .starts-are;
   runs-are = refl;
-  index-is = let e : length (placedTo Shared Lower P n n .slots) - length (placedTo Shared Lower P n n .slots) ≡ 0 = omega arith in rw e (sym (append-nil (placedTo Shared Lower P n n .slots)));
+  slots-are = take-length (placedTo Shared Lower P n n .slots);
   index-in = omega arith;
   values-in = S .values-in;
 }

@@ -1,10 +1,12 @@
 -- Before the first row, and from the last row and the back steps to the answer.
 use mathlib.Core.Path.{_≡_, refl, sym, ap, _∙_, subst}
-use mathlib.Core.List.{List, [], _∷_}
-use Prim.Native.Nat.{ℕ, zero, suc, _+_, _*_, _<_, _≤_}
+use mathlib.Core.List.{List, [], _∷_, _++_, append-assoc}
+use Prim.Native.Nat.{ℕ, zero, suc, _+_, _-_, _<_, _≤_}
 use native.Mathlib.Omega.{arith}
-use lib.ListN.{length, getD, drop, set, replicate, length-replicate, getD-replicate}
-use lib.Seq.{ext-getD, getD-take, getD-drop}
+use native.Mathlib.Decide.{decLt}
+use native.Mathlib.Nat.{zero-add}
+use lib.ListN.{length, getD, take, drop, set, replicate, length-drop, length-replicate, getD-replicate}
+use lib.Seq.{ext-getD, getD-take, getD-drop, drop-drop, length-take-le, length-sets, sets-eq}
 use lib.Ieee.{Float, nan, binary64, mul, sub}
 use lib.Ieee.Scale.{finite}
 use Rattle.base.specs.Lists.{nought, blank, joined, padded, table}
@@ -15,30 +17,30 @@ use Rattle.base.specs.declared.Form.the-variants.{Plain, Shared, ByRow}
 use Rattle.base.specs.declared.Side.the-variants.{Lower, Upper}
 use Rattle.fill.specs.Fill.{Pattern}
 use Rattle.placement.specs.Placing.{startOf}
-use Rattle.matrix.specs.Input.{Input, ic, stored}
+use Rattle.matrix.specs.Input.{Input, stored}
 use Rattle.arithmetic.specs.Arith.{Fault, zeroPivot, overflow, Out, ok, met, Row, none, Given}
 use Rattle.arithmetic.specs.Stopping.{_>>=_, at, less, rest, back}
 use Rattle.outcome.specs.Forms.{valueNeed}
 use Rattle.outcome.specs.Placed.{PlacedSide, start-at, size-at, list-at}
 use Rattle.outcome.specs.Solve.{system, valuesKept, pivotsKept}
 use Rattle.outcome.proofs.Meaning.{listed-stops}
-use Rattle.questions.specs.Lent.{invertedAt}
-use Rattle.questions.specs.ScatterLaws.{placed-front, placed-inverse, placed-rest}
+use Rattle.lent.specs.Reading.{But}
+use Rattle.marks.specs.MarkLaws.{sets-below, sets-above}
 use Rattle.marks.specs.RenewLaws as found
 use Rattle.numeric.specs.declared.Back.the-variants.{Complete, Stopped}
 use Rattle.numeric.specs.declared.Back.{Back}
 use Rattle.numeric.specs.Stores.{storeGiven, numberedBack}
 use Rattle.numeric.specs.Rows.{uOf, lOf, columnOf}
 use Rattle.numeric.specs.KeepLaws.{columns-start, columns-end}
-use Rattle.numeric.specs.StoreLaws.{stacked-none, stacked-all}
+use Rattle.numeric.specs.StoreLaws.{sets-part, stacked-none, stacked-all}
 use Rattle.numeric.specs.PassLaws.{held-start, held-y, held-solved, held-stopped}
-use Rattle.factor.specs.Factoring.{Factors, FactoredAs, PlacedLists, Workspace, LowerPlaced, Factorable, LowerHeld, Inverse, Finding, Going, backAs, BackReady}
+use Rattle.factor.specs.Factoring.{Factors, FactoredAs, PlacedLists, Workspace, LowerPlaced, Factorable, Inverse, zeroed, freshMarks, LowerHeld, Finding, Going, backAs, BackReady}
 use Rattle.factor.specs.SystemLaws.{placed-shape}
 use Rattle.factor.specs.TurnLaws.{SameSizes, none-left, same-given}
 use Rattle.factor.specs.ColumnLaws.{shared-side, shared-fits, column-is}
 use Rattle.factor.specs.declared.Factored.{Factored}
 use Rattle.factor.specs.declared.Factored.the-variants.{Solved, Zero, Overflow}
-use Rattle.base.specs.Scratch.{cursorsFrom, regionsEnd, zFrom}
+use Rattle.base.specs.Scratch.{inverseFrom, upperCuts, cursorsFrom, regionsEnd, zFrom}
 
 -- ---- before the first row
 
@@ -46,15 +48,39 @@ pub cleared : (x y : List Float) → length x ≡ length y → x ≡ blank nough
 unfolding blank
 cleared x y l e = e ∙ rw l
 
-pub inverse-start : (i : Input) (m s : List ℕ) → zFrom (i .n) ≤ length s → m ≡ invertedAt (i .c) (i .n) s → Inverse i m
-inverse-start i m s h e j b =
-    rw e (sym (getD-drop (i .n) (invertedAt (i .c) (i .n) s) j 0) ∙ sym (getD-take (i .n) (drop (i .n) (invertedAt (i .c) (i .n) s)) j 0 b)
-    ∙ ap (λ (l : List ℕ). getD l j 0) (placed-inverse (i .c) (i .n) s (omega arith)) ∙ getD-table (ic (i .c) (i .n)) (i .n) 0 j b)
+-- a part that was cleared and came back
+pub part-zeroed : (n from end : ℕ) (s part : List ℕ) → from + n ≤ length s → end ≡ from + n → part ≡ blank 0 (take (end - from) (drop from s))
+    → take from s ++ (part ++ drop (end - from) (drop from s)) ≡ zeroed n from s
+unfolding zeroed blank
+part-zeroed n from end s part h e q =
+    let k : end - from ≡ n = omega arith in
+    let long : length (take n (drop from s)) ≡ n = length-take-le n (drop from s) (simp length-drop (omega arith)) in
+    let z = replicate {A = ℕ} n 0 in
+    let m : length z ≡ n = length-replicate n 0 in
+    rw (q, k, long, drop-drop n from s) (sym (append-assoc (take from s) z (drop (from + n) s)) ∙ ap (λ (x : ℕ). take from s ++ z ++ drop (from + x) s) (sym m) ∙ sym (sets-eq z s from (omega arith)))
+
+module _ (n from : ℕ) (s : List ℕ) where
+  zeroed-length : length (zeroed n from s) ≡ length s
+  unfolding zeroed
+  zeroed-length = length-sets s from (replicate n 0)
+
+  zeroed-in : (j : ℕ) → from + n ≤ length s → j < n → getD (zeroed n from s) (from + j) 0 ≡ 0
+  unfolding zeroed
+  zeroed-in j h b =
+      sym (getD-drop from (zeroed n from s) j 0) ∙ sym (getD-take n (drop from (zeroed n from s)) j 0 b)
+      ∙ ap (λ (l : List ℕ). getD l j 0) (sets-part s (replicate n 0) from n (length-replicate n 0) h) ∙ getD-replicate n j 0 0 b
+
+  zeroed-out : But from (from + n) s (zeroed n from s)
+  unfolding zeroed
+  zeroed-out q g = elim (decLt q from) [
+    | yes b ↦ sets-below s from (replicate n 0) q b
+    | no b ↦ sets-above s from (replicate n 0) q (omega (arith, g (omega arith), length-replicate {A = ℕ} n 0))
+  ]
 
 pub going-start : {f : Form} {i : Input} {L : PlacedLists} {w : Workspace} → Factorable f i L w → w .upper ≡ replicate (length (w .upper)) nought → w .work ≡ replicate (length (w .work)) nought
-    → LowerHeld f (system i) [] 0 (L .lower-starts) (drop (cursorsFrom (i .n)) (w .marks)) (w .lower) → Inverse i (w .marks) → Finding f i L 0 (w .marks) → Going f i L 0 w
+    → LowerHeld f (system i) [] 0 (L .lower-starts) (drop (cursorsFrom (i .n)) (w .marks)) (w .lower) → Finding f i L 0 (w .marks) → Going f i L 0 w
 unfolding system
-going-start {f} {i} {L} {w} F eu ew lower inv find = record {
+going-start {f} {i} {L} {w} F eu ew lower find = record {
   given = F;
   rows = [];
   held = held-start (system i) (i .n) (w .work) (L .upper-starts) (L .upper-runs) (L .upper-index) (w .upper) refl
@@ -62,34 +88,27 @@ going-start {f} {i} {L} {w} F eu ew lower inv find = record {
       (ew ∙ ap (λ (m : ℕ). replicate m nought) (F .scratch)) eu;
   pivots = λ j b. absurd (omega arith);
   lower = lower;
-  inverse = inv;
   finding = find;
 }
 
--- w as it was lent, and x once all is cleared and the inverse order written
+-- w as it was lent, and x once it is cleared for the rows
 module _ (i : Input) (L : PlacedLists) {w : Workspace} (x : Workspace) (s : SameSizes w x) (slots : regionsEnd (i .n) ≤ length (w .marks)) (el : x .lower ≡ blank nought (w .lower))
-    (em : x .marks ≡ invertedAt (i .c) (i .n) (blank 0 (w .marks))) where
-  long : length (blank 0 (w .marks)) ≡ length (w .marks)
-  unfolding blank
-  long = length-replicate (length (w .marks)) 0
-
+    (em : x .marks ≡ freshMarks (i .n) (w .marks)) where
+  -- no mark and no cut yet
   mark-at : (j : ℕ) → j < i .n → getD (x .marks) j 0 ≡ 0
-  unfolding blank
   mark-at j b =
-      rw em (sym (getD-take (i .n) (invertedAt (i .c) (i .n) (blank 0 (w .marks))) j 0 b) ∙ ap (λ (l : List ℕ). getD l j 0) (placed-front (i .c) (i .n) (blank 0 (w .marks)) (omega (arith, long)))
-      ∙ getD-take (i .n) (blank 0 (w .marks)) j 0 b ∙ getD-replicate (length (w .marks)) j 0 0 (omega arith))
+      rw em (zeroed-out (i .n) (cursorsFrom (i .n)) (zeroed (i .n) 0 (w .marks)) j (λ q. absurd (omega arith))
+      ∙ ap (λ (q : ℕ). getD (zeroed (i .n) 0 (w .marks)) q 0) (sym (zero-add j)) ∙ zeroed-in (i .n) 0 (w .marks) j (omega arith) b)
+
+  found-start : Finding ByRow i L 0 (x .marks)
+  found-start = found.held-start (stored i) (i .n) (0 + 1) (upperCuts (i .n)) (x .marks) (L .upper-starts) (L .upper-runs) (L .upper-index) (λ j b. omega (arith, mark-at j b))
 
   cursor-at : (j : ℕ) → j < i .n → getD (drop (cursorsFrom (i .n)) (x .marks)) j 0 ≡ 0
-  unfolding blank
-  cursor-at j b =
-      let e : cursorsFrom (i .n) + j ≡ zFrom (i .n) + (zFrom (i .n) + j) = omega arith in
-      getD-drop (cursorsFrom (i .n)) (x .marks) j 0 ∙ rw (em, e) (sym (getD-drop (zFrom (i .n)) (invertedAt (i .c) (i .n) (blank 0 (w .marks))) (zFrom (i .n) + j) 0)
-      ∙ ap (λ (l : List ℕ). getD l (zFrom (i .n) + j) 0) (placed-rest (i .c) (i .n) (blank 0 (w .marks)) (omega (arith, long)))
-      ∙ getD-drop (zFrom (i .n)) (blank 0 (w .marks)) (zFrom (i .n) + j) 0 ∙ getD-replicate (length (w .marks)) (zFrom (i .n) + (zFrom (i .n) + j)) 0 0 (omega arith))
+  cursor-at j b = getD-drop (cursorsFrom (i .n)) (x .marks) j 0 ∙ rw em (zeroed-in (i .n) (cursorsFrom (i .n)) (zeroed (i .n) 0 (w .marks)) j (omega (arith, zeroed-length (i .n) 0 (w .marks))) b)
 
-  -- no mark and no cut yet
-  found-start : Finding ByRow i L 0 (x .marks)
-  found-start = found.held-start (stored i) (i .n) (0 + 1) (3 * i .n) (x .marks) (L .upper-starts) (L .upper-runs) (L .upper-index) (λ j b. omega (arith, mark-at j b))
+  inverse-kept : Inverse i (w .marks) → Inverse i (x .marks)
+  inverse-kept h j b =
+      rw em (zeroed-out (i .n) (cursorsFrom (i .n)) (zeroed (i .n) 0 (w .marks)) (inverseFrom (i .n) + j) (λ q. absurd (omega arith)) ∙ zeroed-out (i .n) 0 (w .marks) (inverseFrom (i .n) + j) (λ q. omega arith) ∙ h j b)
 
   finding-start : (f : Form) → Finding f i L 0 (x .marks)
   finding-start Plain = tt
@@ -106,12 +125,10 @@ module _ (i : Input) (L : PlacedLists) {w : Workspace} (x : Workspace) (s : Same
   lower-start ByRow S = S
 
 pub form-start : (f : Form) {i : Input} {L : PlacedLists} {w : Workspace} (x : Workspace) → Factorable f i L w → SameSizes w x → x .lower ≡ blank nought (w .lower) → x .upper ≡ blank nought (w .upper)
-    → x .work ≡ blank nought (w .work) → x .marks ≡ invertedAt (i .c) (i .n) (blank 0 (w .marks)) → Going f i L 0 x
-unfolding blank
+    → x .work ≡ blank nought (w .work) → x .marks ≡ freshMarks (i .n) (w .marks) → Going f i L 0 x
 form-start f {i} {L} {w} x F s el eu ew em =
-    let G = same-given s F in
-    going-start G (cleared (x .upper) (w .upper) (s .upper-size) eu) (cleared (x .work) (w .work) (s .work-size) ew)
-    (lower-start i L x s (F .slots) el em f (G .lower-side)) (inverse-start i (x .marks) (blank 0 (w .marks)) (omega (arith, F .slots, long i L x s (F .slots) el em)) em) (finding-start i L x s (F .slots) el em f)
+    let G = same-given s (inverse-kept i L x s (F .slots) el em (F .inverse)) F in
+    going-start G (cleared (x .upper) (w .upper) (s .upper-size) eu) (cleared (x .work) (w .work) (s .work-size) ew) (lower-start i L x s (F .slots) el em f (G .lower-side)) (finding-start i L x s (F .slots) el em f)
 
 -- ---- a fault in the back steps is an overflow at one of the n places
 

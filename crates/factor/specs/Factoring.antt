@@ -2,7 +2,7 @@
 use mathlib.Core.Path.{_≡_}
 use mathlib.Core.List.{List, []}
 use Prim.Native.Nat.{ℕ, _+_, _*_, _<_, _≤_}
-use lib.ListN.{length, getD, take, drop}
+use lib.ListN.{length, getD, take, drop, replicate}
 use lib.Seq.{sets}
 use mathlib.Core.Bool.{Bool, true, false}
 use lib.Ieee.{Float, nan}
@@ -26,7 +26,7 @@ use Rattle.numeric.specs.Stores.{Ascending, StoreShape, gathered, columns, keep
 use Rattle.numeric.specs.Rows.{RowsHeld, Stacked, lOf, columnOf, InColumns}
 use Rattle.factor.specs.declared.Factored.{Factored}
 use Rattle.factor.specs.declared.Factored.the-variants.{Solved, Zero, Overflow}
-use Rattle.base.specs.Scratch.{cursorsFrom, listFrom, regionsEnd}
+use Rattle.base.specs.Scratch.{inverseFrom, upperCuts, cursorsFrom, listFrom, regionsEnd}
 use Rattle.base.specs.Limits.{maxRows}
 
 -- ---- the answer
@@ -78,7 +78,11 @@ LowerPlaced Plain P n L l = PlacedSide Plain Lower P n (L .lower-starts) (L .low
 LowerPlaced Shared P n L l = Starts Shared P n (L .lower-starts) (length l)
 LowerPlaced ByRow P n L l = l ≡ []
 
--- questions 1 to 11 are passed, and the lists of every place stand in their stores
+-- slots n to 2n hold the inverse of the column order
+abbrev pub Inverse : Input → List ℕ → Type 0
+Inverse i s = (j : ℕ) → j < i .n → getD s (inverseFrom (i .n) + j) 0 ≡ ic (i .c) (i .n) j
+
+-- questions 1 to 11 are passed, the lists of every place stand in their stores, and the inverse order in scratch
 pub record Factorable (f : Form) (i : Input) (L : PlacedLists) (w : Workspace) : Type 0 where
   pub lent : SolveLent i (length (w .marks))
   pub settled : Settled i
@@ -87,6 +91,17 @@ pub record Factorable (f : Form) (i : Input) (L : PlacedLists) (w : Workspace) :
   pub reciprocals : length (w .d) ≡ i .n
   pub scratch : length (w .work) ≡ 3 * i .n
   pub slots : regionsEnd (i .n) ≤ length (w .marks)
+  pub inverse : Inverse i (w .marks)
+
+-- ---- before the first row
+
+-- the n slots from `from` on are zero
+unfoldable pub zeroed : ℕ → ℕ → List ℕ → List ℕ
+zeroed n from s = sets s from (replicate n 0)
+
+-- no mark has a stamp, and no column of L has a value
+abbrev pub freshMarks : ℕ → List ℕ → List ℕ
+freshMarks n s = zeroed n (cursorsFrom n) (zeroed n 0 s)
 
 -- ---- between two rows. Scratch has the inverse column order from slot n on, the cuts from 3n, the cursors of L from 4n, lower row k from 5n.
 
@@ -96,15 +111,15 @@ LowerHeld Plain S rows k starts cursors l = Stacked nought (lOf rows) k starts l
 LowerHeld Shared S rows k starts cursors l = InColumns (S .n) starts cursors l (columnOf (S .lower) rows k)
 LowerHeld ByRow S rows k starts cursors l = l ≡ []
 
--- slots n to 2n hold the inverse of the column order
-abbrev pub Inverse : Input → List ℕ → Type 0
-Inverse i s = (j : ℕ) → j < i .n → getD s (i .n + j) 0 ≡ ic (i .c) (i .n) j
+-- by which lower row k is found in pattern P: no mark has its stamp, and the lists before it and their cuts stand
+abbrev pub RowDue : Pattern → ℕ → ℕ → List ℕ → List ℕ → List ℕ → List ℕ → Type 0
+RowDue P n k s starts runs index = found.PlaceReady P n k (k + 1) (upperCuts n) s starts runs index
 
--- by which lower row k is found: the plain form reads it
+-- the plain form reads it
 abbrev pub Finding : Form → Input → PlacedLists → ℕ → List ℕ → Type 0
 Finding Plain i L k s = Unit {0}
-Finding Shared i L k s = found.PlaceReady (stored i) (i .n) k (k + 1) (3 * i .n) s (L .upper-starts) (L .upper-runs) (L .upper-index)
-Finding ByRow i L k s = found.PlaceReady (stored i) (i .n) k (k + 1) (3 * i .n) s (L .upper-starts) (L .upper-runs) (L .upper-index)
+Finding Shared i L k s = RowDue (stored i) (i .n) k s (L .upper-starts) (L .upper-runs) (L .upper-index)
+Finding ByRow i L k s = RowDue (stored i) (i .n) k s (L .upper-starts) (L .upper-runs) (L .upper-index)
 
 -- rows 0 to k - 1 are done
 pub record Going (f : Form) (i : Input) (L : PlacedLists) (k : ℕ) (w : Workspace) : Type 0 where
@@ -113,7 +128,6 @@ pub record Going (f : Form) (i : Input) (L : PlacedLists) (k : ℕ) (w : Workspa
   pub held : RowsHeld (system i) rows (i .n) k (w .work) (L .upper-starts) (L .upper-runs) (L .upper-index) (w .upper)
   pub pivots : (j : ℕ) → j < k → getD (w .d) j nan ≡ getD rows j none .d
   pub lower : LowerHeld f (system i) rows k (L .lower-starts) (drop (cursorsFrom (i .n)) (w .marks)) (w .lower)
-  pub inverse : Inverse i (w .marks)
   pub finding : Finding f i L k (w .marks)
 
 -- rows 0 to k - 1 are done, or the listed operations meet a fault in one of them
@@ -146,15 +160,15 @@ pub record Findable (P : Pattern) (n k : ℕ) (starts columns r ustarts runs ind
   pub columns-below : Below n (rowOf starts columns (getD r k 0))
   pub inverse : marking.Order n s
   pub entries : (j : ℕ) → j < n → has (placed (orderOf n s) (rowOf starts columns (getD r k 0))) j ≡ P k j
-  pub held : found.PlaceReady P n k (k + 1) (3 * n) s ustarts runs index
+  pub held : RowDue P n k s ustarts runs index
   pub store : found.Stored P n (k + 1) ustarts runs index
 
 -- lower row k, so long, stands from slot 5n on; the inverse order and the cursors are as they were, and row k + 1 can be found
 pub record LowerFound (P : Pattern) (n k below : ℕ) (ustarts runs index s₀ s : List ℕ) : Type 0 where
-  pub next : found.PlaceReady P n (k + 1) (k + 1 + 1) (3 * n) s ustarts runs index
+  pub next : RowDue P n (k + 1) s ustarts runs index
   pub size : below ≡ length (lowerRow P k)
   pub lower : lowerIn n below s ≡ lowerRow P k
-  pub inverse : (j : ℕ) → j < n → getD s (n + j) 0 ≡ getD s₀ (n + j) 0
+  pub inverse : (j : ℕ) → j < n → getD s (inverseFrom n + j) 0 ≡ getD s₀ (inverseFrom n + j) 0
   pub cursors : (j : ℕ) → j < n → getD s (cursorsFrom n + j) 0 ≡ getD s₀ (cursorsFrom n + j) 0
 
 -- the plain form reads it, the others find it anew: what that asks, and what it leaves

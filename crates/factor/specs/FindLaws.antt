@@ -1,7 +1,7 @@
 -- Lower row k found anew, in the forms that keep no lower rows: from what its calls leave, and between two rows.
 use mathlib.Core.Path.{_≡_, refl, sym, ap, _∙_}
 use mathlib.Core.List.{List, [], _∷_, map}
-use Prim.Native.Nat.{ℕ, suc, _+_, _*_, _<_, _≤_}
+use Prim.Native.Nat.{ℕ, suc, _+_, _<_, _≤_}
 use native.Mathlib.Omega.{arith}
 use lib.ListN.{length, getD, take, drop, length-drop}
 use lib.Seq.{getD-take, getD-drop, ext-getD, length-take-le}
@@ -18,16 +18,16 @@ use Rattle.lent.specs.Reading.{Below, But, orderOf, placed}
 use Rattle.lent.specs.ReadingLaws.{order-read}
 use Rattle.marks.specs.Marks.{Holds, Base, Parts, Blocks, members}
 use Rattle.marks.specs.MarkLaws.{holds-same}
-use Rattle.marks.specs.Rows.{Stored, PlaceReady, Loaded, LowerListed, Closing, Renewed}
+use Rattle.marks.specs.Rows.{Stored, Loaded, LowerListed, Closing, Renewed}
 use Rattle.marks.specs.FillLaws.{held-parts}
 use Rattle.marks.specs.ListLaws.{lower-members, lower-marks, lower-read, lower-but, lower-le}
 use Rattle.marks.specs.Turn.{loaded-cuts, closed-marks, place-turn}
-use Rattle.factor.specs.Factoring.{PlacedLists, Workspace, Going, Findable, LowerFound, lowerIn}
-use Rattle.base.specs.Scratch.{cursorsFrom, listFrom, zFrom}
+use Rattle.factor.specs.Factoring.{PlacedLists, Workspace, Going, RowDue, Findable, LowerFound, lowerIn}
+use Rattle.base.specs.Scratch.{blocksFrom, upperCuts, cursorsFrom, listFrom}
 
 -- ---- one finding, from what its calls leave
 
-pub base-at : (n : ℕ) → Base n (3 * n)
+pub base-at : (n : ℕ) → Base n (upperCuts n)
 base-at n = record { low = omega arith; high = omega arith }
 
 module _ {P : Pattern} {n k : ℕ} {starts columns r index runs ustarts s₀ : List ℕ} (F : Findable P n k starts columns r ustarts runs index s₀) where
@@ -35,19 +35,19 @@ module _ {P : Pattern} {n k : ℕ} {starts columns r index runs ustarts s₀ : L
     marked-row : Holds n (k + 1) s₁ (P k)
     marked-row = holds-same n (k + 1) s₁ (has (placed (orderOf n s₀) (rowOf starts columns (getD r k 0)))) (P k) (F .entries) (loaded .row (F .held .fresh))
 
-    pub close-parts : Parts n k s₁ (3 * n) runs index
-    close-parts = held-parts P n k ustarts runs index (F .held .store) (3 * n) s₁
-        (loaded-cuts P n k (k + 1) (3 * n) (listFrom n) (F .place) (base-at n) (omega arith) ustarts runs index s₀ s₁ s₁ (F .held) (loaded .same) marked-row) (omega (arith, F .place))
+    pub close-parts : Parts n k s₁ (upperCuts n) runs index
+    close-parts = held-parts P n k ustarts runs index (F .held .store) (upperCuts n) s₁
+        (loaded-cuts P n k (k + 1) (upperCuts n) (listFrom n) (F .place) (base-at n) (omega arith) ustarts runs index s₀ s₁ s₁ (F .held) (loaded .same) marked-row) (omega (arith, F .place))
 
     pub close-blocks : Blocks n (k + 1) s₁
     close-blocks = marked-row .blocks
 
-    module _ {s₃ : List ℕ} {below : ℕ} (closing : Closing n (k + 1) k (3 * n) runs index s₁ s₃ below) (l₃ : length s₃ ≡ length s₁) where
+    module _ {s₃ : List ℕ} {below : ℕ} (closing : Closing n (k + 1) k (upperCuts n) runs index s₁ s₃ below) (l₃ : length s₃ ≡ length s₁) where
       abbrev s₂ : List ℕ
       s₂ = closing .mid
 
       filled-row : Holds n (k + 1) s₂ (filled P k)
-      filled-row = closed-marks P n k (k + 1) (3 * n) (listFrom n) (F .place) (base-at n) (omega arith) ustarts runs index s₀ s₁ s₂ (F .held) (loaded .same) marked-row (closing .closed)
+      filled-row = closed-marks P n k (k + 1) (upperCuts n) (listFrom n) (F .place) (base-at n) (omega arith) ustarts runs index s₀ s₁ s₂ (F .held) (loaded .same) marked-row (closing .closed)
 
       listed : LowerListed P n k s₂ s₃ below
       listed = closing .lower P filled-row
@@ -65,9 +65,9 @@ module _ {P : Pattern} {n k : ℕ} {starts columns r index runs ustarts s₀ : L
       pub cut-members : take below (drop (listFrom n) s₃) ≡ members (k + 1) s₃ 0 k
       cut-members = lower-read P n k s₂ s₃ below listed fits (F .place) ∙ sym (lower-members P n (k + 1) k s₃ (F .place) kept-marks)
 
-      module _ {s₄ : List ℕ} (renewed : Renewed n (k + 1) k (3 * n) ustarts runs index s₃ s₄) (l₄ : length s₄ ≡ length s₃) where
+      module _ {s₄ : List ℕ} (renewed : Renewed n (k + 1) k (upperCuts n) ustarts runs index s₃ s₄) (l₄ : length s₄ ≡ length s₃) where
         -- a slot that no step writes
-        same : (q : ℕ) → n ≤ q → (zFrom n ≤ q → cursorsFrom n ≤ q) → q < listFrom n → getD s₄ q 0 ≡ getD s₀ q 0
+        same : (q : ℕ) → n ≤ q → (blocksFrom n ≤ q → cursorsFrom n ≤ q) → q < listFrom n → getD s₄ q 0 ≡ getD s₀ q 0
         same q a b c =
             renewed .kept q (λ e. omega (arith, b (omega arith), F .place))
             ∙ written q (λ e. absurd (omega arith))
@@ -87,7 +87,7 @@ module _ {P : Pattern} {n k : ℕ} {starts columns r index runs ustarts s₀ : L
 
         pub found : LowerFound P n k below ustarts runs index s₀ s₄
         found = record {
-          next = place-turn P n k (k + 1) (3 * n) (listFrom n) (F .place) (base-at n) (omega arith) ustarts runs index s₀ s₁ s₂ (F .held) (loaded .same) marked-row (closing .closed) s₃ (listFrom n + below) written
+          next = place-turn P n k (k + 1) (upperCuts n) (listFrom n) (F .place) (base-at n) (omega arith) ustarts runs index s₀ s₁ s₂ (F .held) (loaded .same) marked-row (closing .closed) s₃ (listFrom n + below) written
               s₄ ustarts runs index (F .store) renewed (k + 1 + 1) (omega arith);
           size = listed .lower;
           lower = lower-same ∙ lower-read P n k s₂ s₃ below listed fits (F .place);
@@ -117,7 +117,7 @@ placed-stored f P n k starts runs index size h S = record {
 }
 
 module _ {f : Form} {i : Input} {L : PlacedLists} {k : ℕ} {w : Workspace} (G : Going f i L k w) (h : k < i .n)
-    (H : PlaceReady (stored i) (i .n) k (k + 1) (3 * i .n) (w .marks) (L .upper-starts) (L .upper-runs) (L .upper-index)) where
+    (H : RowDue (stored i) (i .n) k (w .marks) (L .upper-starts) (L .upper-runs) (L .upper-index)) where
   abbrev own : ℕ
   own = getD (i .r) k 0
 
@@ -143,8 +143,8 @@ module _ {f : Form} {i : Input} {L : PlacedLists} {k : ℕ} {w : Workspace} (G :
           inside = omega (arith, row .up, row .within);
         };
         columns-below = columns-in;
-        inverse = λ j l. rw (← order-read (i .n) (w .marks) j l, G .inverse j l) (place-hits (i .c) (i .n) (g .column-order) j l .0);
-        entries = λ j l. ap (λ (x : List ℕ). has x j) (placed-is (ic (i .c) (i .n)) (i .n) (w .marks) (columnsAt i k) (G .inverse) columns-in);
+        inverse = λ j l. rw (← order-read (i .n) (w .marks) j l, G .given .inverse j l) (place-hits (i .c) (i .n) (g .column-order) j l .0);
+        entries = λ j l. ap (λ (x : List ℕ). has x j) (placed-is (ic (i .c) (i .n)) (i .n) (w .marks) (columnsAt i k) (G .given .inverse) columns-in);
         held = H;
         store = placed-stored f (stored i) (i .n) k (L .upper-starts) (L .upper-runs) (L .upper-index) (length (w .upper)) h (G .given .upper-side);
       }

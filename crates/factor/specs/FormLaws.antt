@@ -2,7 +2,7 @@
 use mathlib.Core.Path.{_≡_, refl, sym, ap, _∙_, subst}
 use mathlib.Core.Bool.{Bool, true}
 use mathlib.Core.List.{List, [], _∷_, _++_}
-use Prim.Native.Nat.{ℕ, _+_, _*_, _<_, _≤_}
+use Prim.Native.Nat.{ℕ, _+_, _<_, _≤_}
 use native.Mathlib.Omega.{arith}
 use lib.ListN.{length, getD, take, drop, length-drop}
 use lib.Seq.{sets, ext-getD, getD-take, getD-drop, length-take-le}
@@ -36,7 +36,7 @@ use Rattle.factor.specs.SystemLaws.{lower-ascends, system-closed}
 use Rattle.factor.specs.ColumnLaws.{shared-side, shared-fits}
 use Rattle.factor.specs.FindLaws.{findable}
 use Rattle.factor.specs.TurnLaws.{SameSizes, row-at, row-room, lower-in, row-closable, going-more}
-use Rattle.base.specs.Scratch.{cursorsFrom, listFrom}
+use Rattle.base.specs.Scratch.{upperCuts, cursorsFrom, listFrom}
 use Rattle.base.specs.Limits.{maxRows}
 
 -- ---- lower row k in the marks
@@ -78,7 +78,7 @@ module _ {i : Input} {L : PlacedLists} {k : ℕ} {w : Workspace} (G : Going Plai
   plain-given {m} {below} e = record {
     size = e .0 ∙ ap length lower-read;
     lower = rw (e .1) (sets-part (w .marks) (rowOf (L .lower-starts) (L .lower-index) k) (listFrom (i .n)) below (sym (e .0)) (omega (arith, e .0, plain-asked .1 .room)) ∙ lower-read);
-    inverse = λ j b. rw (e .1) (sets-below (w .marks) (listFrom (i .n)) (rowOf (L .lower-starts) (L .lower-index) k) (i .n + j) (omega arith) ∙ G .inverse j b);
+    inverse = λ j b. rw (e .1) (sets-below (w .marks) (listFrom (i .n)) (rowOf (L .lower-starts) (L .lower-index) k) (i .n + j) (omega arith) ∙ G .given .inverse j b);
     finding = tt;
   }
 
@@ -108,8 +108,8 @@ lower-given : {i : Input} {L : PlacedLists} {k : ℕ} {w : Workspace} (f : Form)
     → LowerGiven (readsLower f) (i .n) k below (i .starts) (i .columns) (i .r) L (w .marks) m → Lowered f i L k below m
 unfolding LowerGiven
 lower-given Plain G h m below e = plain-given G h e
-lower-given {i = i} Shared G h m below e = let F = e (stored i) (findable G h (G .finding)) in record { size = F .size; lower = F .lower; inverse = λ j l. F .inverse j l ∙ G .inverse j l; finding = F .next }
-lower-given {i = i} ByRow G h m below e = let F = e (stored i) (findable G h (G .finding)) in record { size = F .size; lower = F .lower; inverse = λ j l. F .inverse j l ∙ G .inverse j l; finding = F .next }
+lower-given {i = i} Shared G h m below e = let F = e (stored i) (findable G h (G .finding)) in record { size = F .size; lower = F .lower; inverse = λ j l. F .inverse j l ∙ G .given .inverse j l; finding = F .next }
+lower-given {i = i} ByRow G h m below e = let F = e (stored i) (findable G h (G .finding)) in record { size = F .size; lower = F .lower; inverse = λ j l. F .inverse j l ∙ G .given .inverse j l; finding = F .next }
 
 -- what row k's steps find
 lowered-row : {f : Form} {i : Input} {L : PlacedLists} {k : ℕ} {w : Workspace} {m : List ℕ} {below : ℕ} → Going f i L k w → k < i .n → length m ≡ length (w .marks) → Lowered f i L k below m
@@ -213,8 +213,8 @@ kept-held {i = i} ByRow G h m below e em next g l x en K = K ∙ G .lower
 
 held-stays : (i : Input) (L : PlacedLists) (k : ℕ) (m x : List ℕ) → k < i .n → But (cursorsFrom (i .n)) (listFrom (i .n)) m x → Finding ByRow i L (k + 1) m → Finding ByRow i L (k + 1) x
 held-stays i L k m x h same F =
-    held-kept (stored i) (i .n) (k + 1) (k + 1 + 1) (k + 1 + 1) (3 * i .n) m x (L .upper-starts) (L .upper-runs) (L .upper-index)
-    (λ j b. same (3 * i .n + j) (λ e. absurd (omega arith))) (λ j b. rw (same j (λ e. absurd (omega arith))) (F .fresh j b)) F
+    held-kept (stored i) (i .n) (k + 1) (k + 1 + 1) (k + 1 + 1) (upperCuts (i .n)) m x (L .upper-starts) (L .upper-runs) (L .upper-index)
+    (λ j b. same (upperCuts (i .n) + j) (λ e. absurd (omega arith))) (λ j b. rw (same j (λ e. absurd (omega arith))) (F .fresh j b)) F
 
 finding-stays : (f : Form) (i : Input) (L : PlacedLists) (k : ℕ) (m x : List ℕ) → k < i .n → But (cursorsFrom (i .n)) (listFrom (i .n)) m x → Finding f i L (k + 1) m → Finding f i L (k + 1) x
 finding-stays Plain i L k m x h same F = tt

@@ -32,7 +32,7 @@ use Rattle.factor.specs.Factoring.{FactoredAs, CameTo, isFault, PlacedLi
 use Rattle.factor.specs.SystemLaws.{lower-below, system-closed, placed-shape}
 use Rattle.base.specs.Scratch.{cursorsFrom}
 
--- ---- what is lent stays so: it depends on what is written by lengths alone
+-- ---- what is lent stays so: but for the inverse order, it depends on what is written by lengths alone
 
 pub record SameSizes (w x : Workspace) : Type 0 where
   pub lower-size : length (x .lower) ≡ length (w .lower)
@@ -62,8 +62,8 @@ lower-same Plain P n L l m e h = rw e h
 lower-same Shared P n L l m e h = rw e h
 lower-same ByRow P n L l m e h = none-left l m e h
 
-pub same-given : {f : Form} {i : Input} {L : PlacedLists} {w x : Workspace} → SameSizes w x → Factorable f i L w → Factorable f i L x
-same-given {f} {i} {L} {w} {x} s F = record {
+pub same-given : {f : Form} {i : Input} {L : PlacedLists} {w x : Workspace} → SameSizes w x → Inverse i (x .marks) → Factorable f i L w → Factorable f i L x
+same-given {f} {i} {L} {w} {x} s inv F = record {
   lent = rw (s .marks-size) (F .lent);
   settled = F .settled;
   lower-side = lower-same f (stored i) (i .n) L (w .lower) (x .lower) (s .lower-size) (F .lower-side);
@@ -71,6 +71,7 @@ same-given {f} {i} {L} {w} {x} s F = record {
   reciprocals = s .d-size ∙ F .reciprocals;
   scratch = s .work-size ∙ F .scratch;
   slots = rw (s .marks-size) (F .slots);
+  inverse = inv;
 }
 
 -- ---- the answer of a row, t being whether it is a fault
@@ -172,7 +173,7 @@ module _ {f : Form} {i : Input} {L : PlacedLists} {k : ℕ} {w : Workspace} (G :
     pub going-more : LowerHeld f (system i) (G .rows ++ (next ∷ [])) (k + 1) (L .lower-starts) (drop (cursorsFrom (i .n)) (x .marks)) (x .lower) → Inverse i (x .marks)
         → Finding f i L (k + 1) (x .marks) → Going f i L (k + 1) x
     going-more kept inv find = record {
-      given = same-given s (G .given);
+      given = same-given s inv (G .given);
       rows = G .rows ++ (next ∷ []);
       held = held-more (system i) (G .rows) (i .n) k (w .work) (L .upper-starts) (L .upper-runs) (L .upper-index) (w .upper) (G .held) h (G .given .scratch) (system-closed i k h)
           (placed-shape f (stored i) (i .n) (L .upper-starts) (L .upper-runs) (L .upper-index) (length (w .upper)) (G .given .upper-side))
@@ -180,6 +181,5 @@ module _ {f : Form} {i : Input} {L : PlacedLists} {k : ℕ} {w : Workspace} (G :
           (subst (λ (q : Pivot). Reduced (system i) (G .rows) (i .n) k (L .upper-starts) (w .work) g (w .upper) (x .upper) q) ep R) Q;
       pivots = pivot-at;
       lower = kept;
-      inverse = inv;
       finding = find;
     }

@@ -14,7 +14,6 @@ ghost use Prim.Native.Nat.{ℕ, _+_, _*_, _-_, _<_, _≤_};
 ghost use lib.ListN.{length, getD, take, drop};
 ghost use lib.Seq.{sets};
 ghost use Rattle.base.specs.Lists.{nought, blank, listAt, rowOf};
-ghost use Rattle.questions.specs.Lent.{InverseLent, invertedAt};
 ghost use Rattle.base.specs.declared.Form.the-variants.{Shared};
 ghost use Rattle.matrix.specs.Input.{inputOf};
 ghost use Rattle.arithmetic.specs.Arith.{Row};
@@ -22,10 +21,11 @@ ghost use Rattle.arithmetic.specs.Stopping.{back};
 ghost use Rattle.outcome.specs.Solve.{system};
 ghost use Rattle.numeric.specs.Stores.{Closable, gathered, storeGiven};
 ghost use Rattle.numeric.specs.Rows.{RowsHeld, Reduced, Shut};
-ghost use Rattle.factor.specs.Factoring.{FactoredAs, lists, written, Factorable, Going, CameTo, isFault, lowerIn, LowerAt, Findable, LowerFound, readsLower, LowerAsked, LowerGiven, RowReady, Keepable, Spread, KeepAsked, KeepGiven, BackReady, backAs};
+ghost use Rattle.factor.specs.Factoring.{FactoredAs, lists, written, Factorable, zeroed, freshMarks, Going, CameTo, isFault, lowerIn, LowerAt, Findable, LowerFound, readsLower, LowerAsked, LowerGiven, RowReady, Keepable, Spread, KeepAsked, KeepGiven, BackReady, backAs};
 ghost use Rattle.base.specs.Scratch.{listFrom, zFrom};
 ghost use Rattle.fill.specs.Fill.{Pattern};
 ghost use Rattle.lent.specs.Reading.{ListIn};
+ghost use Rattle.marks.specs.Marks.{Room};
 
 // Every row is done and z is found, or what the arithmetic meets first.
 pub enum Factored {
@@ -483,28 +483,36 @@ fn eliminate_rows(
     Factored::Solved
 }
 
-// Zeros where rows will stand and in scratch, and the inverse order.
+// Clears the n slots from `from` on.
+fn clear_region(n: usize, from: usize, marks: &mut [u32])
+    requires { ⌜ from + n ≤ length (now marks) ⌝ }
+    ensures { λ _. ⌜ now (marks .exit) ≡ zeroed n from (now (marks .entry)) ⌝ }
+{
+    let end = from + n;
+    base::clear_u32(&mut marks[from..end]);
+}
+
+// Clears what the rows find zero: the value stores, the working row, the marks and the cursors of L. The inverse order stays.
 fn clear_for_rows(
     n: usize,
-    c: &[Index],
     lower_values: &mut [f64],
     upper_values: &mut [f64],
     work: &mut [f64],
     marks: &mut [u32],
 )
-    requires { ⌜ InverseLent n (now c) (length (now marks) - n) ⌝ }
+    requires { ⌜ Room n (now marks) ⌝ }
     ensures { λ _. ⌜ (now («lower_values» .exit) ≡ blank nought (now («lower_values» .entry))) × (now («upper_values» .exit) ≡ blank nought (now («upper_values» .entry)))
-        × (now (work .exit) ≡ blank nought (now (work .entry))) × (now (marks .exit) ≡ invertedAt (now (c .entry)) n (blank 0 (now (marks .entry)))) ⌝ }
+        × (now (work .exit) ≡ blank nought (now (work .entry))) × (now (marks .exit) ≡ freshMarks n (now (marks .entry))) ⌝ }
 {
     base::clear_f64(lower_values);
     base::clear_f64(upper_values);
     base::clear_f64(work);
-    base::clear_u32(marks);
-    questions::invert_at(n, c, marks);
+    clear_region(n, 0, marks);
+    clear_region(n, scratch::CURSORS * n, marks);
 }
 
-// The factors and z in a form, which passes [] for what it lacks, and its list starts as run starts where it has none. Another call clears
-// scratch, and after a fault all that this writes.
+// Gives the factors and z in a form, which passes [] for what it lacks, and its list starts as run starts where it has none. The column order c
+// is the one whose inverse scratch holds. Another call clears scratch, and after a fault all that this writes.
 pub fn factor(
     form: Form,
     n: usize,
@@ -512,7 +520,6 @@ pub fn factor(
     columns: &[Index],
     values: &[f64],
     r: &[Index],
-    c: &[Index],
     b: &[f64],
     lower_starts: &[u32],
     lower_index: &[Index],
@@ -525,11 +532,13 @@ pub fn factor(
     work: &mut [f64],
     marks: &mut [u32],
 ) -> Factored
-    requires { ⌜ Factorable form (inputOf n (now starts) (now columns) (now values) (now r) (now c) (now b)) (lists (now «lower_starts») (now «lower_index») (now «upper_starts») (now «upper_runs») (now «upper_index»)) (written (now «lower_values») (now «upper_values») (now d) (now work) (now marks)) ⌝ }
-    ensures { λ a. ⌜ FactoredAs form (inputOf n (now (starts .entry)) (now (columns .entry)) (now (values .entry)) (now (r .entry)) (now (c .entry)) (now (b .entry))) a
-        (now («lower_values» .exit)) (now («upper_values» .exit)) (now (d .exit)) (drop (zFrom n) (now (work .exit))) ⌝ }
+    requires { ⌜ ((c : List ℕ) × Factorable form (inputOf n (now starts) (now columns) (now values) (now r) c (now b)) (lists (now «lower_starts») (now «lower_index») (now «upper_starts») (now «upper_runs») (now «upper_index»)) (written (now «lower_values») (now «upper_values») (now d) (now work) (now marks))) ⌝ }
+    ensures { λ a. ⌜ ((c : List ℕ)
+        → Factorable form (inputOf n (now (starts .entry)) (now (columns .entry)) (now (values .entry)) (now (r .entry)) c (now (b .entry))) (lists (now («lower_starts» .entry)) (now («lower_index» .entry)) (now («upper_starts» .entry)) (now («upper_runs» .entry)) (now («upper_index» .entry))) (written (now («lower_values» .entry)) (now («upper_values» .entry)) (now (d .entry)) (now (work .entry)) (now (marks .entry)))
+        → FactoredAs form (inputOf n (now (starts .entry)) (now (columns .entry)) (now (values .entry)) (now (r .entry)) c (now (b .entry))) a
+        (now («lower_values» .exit)) (now («upper_values» .exit)) (now (d .exit)) (drop (zFrom n) (now (work .exit)))) ⌝ }
 {
-    clear_for_rows(n, c, lower_values, upper_values, work, marks);
+    clear_for_rows(n, lower_values, upper_values, work, marks);
     let a = eliminate_rows(
         form,
         n,

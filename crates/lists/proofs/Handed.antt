@@ -5,6 +5,7 @@ use mathlib.Core.List.{List, [], _∷_, _++_, append-assoc}
 use Prim.Native.Nat.{ℕ, zero, suc, _+_, _≤_, _<_}
 use native.Mathlib.Omega.{arith}
 use lib.ListN.{length, getD}
+use lib.Seq.{take-at}
 use lib.Dec.{leb, eqb}
 use lib.Ieee.{Float}
 use borrow.Author.Tests.{leb-true, le-leb, eq-eqb}
@@ -117,14 +118,14 @@ runs-kept ByRow v side P n z values = absurd (false≢true v)
 
 standing : (f : Form) → leaves f ≡ true → (side : Side) (P : Pattern) (n : ℕ) (z : SideSizes) (values : List Float) (b : SideBuffers)
     → indexNeed f side P n n ≤ z .index → z .index ≤ maxSlots → b ≡ sidePlaced f side P n z values → Standing f side P n b
-unfolding sidePlaced indexNeed
+unfolding sidePlaced indexNeed padded
 standing f v side P n z values b room few e =
     let long : length (padded 0 (z .index) (placedTo f side P n n .slots)) ≡ z .index = padded-length 0 (z .index) (placedTo f side P n n .slots) room in
     rw e (record {
       placed = record {
         starts-are = refl;
         runs-are = runs-kept f v side P n z values;
-        index-is = ap (λ (m : ℕ). padded 0 m (placedTo f side P n n .slots)) (sym long);
+        slots-are = take-at (placedTo f side P n n .slots) _ _ refl;
         index-in = omega arith;
         values-in = omega arith;
       };

@@ -1,10 +1,10 @@
--- A side's lists as a success leaves them in its stores, and the laws by which they are read. What the structure pass leaves and the arithmetic finds.
+-- A side's lists as they stand in its stores, written or presented, and the laws by which they are read. What the arithmetic finds.
 use mathlib.Core.Path.{_≡_, refl, sym, ap, _∙_}
-use mathlib.Core.List.{List, [], List·Memᴰ·not-nil}
+use mathlib.Core.List.{List, [], _++_, List·Memᴰ·not-nil}
 use Prim.Native.Nat.{ℕ, suc, _+_, _-_, _≤_, _<_}
 use native.Mathlib.Omega.{arith}
 use native.Mathlib.Numerals.{add-one}
-use lib.ListN.{length, getD, take, drop, replicate}
+use lib.ListN.{length, getD, take, drop, take-append-drop}
 use Rattle.base.specs.Lists.{table, listAt, padded}
 use Rattle.base.specs.TableLaws.{getD-table, length-table}
 use Rattle.fill.specs.Fill.{Pattern, lowerRow, flip}
@@ -24,13 +24,18 @@ RunsAre Plain side P n starts runs = runs ≡ starts
 RunsAre Shared side P n starts runs = runs ≡ placedTo Shared side P n n .runs
 RunsAre ByRow side P n starts runs = runs ≡ placedTo ByRow side P n n .runs
 
--- the lists of all places stand in the index store, their starts are right, and the value store has a slot for each entry
+-- the lists of all places stand in the used part of the index store, their starts are right, and the value store has a slot for each entry
 pub record PlacedSide (f : Form) (side : Side) (P : Pattern) (n : ℕ) (starts runs index : List ℕ) (values : ℕ) : Type 0 where
   pub starts-are : starts ≡ table (valueNeed f side P n) (n + 1)
   pub runs-are : RunsAre f side P n starts runs
-  pub index-is : index ≡ padded 0 (length index) (placedTo f side P n n .slots)
+  pub slots-are : take (indexNeed f side P n n) index ≡ placedTo f side P n n .slots
   pub index-in : indexNeed f side P n n ≤ length index
   pub values-in : valueNeed f side P n n ≤ values
+
+-- a side as a call that places its lists leaves it: the slots after them are zero
+pub record WrittenSide (f : Form) (side : Side) (P : Pattern) (n : ℕ) (starts runs index : List ℕ) (values : ℕ) : Type 0 where
+  pub placed : PlacedSide f side P n starts runs index values
+  pub index-is : index ≡ padded 0 (length index) (placedTo f side P n n .slots)
 
 -- the row form keeps no lower lists
 no-lists : (P : Pattern) (n : ℕ) → Nested (λ (k : ℕ). []) (lowerRow P) n
@@ -97,12 +102,12 @@ module _ (f : Form) (side : Side) (P : Pattern) (n : ℕ) (starts runs index : L
       omega (arith, k, run-at f side P n starts runs index values h i l .1, size-at f side P n starts runs index values h i l, h .index-in)
 
   pub list-at : (i : ℕ) → i < n → listAt starts runs index i ≡ listsOf f side P n i
-  unfolding listAt padded
+  unfolding listAt
   list-at i l =
       let k = lists-kept f side P n n (omega arith) .all i l in
       let e : getD starts (i + 1) 0 - getD starts i 0 ≡ length (listsOf f side P n i) = omega (arith, size-at f side P n starts runs index values h i l) in
       let r = run-at f side P n starts runs index values h i l .1 in
       ap (λ (m : ℕ). take m (drop (getD runs i 0) index)) e ∙ ap (λ (m : ℕ). take (length (listsOf f side P n i)) (drop m index)) r
-      ∙ ap (λ (s : List ℕ). take (length (listsOf f side P n i)) (drop (runOf (placedTo f side P n n) i) s)) (h .index-is)
-      ∙ part-append (runOf (placedTo f side P n n) i) (length (listsOf f side P n i)) (placedTo f side P n n .slots) (replicate (length index - length (placedTo f side P n n .slots)) 0) (k .inside)
+      ∙ ap (λ (s : List ℕ). take (length (listsOf f side P n i)) (drop (runOf (placedTo f side P n n) i) s)) (sym (take-append-drop (indexNeed f side P n n) index) ∙ ap (λ (s : List ℕ). s ++ drop (indexNeed f side P n n) index) (h .slots-are))
+      ∙ part-append (runOf (placedTo f side P n n) i) (length (listsOf f side P n i)) (placedTo f side P n n .slots) (drop (indexNeed f side P n n) index) (k .inside)
       ∙ k .reads

@@ -1,6 +1,6 @@
 -- Refactor: new values over a structure found before, in the plain or the shared form. Definitions only.
 use mathlib.Core.Bool.{Bool, true, false, not, _&&_}
-use mathlib.Core.List.{List, [], _∷_}
+use mathlib.Core.List.{List, []}
 use Prim.Native.Nat.{ℕ, suc, _+_}
 use lib.ListN.{length, getD, take, drop, replicate}
 use lib.Dec.{eqb}
@@ -9,7 +9,7 @@ use Rattle.base.specs.Lists.{padded, nought}
 use Rattle.base.specs.First.{first}
 use Rattle.base.specs.Answers.{spot, absent}
 use Rattle.fill.specs.Fill.{Pattern}
-use Rattle.placement.specs.Placing.{runOf}
+use Rattle.placement.specs.Placing.{same, runOf}
 use Rattle.matrix.specs.Input.{Input, stored, ownOrder}
 use Rattle.matrix.specs.Questions.{askSolve}
 use Rattle.arithmetic.specs.Arith.{Out, ok, met, Row, Result}
@@ -26,13 +26,6 @@ use Rattle.outcome.specs.Forms.{listsOf, placedTo, valueNeed}
 use Rattle.outcome.specs.Buffers.{SideBuffers, sideBuffers, Buffers, allBuffers, sizes, scratchCleared, Outcome, ended, stop}
 use Rattle.outcome.specs.Structure.{askPlace}
 use Rattle.outcome.specs.Solve.{shape, listed, faultOf, valuesKept, pivotsKept}
-
--- two lists are equal
-unfoldable pub same : List ℕ → List ℕ → Bool
-same [] [] = true
-same [] (y ∷ ys) = false
-same (x ∷ xs) [] = false
-same (x ∷ xs) (y ∷ ys) = eqb x y && same xs ys
 
 -- a run start of place k, where the form has them
 abbrev pub sameRun : Form → ℕ → ℕ → Bool

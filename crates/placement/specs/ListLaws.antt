@@ -10,8 +10,8 @@ use lib.ListN.{length, take, drop, getD, length-drop}
 use lib.Seq.{take-append-le, drop-append-le, take-length, take-nil}
 use lib.Dec.{ltb, eqb}
 use borrow.Author.Tests.{ltb-true, eqb-true, lt-ltb, eq-eqb}
-use Rattle.placement.specs.Placing.{countAbove, agree}
-use Rattle.base.specs.Tests.{by-test}
+use Rattle.placement.specs.Placing.{countAbove, agree, same}
+use Rattle.base.specs.Tests.{by-test, and-cases}
 
 -- strictly ascending, and each entry at least m
 abbrev pub Ascends : ℕ → List ℕ → Type 0
@@ -115,3 +115,15 @@ pub agree-self : (xs : List ℕ) → agree xs xs ≡ true
 unfolding agree
 agree-self [] = refl
 agree-self (x ∷ xs) = rw (eq-eqb x x refl) (agree-self xs)
+
+pub same-self : (xs : List ℕ) → same xs xs ≡ true
+unfolding same
+same-self [] = refl
+same-self (x ∷ xs) = rw (eq-eqb x x refl) (same-self xs)
+
+pub same-is : (xs ys : List ℕ) → same xs ys ≡ true → xs ≡ ys
+unfolding same
+same-is [] [] e = refl
+same-is [] (y ∷ ys) e = absurd (true≢false (sym e))
+same-is (x ∷ xs) [] e = absurd (true≢false (sym e))
+same-is (x ∷ xs) (y ∷ ys) e = let r = and-cases (eqb x y) (same xs ys) e in ap₂ (λ u v. u ∷ v) (eqb-true x y (r .0)) (same-is xs ys (r .1))

@@ -1,7 +1,7 @@
 -- Where the list of each place stands in an index store: document 01, "Fill". Definitions only.
 -- A side of the fill is T, the list of each place, and R, the row of each place: for the upper side T(k) and lower row k.
 use Prim.Native.Nat.{ℕ, zero, suc, _+_, _-_, min}
-use mathlib.Core.Bool.{Bool, true, false, cond}
+use mathlib.Core.Bool.{Bool, true, false, _&&_, cond}
 use mathlib.Core.List.{List, [], _∷_, _++_}
 use lib.ListN.{length, drop, getD}
 use lib.Dec.{ltb, eqb}
@@ -38,6 +38,13 @@ unfoldable pub agree : List ℕ → List ℕ → Bool
 agree [] ys = true
 agree (x ∷ xs) [] = true
 agree (x ∷ xs) (y ∷ ys) = cond (eqb x y) (agree xs ys) false
+
+-- the two lists are the same
+unfoldable pub same : List ℕ → List ℕ → Bool
+same [] [] = true
+same [] (y ∷ ys) = false
+same (x ∷ xs) [] = false
+same (x ∷ xs) (y ∷ ys) = eqb x y && same xs ys
 
 -- the used part of the index store, the run starts so far, and the last run's start
 pub record State : Type 0 where

@@ -13,13 +13,14 @@ use Rattle.fill.specs.Fill.{Pattern}
 use Rattle.matrix.specs.Input.{Input, stored, ownOrder}
 use Rattle.outcome.specs.Buffers.{SideBuffers, Buffers, allBuffers, sideBuffers, noSide, sideSizes, sizes, sideCleared, cleared, scratchCleared, ended}
 use Rattle.outcome.specs.Forms.{placedTo}
-use Rattle.outcome.specs.Placed.{RunsAre, PlacedSide}
+use Rattle.outcome.specs.Placed.{RunsAre, PlacedSide, WrittenSide}
 use Rattle.outcome.specs.Structure.{askPlaces, counts, runsKept, sidePlaced, structured, structure}
 use Rattle.outcome.specs.Solve.{listed, faultOf, valuesKept, kept, concluded, solve}
 use Rattle.arithmetic.specs.Arith.{Out, ok, met, Result}
 use Rattle.factor.specs.Factoring.{lists, written, LowerPlaced, Factors, FactoredAs}
 use Rattle.factor.specs.declared.Factored.{Factored}
 use Rattle.factor.specs.declared.Factored.the-variants.{Solved, Zero, Overflow}
+use Rattle.columns.specs.Sides.{Inverse}
 use Rattle.symbolic.specs.Pass.{slotsOf, foundAnswer, Analyzed, AnalyzedBoth}
 use Rattle.base.specs.declared.Form.{Form}
 use Rattle.base.specs.declared.Form.the-variants.{Plain, Shared, ByRow}
@@ -81,12 +82,12 @@ abbrev pub Stands : Form → Side → Pattern → ℕ → SideBuffers → SideBu
 Stands f side P n s t = (values : List Float) → t .values ≡ padded nought (length (s .values)) values → t ≡ sidePlaced f side P n (sideSizes s) values
 
 -- runs are those that the lists are read by
-pub stands : (f : Form) (side : Side) (P : Pattern) (n : ℕ) (s t : SideBuffers) (runs : List ℕ) (room : ℕ) → PlacedSide f side P n (t .starts) runs (t .index) room
+pub stands : (f : Form) (side : Side) (P : Pattern) (n : ℕ) (s t : SideBuffers) (runs : List ℕ) (room : ℕ) → WrittenSide f side P n (t .starts) runs (t .index) room
     → length (t .index) ≡ length (s .index) → t .runs ≡ runsKept f (length (s .runs)) (placedTo f side P n n) → Stands f side P n s t
 unfolding sidePlaced
 stands f side P n s t runs room h e r values v =
     let i : t .index ≡ padded 0 (length (s .index)) (placedTo f side P n n .slots) = h .index-is ∙ ap (λ (m : ℕ). padded 0 m (placedTo f side P n n .slots)) e in
-    rw (h .starts-are, i, r, v)
+    rw (h .placed .starts-are, i, r, v)
 
 -- ---- 12 and 13
 
@@ -144,13 +145,13 @@ concluded-is Shared i s t k (ok a) r e g h = rw (g .0, e, kept-is Shared i s t a
 concluded-is ByRow i s t k (ok a) r e g h = rw (g .0, e, g .2)
 
 -- the structure pass of a solve looks at the pattern alone
-found-pattern : (f : Form) (i : Input) (z : Sizes) (us ur ui : List ℕ) (uv : ℕ) (a : Answer) → Analyzed f (pattern i) z us ur ui uv a → Analyzed f i z us ur ui uv a
+found-pattern : (f : Form) (i : Input) (z : Sizes) (us ur ui : List ℕ) (uv : ℕ) (m : List ℕ) (a : Answer) → Analyzed f (pattern i) z us ur ui uv m a → Analyzed f i z us ur ui uv m a
 unfolding stored counts
-found-pattern f i z us ur ui uv a h = record { answer = h .answer; upper = h .upper }
+found-pattern f i z us ur ui uv m a h = record { answer = h .answer; upper = h .upper; inverse = λ p. record { place = h .inverse p .place } }
 
-both-pattern : (f : Form) (i : Input) (z : Sizes) (ls lr li us ur ui : List ℕ) (lv uv : ℕ) (a : Answer) → AnalyzedBoth f (pattern i) z ls lr li lv us ur ui uv a → AnalyzedBoth f i z ls lr li lv us ur ui uv a
-unfolding stored counts
-both-pattern f i z ls lr li us ur ui lv uv a h = record { found = record { answer = h .found .answer; upper = h .found .upper }; lower = h .lower }
+both-pattern : (f : Form) (i : Input) (z : Sizes) (ls lr li us ur ui m : List ℕ) (lv uv : ℕ) (a : Answer) → AnalyzedBoth f (pattern i) z ls lr li lv us ur ui uv m a → AnalyzedBoth f i z ls lr li lv us ur ui uv m a
+unfolding stored
+both-pattern f i z ls lr li us ur ui m lv uv a h = record { found = found-pattern f i z us ur ui uv m a (h .found); lower = h .lower }
 
 -- the structure pass refused
 leaves-by : (f : Form) (i : Input) (s t : Buffers) (a : Answer) → a ≡ foundAnswer (askPlaces f (stored i) (i .n) (slots (sizes s)) (i .n)) (counts i)
@@ -160,43 +161,43 @@ leaves-by f i s t (Done c) g h x = never false refl h
 leaves-by f i s t (Refused q) g h x =
     rw (clears-refused f q, x, places-slots f (stored i) (i .n) (sizes s) (i .n) ∙ found-refused _ (counts i) q (Refused q) g refl)
 
-module _ (f : Form) (i : Input) (s t : Buffers) (us ur ui : List ℕ) (uv : ℕ) (a : Answer) (found : Analyzed f (pattern i) (slots (sizes s)) us ur ui uv a) where
+module _ (f : Form) (i : Input) (s t : Buffers) (us ur ui : List ℕ) (uv : ℕ) (m : List ℕ) (a : Answer) (found : Analyzed f (pattern i) (slots (sizes s)) us ur ui uv m a) where
   pub leaves-refused : isRefused a ≡ true → t .x ≡ s .x → Leaves f i s a t
-  leaves-refused = leaves-by f i s t a (found-pattern f i _ us ur ui uv a found .answer)
+  leaves-refused = leaves-by f i s t a (found-pattern f i _ us ur ui uv m a found .answer)
 
   -- or the arithmetic came to its end
   leaves-came : (k : Counts) (r : Answer) → a ≡ Done k → Concluded f i k r (t .lower .values) (t .upper .values) (t .d) (s .x) (t .x) → KeptBy f i s t → Leaves f i s r t
   unfolding solvePlaced
   leaves-came k r e g h =
-      let p = found-done _ (counts i) k a (found-pattern f i _ us ur ui uv a found .answer) e in
+      let p = found-done _ (counts i) k a (found-pattern f i _ us ur ui uv m a found .answer) e in
       rw (places-slots f (stored i) (i .n) (sizes s) (i .n) ∙ p .0) (concluded-is f i s t k (listed i) r (p .1) g h)
 
--- where the lists of both sides are placed; `lr` and `ur` are the runs that they are read by
-both-placed : (f : Form) (i : Input) (z : Sizes) (ls lr li us ur ui : List ℕ) (lv uv : ℕ) (a : Answer) (k : Counts) → AnalyzedBoth f (pattern i) z ls lr li lv us ur ui uv a → a ≡ Done k
-    → (k ≡ counts i) × PlacedSide f Lower (stored i) (i .n) ls lr li lv × PlacedSide f Upper (stored i) (i .n) us ur ui uv
-both-placed f i z ls lr li us ur ui lv uv a k found done =
-    let g = both-pattern f i z ls lr li us ur ui lv uv a found in
+-- where the lists of both sides are placed, and the inverse order stands; `lr` and `ur` are the runs that the lists are read by
+both-placed : (f : Form) (i : Input) (z : Sizes) (ls lr li us ur ui m : List ℕ) (lv uv : ℕ) (a : Answer) (k : Counts) → AnalyzedBoth f (pattern i) z ls lr li lv us ur ui uv m a → a ≡ Done k
+    → (k ≡ counts i) × WrittenSide f Lower (stored i) (i .n) ls lr li lv × WrittenSide f Upper (stored i) (i .n) us ur ui uv × Inverse i m
+both-placed f i z ls lr li us ur ui m lv uv a k found done =
+    let g = both-pattern f i z ls lr li us ur ui m lv uv a found in
     let p = found-done _ (counts i) k a (g .found .answer) done in
-    (p .1, g .lower (p .0), g .found .upper (p .0))
+    (p .1, g .lower (p .0), g .found .upper (p .0), g .found .inverse (p .0))
 
 pub both-due : (f : Form) (i : Input) (z y : Sizes) (ls lr li us ur ui m : List ℕ) (lv uv d w : List Float) (x : ℕ) (a : Answer) (k : Counts)
-    → AnalyzedBoth f (pattern i) z ls lr li (length lv) us ur ui (length uv) a → a ≡ Done k
+    → AnalyzedBoth f (pattern i) z ls lr li (length lv) us ur ui (length uv) m a → a ≡ Done k
     → SolveDue f i y → length m ≡ y .marks → length d ≡ y .d → length w ≡ y .work → x ≡ y .x
     → (PlacedSide f Lower (stored i) (i .n) ls lr li (length lv) → LowerPlaced f (stored i) (i .n) (lists ls li us ur ui) lv) → FactorDue f i (lists ls li us ur ui) (written lv uv d w m) x k
 both-due f i z y ls lr li us ur ui m lv uv d w x a k found done h em ed ew ex g =
-    let p = both-placed f i z ls lr li us ur ui (length lv) (length uv) a k found done in
-    factor-due f i y (lists ls li us ur ui) (written lv uv d w m) x k h em ed ew ex (g (p .1)) (p .2) (p .0)
+    let p = both-placed f i z ls lr li us ur ui m (length lv) (length uv) a k found done in
+    factor-due f i y (lists ls li us ur ui) (written lv uv d w m) x k h em ed ew ex (g (p .1 .placed)) (p .2 .placed) (p .3) (p .0)
 
-both-kept : (f : Form) (i : Input) (z : Sizes) (s t : Buffers) (lr ur : List ℕ) (lv uv : ℕ) (a : Answer) (k : Counts)
-    → AnalyzedBoth f (pattern i) z (t .lower .starts) lr (t .lower .index) lv (t .upper .starts) ur (t .upper .index) uv a → a ≡ Done k
+both-kept : (f : Form) (i : Input) (z : Sizes) (s t : Buffers) (lr ur m : List ℕ) (lv uv : ℕ) (a : Answer) (k : Counts)
+    → AnalyzedBoth f (pattern i) z (t .lower .starts) lr (t .lower .index) lv (t .upper .starts) ur (t .upper .index) uv m a → a ≡ Done k
     → Long (s .lower) (t .lower) → Long (s .upper) (t .upper) → length (t .work) ≡ length (s .work) → length (t .marks) ≡ length (s .marks)
     → (RunsAre f Lower (stored i) (i .n) (t .lower .starts) lr → t .lower .runs ≡ runsKept f (length (s .lower .runs)) (placedTo f Lower (stored i) (i .n) (i .n)))
     → (RunsAre f Upper (stored i) (i .n) (t .upper .starts) ur → t .upper .runs ≡ runsKept f (length (s .upper .runs)) (placedTo f Upper (stored i) (i .n) (i .n))) → CallKept f i s t
-both-kept f i z s t lr ur lv uv a k found done kl ku kw km rl ru =
-    let p = both-placed f i z (t .lower .starts) lr (t .lower .index) (t .upper .starts) ur (t .upper .index) lv uv a k found done in
+both-kept f i z s t lr ur m lv uv a k found done kl ku kw km rl ru =
+    let p = both-placed f i z (t .lower .starts) lr (t .lower .index) (t .upper .starts) ur (t .upper .index) m lv uv a k found done in
     record {
-      lower = stands f Lower (stored i) (i .n) (s .lower) (t .lower) lr lv (p .1) (kl .index) (rl (p .1 .runs-are));
-      upper = stands f Upper (stored i) (i .n) (s .upper) (t .upper) ur uv (p .2) (ku .index) (ru (p .2 .runs-are));
+      lower = stands f Lower (stored i) (i .n) (s .lower) (t .lower) lr lv (p .1) (kl .index) (rl (p .1 .placed .runs-are));
+      upper = stands f Upper (stored i) (i .n) (s .upper) (t .upper) ur uv (p .2) (ku .index) (ru (p .2 .placed .runs-are));
       lower-values = kl .values;
       upper-values = ku .values;
       work = kw;
@@ -209,33 +210,33 @@ kept-by Shared i s t h = h
 kept-by ByRow i s t h = tt
 
 -- all of it, over plain lists
-pub both-leaves : (f : Form) (i : Input) (ls₀ lr₀ li₀ us₀ ur₀ ui₀ m₀ ls lr li us ur ui m rl ru : List ℕ) (lv₀ uv₀ d₀ x₀ w₀ lv uv d x w : List Float) (a r : Answer) (k : Counts)
-    → AnalyzedBoth f (pattern i) (slotsOf (length li₀) (length lv₀) (length ui₀) (length uv₀)) ls rl li (length lv₀) us ru ui (length uv₀) a → a ≡ Done k → Concluded f i k r lv uv d x₀ x
+pub both-leaves : (f : Form) (i : Input) (ls₀ lr₀ li₀ us₀ ur₀ ui₀ m₀ ls lr li us ur ui m rl ru m₁ : List ℕ) (lv₀ uv₀ d₀ x₀ w₀ lv uv d x w : List Float) (a r : Answer) (k : Counts)
+    → AnalyzedBoth f (pattern i) (slotsOf (length li₀) (length lv₀) (length ui₀) (length uv₀)) ls rl li (length lv₀) us ru ui (length uv₀) m₁ a → a ≡ Done k → Concluded f i k r lv uv d x₀ x
     → length ls ≡ length ls₀ → length lr ≡ length lr₀ → length li ≡ length li₀ → length lv ≡ length lv₀ → length us ≡ length us₀ → length ur ≡ length ur₀ → length ui ≡ length ui₀ → length uv ≡ length uv₀
     → length w ≡ length w₀ → length m ≡ length m₀
     → (RunsAre f Lower (stored i) (i .n) ls rl → lr ≡ runsKept f (length lr₀) (placedTo f Lower (stored i) (i .n) (i .n)))
     → (RunsAre f Upper (stored i) (i .n) us ru → ur ≡ runsKept f (length ur₀) (placedTo f Upper (stored i) (i .n) (i .n)))
     → Leaves f i (allBuffers (sideBuffers ls₀ lr₀ li₀ lv₀) (sideBuffers us₀ ur₀ ui₀ uv₀) d₀ x₀ w₀ m₀) r (allBuffers (sideBuffers ls lr li lv) (sideBuffers us ur ui uv) d x w m)
-both-leaves f i ls₀ lr₀ li₀ us₀ ur₀ ui₀ m₀ ls lr li us ur ui m rl ru lv₀ uv₀ d₀ x₀ w₀ lv uv d x w a r k found done g a₁ a₂ a₃ a₄ b₁ b₂ b₃ b₄ kw km hl hu =
+both-leaves f i ls₀ lr₀ li₀ us₀ ur₀ ui₀ m₀ ls lr li us ur ui m rl ru m₁ lv₀ uv₀ d₀ x₀ w₀ lv uv d x w a r k found done g a₁ a₂ a₃ a₄ b₁ b₂ b₃ b₄ kw km hl hu =
     let s = allBuffers (sideBuffers ls₀ lr₀ li₀ lv₀) (sideBuffers us₀ ur₀ ui₀ uv₀) d₀ x₀ w₀ m₀ in
     let t = allBuffers (sideBuffers ls lr li lv) (sideBuffers us ur ui uv) d x w m in
-    leaves-came f i s t us ru ui (length uv₀) a (found .found) k r done g
+    leaves-came f i s t us ru ui (length uv₀) m₁ a (found .found) k r done g
     (kept-by f i s t
-    (both-kept f i _ s t rl ru (length lv₀) (length uv₀) a k found done (record { starts = a₁; runs = a₂; index = a₃; values = a₄ }) (record { starts = b₁; runs = b₂; index = b₃; values = b₄ }) kw km hl hu))
+    (both-kept f i _ s t rl ru m₁ (length lv₀) (length uv₀) a k found done (record { starts = a₁; runs = a₂; index = a₃; values = a₄ }) (record { starts = b₁; runs = b₂; index = b₃; values = b₄ }) kw km hl hu))
 
 -- the row form, which lends an empty store for L
-pub row-due : (i : Input) (z y : Sizes) (ls li us ur ui m : List ℕ) (lv uv d w : List Float) (x : ℕ) (a : Answer) (k : Counts) → Analyzed ByRow (pattern i) z us ur ui (length uv) a → a ≡ Done k
+pub row-due : (i : Input) (z y : Sizes) (ls li us ur ui m : List ℕ) (lv uv d w : List Float) (x : ℕ) (a : Answer) (k : Counts) → Analyzed ByRow (pattern i) z us ur ui (length uv) m a → a ≡ Done k
     → SolveDue ByRow i y → length m ≡ y .marks → length d ≡ y .d → length w ≡ y .work → x ≡ y .x → lv ≡ [] → FactorDue ByRow i (lists ls li us ur ui) (written lv uv d w m) x k
 row-due i z y ls li us ur ui m lv uv d w x a k found done h em ed ew ex el =
-    let g = found-pattern ByRow i z us ur ui (length uv) a found in
+    let g = found-pattern ByRow i z us ur ui (length uv) m a found in
     let p = found-done _ (counts i) k a (g .answer) done in
-    factor-due ByRow i y (lists ls li us ur ui) (written lv uv d w m) x k h em ed ew ex el (g .upper (p .0)) (p .1)
+    factor-due ByRow i y (lists ls li us ur ui) (written lv uv d w m) x k h em ed ew ex el (g .upper (p .0) .placed) (g .inverse (p .0)) (p .1)
 
-pub row-leaves : (i : Input) (us₀ ur₀ ui₀ m₀ us ur ui m : List ℕ) (uv₀ d₀ x₀ w₀ lv uv d x w : List Float) (a r : Answer) (k : Counts) → Analyzed ByRow (pattern i) (slotsOf 0 0 (length ui₀) (length uv₀)) us ur ui (length uv₀) a → a ≡ Done k
+pub row-leaves : (i : Input) (us₀ ur₀ ui₀ m₀ us ur ui m m₁ : List ℕ) (uv₀ d₀ x₀ w₀ lv uv d x w : List Float) (a r : Answer) (k : Counts) → Analyzed ByRow (pattern i) (slotsOf 0 0 (length ui₀) (length uv₀)) us ur ui (length uv₀) m₁ a → a ≡ Done k
     → Concluded ByRow i k r lv uv d x₀ x → length lv ≡ 0 → Leaves ByRow i (allBuffers noSide (sideBuffers us₀ ur₀ ui₀ uv₀) d₀ x₀ w₀ m₀) r (allBuffers noSide (sideBuffers us ur ui uv) d x w m)
-row-leaves i us₀ ur₀ ui₀ m₀ us ur ui m uv₀ d₀ x₀ w₀ [] uv d x w a r k found done g e =
-    leaves-came ByRow i (allBuffers noSide (sideBuffers us₀ ur₀ ui₀ uv₀) d₀ x₀ w₀ m₀) (allBuffers noSide (sideBuffers us ur ui uv) d x w m) us ur ui (length uv₀) a found k r done g tt
-row-leaves i us₀ ur₀ ui₀ m₀ us ur ui m uv₀ d₀ x₀ w₀ (y ∷ lv) uv d x w a r k found done g e = absurd (omega arith)
+row-leaves i us₀ ur₀ ui₀ m₀ us ur ui m m₁ uv₀ d₀ x₀ w₀ [] uv d x w a r k found done g e =
+    leaves-came ByRow i (allBuffers noSide (sideBuffers us₀ ur₀ ui₀ uv₀) d₀ x₀ w₀ m₀) (allBuffers noSide (sideBuffers us ur ui uv) d x w m) us ur ui (length uv₀) m₁ a found k r done g tt
+row-leaves i us₀ ur₀ ui₀ m₀ us ur ui m m₁ uv₀ d₀ x₀ w₀ (y ∷ lv) uv d x w a r k found done g e = absurd (omega arith)
 
 -- ---- the solve
 
@@ -279,13 +280,13 @@ nothing-stored v = rw sub-zero
 lists-zero : (s t u : SideBuffers) → Long s t → ListsIf true t u → u ≡ sideCleared (sideSizes s)
 lists-zero s t u l h = side-zero s t u l (record { starts = h .starts; runs = h .runs; index = h .index; values = h .values })
 
-lists-placed : (f : Form) (side : Side) (P : Pattern) (n : ℕ) (s t u : SideBuffers) (runs : List ℕ) (room : ℕ) → PlacedSide f side P n (t .starts) runs (t .index) room → Long s t
+lists-placed : (f : Form) (side : Side) (P : Pattern) (n : ℕ) (s t u : SideBuffers) (runs : List ℕ) (room : ℕ) → WrittenSide f side P n (t .starts) runs (t .index) room → Long s t
     → t .runs ≡ runsKept f (length (s .runs)) (placedTo f side P n n) → ListsIf false t u → u ≡ sidePlaced f side P n (sideSizes s) []
 lists-placed f side P n s t u runs room h l r g =
     stands f side P n s u runs room (rw (g .starts, g .index) h) (ap length (g .index) ∙ l .index) (g .runs ∙ r) [] (g .values ∙ nothing-stored (t .values) ∙ ap (λ (m : ℕ). padded nought m []) (l .values))
 
 structure-by : (f : Form) (i : Input) (l u l₁ u₁ l₂ u₂ : SideBuffers) (w w₁ w₂ : List Float) (m m₁ m₂ lr ur : List ℕ) (a : Answer) (b : Bool)
-    → AnalyzedBoth f i (slots (sizes (allBuffers l u [] [] w m))) (l₁ .starts) lr (l₁ .index) (length (l .values)) (u₁ .starts) ur (u₁ .index) (length (u .values)) a → b ≡ isRefused a
+    → AnalyzedBoth f i (slots (sizes (allBuffers l u [] [] w m))) (l₁ .starts) lr (l₁ .index) (length (l .values)) (u₁ .starts) ur (u₁ .index) (length (u .values)) m₁ a → b ≡ isRefused a
     → (RunsAre f Lower (stored i) (i .n) (l₁ .starts) lr → l₁ .runs ≡ runsKept f (length (l .runs)) (placedTo f Lower (stored i) (i .n) (i .n)))
     → (RunsAre f Upper (stored i) (i .n) (u₁ .starts) ur → u₁ .runs ≡ runsKept f (length (u .runs)) (placedTo f Upper (stored i) (i .n) (i .n)))
     → Long l l₁ → Long u u₁ → length w₁ ≡ length w → length m₁ ≡ length m → ListsIf b l₁ l₂ → ListsIf b u₁ u₂ → Blanked w₁ m₁ w₂ m₂
@@ -297,13 +298,13 @@ structure-by f i l u l₁ u₁ l₂ u₂ w w₁ w₂ m m₁ m₂ lr ur (Done c) 
     let p = found-done _ (counts i) c (Done c) (g .found .answer) refl in
     let x = g .lower (p .0) in
     let y = g .found .upper (p .0) in
-    rw (places-slots f (stored i) (i .n) (sizes (allBuffers l u [] [] w m)) (i .n) ∙ p .0, p .1, lists-placed f Lower (stored i) (i .n) l l₁ l₂ lr _ x kl (rl (x .runs-are)) hl, lists-placed f Upper (stored i) (i .n) u u₁ u₂ ur _ y ku (ru (y .runs-are)) hu, hs .0, hs .1, kw, km)
+    rw (places-slots f (stored i) (i .n) (sizes (allBuffers l u [] [] w m)) (i .n) ∙ p .0, p .1, lists-placed f Lower (stored i) (i .n) l l₁ l₂ lr _ x kl (rl (x .placed .runs-are)) hl, lists-placed f Upper (stored i) (i .n) u u₁ u₂ ur _ y ku (ru (y .placed .runs-are)) hu, hs .0, hs .1, kw, km)
 structure-by f i l u l₁ u₁ l₂ u₂ w w₁ w₂ m m₁ m₂ lr ur (Refused q) true g e rl ru kl ku kw km hl hu hs =
     rw (places-slots f (stored i) (i .n) (sizes (allBuffers l u [] [] w m)) (i .n) ∙ found-refused _ (counts i) q (Refused q) (g .found .answer) refl, lists-zero l l₁ l₂ kl hl, lists-zero u u₁ u₂ ku hu, hs .0, hs .1, kw, km)
 
 pub structure-ends : (f : Form) (i : Input) (l u l₁ u₁ l₂ u₂ : SideBuffers) (w w₁ w₂ : List Float) (m t m₁ m₂ lr ur : List ℕ) (o : Asked) (a : Answer) (b : Bool)
     → StructureAsking f i (sizes (allBuffers l u [] [] w m)) w m w₁ t o → o ≡ Pass
-    → AnalyzedBoth f i (slots (sizes (allBuffers l u [] [] w m))) (l₁ .starts) lr (l₁ .index) (length (l .values)) (u₁ .starts) ur (u₁ .index) (length (u .values)) a → b ≡ isRefused a
+    → AnalyzedBoth f i (slots (sizes (allBuffers l u [] [] w m))) (l₁ .starts) lr (l₁ .index) (length (l .values)) (u₁ .starts) ur (u₁ .index) (length (u .values)) m₁ a → b ≡ isRefused a
     → (RunsAre f Lower (stored i) (i .n) (l₁ .starts) lr → l₁ .runs ≡ runsKept f (length (l .runs)) (placedTo f Lower (stored i) (i .n) (i .n)))
     → (RunsAre f Upper (stored i) (i .n) (u₁ .starts) ur → u₁ .runs ≡ runsKept f (length (u .runs)) (placedTo f Upper (stored i) (i .n) (i .n)))
     → Long l l₁ → Long u u₁ → length w₁ ≡ length w → length m₁ ≡ length m → ListsIf b l₁ l₂ → ListsIf b u₁ u₂ → Blanked w₁ m₁ w₂ m₂

@@ -24,6 +24,8 @@ use Rattle.outcome.specs.Placed.{PlacedSide}
 use Rattle.questions.specs.Lent.{Lent}
 use Rattle.questions.specs.Settled.{Structured}
 use Rattle.questions.specs.SettledLaws.{settled}
+use Rattle.lent.specs.ReadingLaws.{order-read}
+use Rattle.columns.specs.Sides.{Inverse}
 use Rattle.symbolic.specs.Pass.{slotsOf, MatrixLent, PlainLent, SharedLent, RowLent}
 use Rattle.factor.specs.Factoring.{PlacedLists, Workspace, Starts, LowerPlaced}
 use Rattle.base.specs.declared.Counts.{Counts}
@@ -172,9 +174,9 @@ pub starts-of : (i : Input) (ls lr li : List ℕ) (values : ℕ) → PlacedSide 
 starts-of i ls lr li values h = record { starts-are = h .starts-are; values-in = h .values-in }
 
 pub factor-due : (f : Form) (i : Input) (z : Sizes) (l : PlacedLists) (w : Workspace) (x : ℕ) (k : Counts) → SolveDue f i z → length (w .marks) ≡ z .marks → length (w .d) ≡ z .d → length (w .work) ≡ z .work
-    → x ≡ z .x → LowerPlaced f (stored i) (i .n) l (w .lower) → PlacedSide f Upper (stored i) (i .n) (l .upper-starts) (l .upper-runs) (l .upper-index) (length (w .upper)) → k ≡ counts i
+    → x ≡ z .x → LowerPlaced f (stored i) (i .n) l (w .lower) → PlacedSide f Upper (stored i) (i .n) (l .upper-starts) (l .upper-runs) (l .upper-index) (length (w .upper)) → Inverse i (w .marks) → k ≡ counts i
     → FactorDue f i l w x k
-factor-due f i z l w x k h em ed ew ex low up c =
+factor-due f i z l w x k h em ed ew ex low up inv c =
     let g = h .shaped in
     let s = g .structure in
     record {
@@ -194,6 +196,7 @@ factor-due f i z l w x k h em ed ew ex low up c =
         reciprocals = ed ∙ g .reciprocals;
         scratch = omega (arith, ew, s .work);
         slots = omega (arith, em, s .marks);
+        inverse = λ j b. order-read (i .n) (w .marks) j b ∙ inv .place j b;
       };
       solution = ex ∙ g .solution;
       counts-are = c;

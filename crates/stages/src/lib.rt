@@ -309,7 +309,6 @@ pub fn factor_and_solve(
         columns,
         values,
         r,
-        c,
         b,
         lower_starts,
         lower_index,

@@ -12,15 +12,15 @@ use lib.Dec.{ltb, eqb}
 use borrow.Author.Tests.{ltb-true, ltb-false, eqb-true, eq-eqb}
 use Rattle.base.specs.Lists.{listAt}
 use Rattle.base.specs.Tests.{by-test, and-cases}
-use Rattle.placement.specs.Placing.{agree, runOf, after, planAt, placed, startOf}
+use Rattle.placement.specs.Placing.{agree, same, runOf, after, planAt, placed, startOf}
 use Rattle.placement.specs.PlacingLaws.{Sound, Kept, room}
-use Rattle.placement.specs.ListLaws.{take-drop, agree-is, agree-self}
+use Rattle.placement.specs.ListLaws.{take-drop, agree-is, agree-self, same-is, same-self}
 use Rattle.storing.specs.Ways.{wayOf}
 use Rattle.storing.specs.FillNested.{kept, way-sound}
 use Rattle.storing.specs.Slices.{Ready, asPlan, planOf, fitsOf, extentOf, sameAt, matchOf}
 use Rattle.storing.specs.LoopLaws.{take-rest}
 use Rattle.storing.specs.LookLaws.{Looked, fits-room}
-use Rattle.storing.specs.Held.{Holding, Turn, same, presented, Checked, CheckEnds}
+use Rattle.storing.specs.Held.{Holding, Turn, presented, Checked, CheckEnds}
 use Rattle.storing.specs.HeldLaws.{slots-same, run-same, start-same, list-held}
 use Rattle.storing.specs.StepLaws.{plan-same, fits-same, next-held}
 use Rattle.storing.specs.declared.Way.{Way}
@@ -39,16 +39,6 @@ four a b c d e =
 no-true : (b : Bool) → (b ≡ true → ⊥) → b ≡ false
 no-true true f = absurd (f refl)
 no-true false f = refl
-
-same-self : (xs : List ℕ) → same xs xs ≡ true
-unfolding same
-same-self xs = rw (eq-eqb (length xs) (length xs) refl, agree-self xs)
-
-same-is : (xs ys : List ℕ) → same xs ys ≡ true → xs ≡ ys
-unfolding same
-same-is xs ys e =
-    let r = and-cases (eqb (length xs) (length ys)) (agree xs ys) e in
-    agree-is xs ys (eqb-true (length xs) (length ys) (r .0)) (r .1)
 
 -- a list that stands in a store from start on, of which the used part has the first entries: the rest stands after the used part
 rest-of : (index list : List ℕ) (start have used : ℕ) → have ≤ length list → (have < length list → start + have ≡ used)

@@ -6,7 +6,7 @@ use mathlib.Core.List.{List, _++_}
 use lib.ListN.{length, take, drop, getD, set}
 use lib.Dec.{eqb}
 use Rattle.base.specs.Lists.{listAt, table}
-use Rattle.placement.specs.Placing.{agree, placed, runOf, startOf}
+use Rattle.placement.specs.Placing.{same, placed, runOf, startOf}
 use Rattle.placement.specs.PlacingLaws.{room}
 use Rattle.storing.specs.Ways.{wayOf, Suited}
 use Rattle.storing.specs.Slices.{planOf, fitsOf, Writes, matchOf}
@@ -61,10 +61,6 @@ pub record PlainEnds (starts index : List ℕ) (values : ℕ) (list : List ℕ) 
   pub writes : Writes OneAfterAnother starts starts index values list list k s r starts′ index′
   pub steps : (T R : ℕ → List ℕ) (n : ℕ) (index₀ : List ℕ) → Turn OneAfterAnother T R n values k index₀ starts starts index list list s
       → Stepped OneAfterAnother T R values k index₀ starts′ starts′ index′ r
-
--- two lists are the same
-unfoldable pub same : List ℕ → List ℕ → Bool
-same xs ys = eqb (length xs) (length ys) && agree xs ys
 
 -- question 14 at place k of a side: "do presented list starts, run starts and lists equal what the structure call, with stores of these
 -- lengths, places?", where "List starts k and k + 1 both belong to place k"

@@ -8,8 +8,7 @@ use native.Mathlib.Nat.{add-sub-cancel-left}
 use native.Mathlib.Numerals.{add-one}
 use lib.ListN.{length, getD, take, drop}
 use lib.Seq.{length-take-le}
-use Rattle.base.specs.Lists.{blank, sum, total}
-use Rattle.base.specs.ZerosLaws.{blank-length}
+use Rattle.base.specs.Lists.{sum, total}
 use Rattle.base.specs.AscLaws.{asc-at, length-asc}
 use Rattle.fill.specs.Fill.{Pattern, filled, upperRow, lowerRow, flip}
 use Rattle.placement.specs.PlacingLaws.{room}
@@ -43,9 +42,9 @@ pub suited-of : (way : Way) (P : Pattern) (n : ℕ) → Suited way (upperRow P n
 suited-of way P n = fill-suited way P n
 
 -- the lists that are placed can be read
-pub stored-held : {way : Way} {P : Pattern} {n values k : ℕ} {index₀ index runs starts : List ℕ} {e : Extent} → k ≤ n
+pub stored-held : {way : Way} {P : Pattern} {n values k : ℕ} {index₀ starts runs index : List ℕ} {e : Extent} → k ≤ n
     → Holding way (upperRow P n) (lowerRow P) values k index₀ starts runs index e → Stored P n k starts runs index
-stored-held {way} {P} {n} {values} {k} {index₀} {index} {runs} {starts} {e} l h = record {
+stored-held {way} {P} {n} {values} {k} {index₀} {starts} {runs} {index} {e} l h = record {
   list = λ i b. list-held h n (suited-of way P n) l i b;
   read = λ i b.
       let r = list-readable h n (suited-of way P n) l i b in
@@ -78,17 +77,17 @@ module _ {way : Way} {P : Pattern} {n k t cuts : ℕ} {store : List ℕ} {values
   keep-members = h .lists .lower ∙ sym (lower-members P n t k s (h .below) (h .lists .marks))
 
   pub keep-turn : (row list : List ℕ) → RowIs way (lowerRow P k) row → list ≡ upperRow P n k
-      → Turn way (upperRow P n) (lowerRow P) n values k (blank 0 store) starts runs index row list e
+      → Turn way (upperRow P n) (lowerRow P) n values k store starts runs index row list e
   keep-turn row list r l = record { suited = suited-of way P n; below = h .below; row-is = r; list-is = l; held = h .at .held }
 
   pub keep-ready : (row list : List ℕ) → RowIs way (lowerRow P k) row → list ≡ upperRow P n k → Ready way starts runs index values row list k e
   keep-ready row list r l =
       let z = h .at .stores in
       turn-ready (keep-turn row list r l) (omega (arith, h .below, z .runs-size, run-count way n)) (omega (arith, h .below, z .starts-size))
-      (omega (arith, z .slots-fit, blank-length 0 store)) (omega (arith, z .values-fit))
+      (omega (arith, z .slots-fit)) (omega (arith, z .values-fit))
       (rw l (λ j b. let u = upper-below P n k j b in omega (arith, h .few)))
 
-  module _ (e′ : Extent) (index′ runs′ starts′ : List ℕ) (held : Holding way (upperRow P n) (lowerRow P) values (suc k) (blank 0 store) starts′ runs′ index′ e′) where
+  module _ (e′ : Extent) (starts′ runs′ index′ : List ℕ) (held : Holding way (upperRow P n) (lowerRow P) values (suc k) store starts′ runs′ index′ e′) where
     next-store : Stored P n (k + 1) starts′ runs′ index′
     next-store = let b = h .below in rw add-one (stored-held (omega arith) held)
 
@@ -96,12 +95,12 @@ module _ {way : Way} {P : Pattern} {n k t cuts : ℕ} {store : List ℕ} {values
     pub next-lists : (i : ℕ) → i < k + 1 → ListIn starts′ runs′ (length index′) i
     next-lists = next-store .read
 
-    pub kept-next : room (wayOf way) (upperRow P n) (lowerRow P) (length (blank 0 store)) values k ≡ true → length starts′ ≡ length starts → length runs′ ≡ length runs
+    pub kept-next : room (wayOf way) (upperRow P n) (lowerRow P) (length store) values k ≡ true → length starts′ ≡ length starts → length runs′ ≡ length runs
         → (s′ : List ℕ) → Renewed n t k cuts starts′ runs′ index′ s s′ → ListKept way P n k cuts store values starts′ runs′ index′ s s′ e′
     kept-next f a b s′ r =
         let z = h .at .stores in
         record {
-          fits = rw blank-length at f;
+          fits = f;
           at = record {
             held = rw add-one held;
             cut = r .held P (h .lists .marks) next-store (h .at .cut) (suc t) (omega arith) .cut;
@@ -111,14 +110,13 @@ module _ {way : Way} {P : Pattern} {n k t cuts : ℕ} {store : List ℕ} {values
         }
 
 -- what a step of placing told
-pub stepped-done : (way : Way) (T R : ℕ → List ℕ) (values k : ℕ) (index₀ index runs starts : List ℕ) (r : Put) (e : Extent) → r ≡ Done e
+pub stepped-done : (way : Way) (T R : ℕ → List ℕ) (values k : ℕ) (index₀ starts runs index : List ℕ) (r : Put) (e : Extent) → r ≡ Done e
     → Stepped way T R values k index₀ starts runs index r → (room (wayOf way) T R (length index₀) values k ≡ true) × Holding way T R values (suc k) index₀ starts runs index e
-stepped-done way T R values k index₀ index runs starts r e q h = rw q at h
+stepped-done way T R values k index₀ starts runs index r e q h = rw q at h
 
-pub stepped-full : (way : Way) (T R : ℕ → List ℕ) (values k : ℕ) (store index runs starts : List ℕ) (r : Put) → r ≡ Full
-    → Stepped way T R values k (blank 0 store) starts runs index r → room (wayOf way) T R (length store) values k ≡ false
-stepped-full way T R values k store index runs starts r q h =
-    let f : room (wayOf way) T R (length (blank 0 store)) values k ≡ false = rw q at h in rw blank-length at f
+pub stepped-full : (way : Way) (T R : ℕ → List ℕ) (values k : ℕ) (index₀ starts runs index : List ℕ) (r : Put) → r ≡ Full
+    → Stepped way T R values k index₀ starts runs index r → room (wayOf way) T R (length index₀) values k ≡ false
+stepped-full way T R values k index₀ starts runs index r q h = rw q at h
 
 -- ---- lower row k in the plain form
 
@@ -131,25 +129,25 @@ module _ {P : Pattern} {n k : ℕ} {store : List ℕ} {values : ℕ} {starts ind
   lower-fits = omega (arith, h .below, h .size, lower-le P k)
 
   pub lower-turn : (list : List ℕ) → list ≡ take (listFrom n + count - listFrom n) (drop (listFrom n) s)
-      → Turn OneAfterAnother (lowerRow P) (lowerRow (flip P)) n values k (blank 0 store) starts starts index list list e
+      → Turn OneAfterAnother (lowerRow P) (lowerRow (flip P)) n values k store starts starts index list list e
   lower-turn list l = record { suited = tt; below = h .below; row-is = tt; list-is = l ∙ part-is (listFrom n) count s ∙ h .list; held = h .held }
 
   pub lower-ready : (list : List ℕ) → list ≡ take (listFrom n + count - listFrom n) (drop (listFrom n) s) → Ready OneAfterAnother starts starts index values list list k e
   lower-ready list l =
       let z = h .stores in
       turn-ready (lower-turn list l) (omega (arith, h .below, z .starts-size)) (omega (arith, h .below, z .starts-size))
-      (omega (arith, z .slots-fit, blank-length 0 store)) (omega (arith, z .values-fit))
+      (omega (arith, z .slots-fit)) (omega (arith, z .values-fit))
       (rw (l, part-is (listFrom n) count s, h .list) (λ j b. omega (arith, lower-below P k j b, h .below, h .few)))
 
 -- what a step of placing told of it
-pub lower-stepped : (P : Pattern) (values k : ℕ) (store index starts : List ℕ) (r : Put)
-    → Stepped OneAfterAnother (lowerRow P) (lowerRow (flip P)) values k (blank 0 store) starts starts index r → LowerEnds P k store values starts index r
-lower-stepped P values k store index starts (Done e) h = (rw blank-length at (h .0), rw add-one (h .1))
-lower-stepped P values k store index starts Full h = rw blank-length at h
+pub lower-stepped : (P : Pattern) (values k : ℕ) (store starts index : List ℕ) (r : Put)
+    → Stepped OneAfterAnother (lowerRow P) (lowerRow (flip P)) values k store starts starts index r → LowerEnds P k store values starts index r
+lower-stepped P values k store starts index (Done e) h = (h .0, rw add-one (h .1))
+lower-stepped P values k store starts index Full h = h
 
 -- ---- products
 
-module _ {P : Pattern} {n k : ℕ} {index runs starts s : List ℕ} {count products : ℕ} (a : Adding P n k index runs starts s count products) where
+module _ {P : Pattern} {n k : ℕ} {starts runs index s : List ℕ} {count products : ℕ} (a : Adding P n k starts runs index s count products) where
   pub adding-fits : listFrom n + count < regionsEnd n
   adding-fits = omega (arith, a .below, a .size, lower-le P k)
 

@@ -110,7 +110,7 @@ ready-kept {n} {k} e r = ready-steady (record {
 
 -- ---- the load
 
-module _ (side : Side) (i : Input) (k t window : ℕ) (index runs lists s₀ : List ℕ) (o : Open side i k t window index runs lists s₀) where
+module _ (side : Side) (i : Input) (k t window : ℕ) (lists runs index s₀ : List ℕ) (o : Open side i k t window lists runs index s₀) where
   abbrev n : ℕ
   n = i .n
 

@@ -6,7 +6,7 @@ use Prim.Native.Nat.{ℕ, _+_, _<_}
 use native.Mathlib.Omega.{arith}
 use native.Mathlib.Numerals.{add-one}
 use lib.ListN.{length}
-use Rattle.base.specs.Lists.{blank, sum}
+use Rattle.base.specs.Lists.{sum}
 use Rattle.base.specs.Answers.{spot}
 use Rattle.base.specs.declared.Form.the-variants.{Plain}
 use Rattle.base.specs.declared.Side.the-variants.{Upper}
@@ -39,7 +39,7 @@ module _ (i : Input) (low : List ℕ) (lv : ℕ) (up : List ℕ) (uv k : ℕ) (l
   abbrev P : Pattern
   P = stored i
 
-  pub plain-open : Open Upper i k (k + 1) 0 ui us us s
+  pub plain-open : Open Upper i k (k + 1) 0 us us ui s
   plain-open = lists-open (h .begun) place (h .upper) (h .fresh) tt
 
   pub plain-null : filled P k k ≡ false → askPlaces Plain P n (slotsOf (length low) lv (length up) uv) n ≡ Stop (NullPivot (spot k))
@@ -63,7 +63,7 @@ module _ (i : Input) (low : List ℕ) (lv : ℕ) (up : List ℕ) (uv k : ℕ) (l
     pub plain-short : room plain (lowerRow P) (lowerRow (flip P)) (length low) lv k ≡ false → askPlaces Plain P n (slotsOf (length low) lv (length up) uv) n ≡ Stop (LowerSlots (spot k))
     plain-short b = stop-lower Plain P n _ k place (h .passed) (found .diagonal) (fits-plain P n (length low) lv (length up) uv k ∙ b)
 
-    pub plain-adding : Adding P n k ui us us s₁ (o .below) (g .products)
+    pub plain-adding : Adding P n k us us ui s₁ (o .below) (g .products)
     plain-adding = record {
       below = place;
       few = h .begun .few;
@@ -82,7 +82,7 @@ module _ (i : Input) (low : List ℕ) (lv : ℕ) (up : List ℕ) (uv k : ℕ) (l
       plain-full c =
           stop-upper Plain P n _ k place (h .passed) (found .diagonal) (fits-plain P n (length low) lv (length up) uv k ∙ fits) (fits-upper P n (length low) lv (length up) uv k Plain ∙ c)
 
-      pub plain-next : (ls′ li′ : List ℕ) (e : Extent) → Holding OneAfterAnother (lowerRow P) (lowerRow (flip P)) lv (k + 1) (blank 0 low) ls′ ls′ li′ e → length ls′ ≡ length ls
+      pub plain-next : (ls′ li′ : List ℕ) (e : Extent) → Holding OneAfterAnother (lowerRow P) (lowerRow (flip P)) lv (k + 1) low ls′ ls′ li′ e → length ls′ ≡ length ls
           → (p : ℕ) → p ≡ sum (k + 1) (rowSteps P n) → (us′ ui′ s₂ : List ℕ) (u : Extent) → length s₂ ≡ length s₁ → ListKept OneAfterAnother P n k (upperCuts n) up uv us′ us′ ui′ s₁ s₂ u
           → At Plain i low lv up uv (k + 1) ls′ ls′ li′ us′ us′ ui′ s₂ (record { lower = e; upper = u; products = p; window = 0 })
       plain-next ls′ li′ e held size p sums us′ ui′ s₂ u same kept =

@@ -36,7 +36,7 @@ use Rattle.symbolic.proofs.Asking.{fits-upper, fits-shared, stop-null, 
 use Rattle.base.specs.Scratch.{upperCuts, lowerCuts}
 use Rattle.base.specs.Limits.{maxRows}
 
-stored-before : {P : Pattern} {n k : ℕ} {index runs starts : List ℕ} → Stored P n (k + 1) starts runs index → Stored P n k starts runs index
+stored-before : {P : Pattern} {n k : ℕ} {starts runs index : List ℕ} → Stored P n (k + 1) starts runs index → Stored P n k starts runs index
 stored-before h = record { list = λ i b. h .list i (omega arith); read = λ i b. h .read i (omega arith) }
 
 -- ---- the upper side: s₁ is scratch once the lower side is done, t the upper side's stamp
@@ -52,7 +52,7 @@ module _ (f : Form) (sharing : placingOf f ≡ Sharing) (i : Input) (low : List 
   pub upper-null : filled P k k ≡ false → askPlaces f P n (slotsOf (length low) lv (length up) uv) n ≡ Stop (NullPivot (spot k))
   upper-null a = stop-null f P n _ k place (h .passed) a
 
-  pub upper-due : (t : ℕ) (s₁ : List ℕ) → Begun i s₁ → Fresh n t s₁ → Cuts P n k (upperCuts n) s₁ → SideAt Upper i up uv k t 0 us ur ui s₁ (g .upper)
+  pub upper-due : (t : ℕ) (s₁ : List ℕ) → Begun i s₁ → Fresh n t s₁ → Cuts P n k (upperCuts n) s₁ → SideAt Sharing Upper i up uv k t 0 us ur ui s₁ (g .upper)
   upper-due t s₁ begun fresh cut =
       let l = h .upper in
       record { begun = begun; below = place; fresh = fresh; ready = tt; at = rw (← sharing) (record { held = l .held; cut = cut; stores = l .stores }) }
@@ -65,11 +65,11 @@ module _ (f : Form) (sharing : placingOf f ≡ Sharing) (i : Input) (low : List 
         → askPlaces f P n (slotsOf (length low) lv (length up) uv) n ≡ Stop (UpperSlots (spot k))
     upper-full e = stop-upper f P n _ k place (h .passed) (e .0) lower (upper-fits false (e .1))
 
-    module _ (t : ℕ) (s₁ : List ℕ) (begun : Begun i s₁) (us′ ur′ ui′ s₂ : List ℕ) (p : SidePlace) (next : SideNext Upper i up uv k t us′ ur′ ui′ s₁ s₂ p) where
+    module _ (t : ℕ) (s₁ : List ℕ) (begun : Begun i s₁) (us′ ur′ ui′ s₂ : List ℕ) (p : SidePlace) (next : SideNext Sharing Upper i up uv k t us′ ur′ ui′ s₁ s₂ p) where
       begun-next : Begun i s₂
       begun-next = begun-apart (next .apart) begun
 
-      pub upper-adding : Adding P n k ui′ ur′ us′ s₂ (p .below) (g .products)
+      pub upper-adding : Adding P n k us′ ur′ ui′ s₂ (p .below) (g .products)
       upper-adding = record {
         below = place;
         few = begun .few;
@@ -81,7 +81,7 @@ module _ (f : Form) (sharing : placingOf f ≡ Sharing) (i : Input) (low : List 
       }
 
       pub upper-next : (ls′ lr′ li′ : List ℕ) (e : Extent) (products window : ℕ) → products ≡ sum (k + 1) (rowSteps P n) → stampAt f (k + 1) ≡ suc t
-          → LowerAt f i low lv (k + 1) ls′ lr′ li′ s₂ (record { lower = e; upper = p .extent; products = products; window = window })
+          → LowerAt f i low lv (k + 1) ls′ lr′ li′ s₂ e window
           → At f i low lv up uv (k + 1) ls′ lr′ li′ us′ ur′ ui′ s₂ (record { lower = e; upper = p .extent; products = products; window = window })
       upper-next ls′ lr′ li′ e products window sums stamp l = record {
         passed = goes-on f P n _ k place (h .passed) (next .diagonal) lower (upper-fits true (next .fits));
@@ -96,7 +96,7 @@ module _ (f : Form) (sharing : placingOf f ≡ Sharing) (i : Input) (low : List 
 -- ---- the row form: its lower entries are counted
 
 module _ (i : Input) (low : List ℕ) (lv : ℕ) (up : List ℕ) (uv k : ℕ) (us ur ui s : List ℕ) (g : Progress) (h : At ByRow i low lv up uv k [] [] [] us ur ui s g) (place : k < i .n) where
-  pub row-due : SideAt Upper i up uv k (k + 1) 0 us ur ui s (g .upper)
+  pub row-due : SideAt Sharing Upper i up uv k (k + 1) 0 us ur ui s (g .upper)
   row-due = upper-due ByRow refl i low lv up uv k [] [] [] us ur ui s g h place (k + 1) s (h .begun) (h .fresh) (h .upper .cut)
 
   module _ (below : ℕ) (size : below ≡ length (lowerRow (stored i) k)) where
@@ -114,8 +114,25 @@ module _ (i : Input) (low : List ℕ) (lv : ℕ) (up : List ℕ) (uv k : ℕ) (u
 
 -- ---- the shared form: the lower side goes first
 
+-- it leaves the cuts of the upper lists as they are
+pub upper-cuts : (P : Pattern) (n k : ℕ) (s s₁ : List ℕ) → k < n → Apart Lower n s s₁ → Cuts P n k (upperCuts n) s → Cuts P n k (upperCuts n) s₁
+upper-cuts P n k s s₁ place a c = cuts-kept P n k (upperCuts n) s s₁ (λ j l. a .foreign (upperCuts n + j) (omega arith, omega arith)) c
+
+-- and the upper side what the lower one has left
+pub shared-lower : {i : Input} {low : List ℕ} {lv k t : ℕ} {ls lr li s s₁ : List ℕ} {p : SidePlace} → k < i .n → SideNext Sharing Lower i low lv k t ls lr li s s₁ p → {s₂ : List ℕ} → Apart Upper (i .n) s₁ s₂
+    → LowerAt Shared i low lv (k + 1) ls lr li s₂ (p .extent) (p .window)
+shared-lower {i} {k = k} {s₁ = s₁} place next {s₂} a =
+    let l = next .at in (
+      record {
+        held = l .held;
+        cut = cuts-kept (flip (stored i)) (i .n) (k + 1) (lowerCuts (i .n)) s₁ s₂ (λ j b. a .foreign (lowerCuts (i .n) + j) (omega arith, λ w. absurd (omega arith))) (l .cut);
+        stores = l .stores;
+      },
+      rw (rows-apart Upper i s₁ s₂ a) (ready-kept (λ q b c d. a .foreign q (omega arith, d)) (next .ready)),
+    )
+
 module _ (i : Input) (low : List ℕ) (lv : ℕ) (up : List ℕ) (uv k : ℕ) (ls lr li us ur ui s : List ℕ) (g : Progress) (h : At Shared i low lv up uv k ls lr li us ur ui s g) (place : k < i .n) where
-  pub lower-due : SideAt Lower i low lv k (k + k + 1) (g .window) ls lr li s (g .lower)
+  pub lower-due : SideAt Sharing Lower i low lv k (k + k + 1) (g .window) ls lr li s (g .lower)
   lower-due = record { begun = h .begun; below = place; fresh = h .fresh; ready = h .lower .1; at = h .lower .0 }
 
   pub lower-null : filled (flip (stored i)) k k ≡ false → askPlaces Shared (stored i) (i .n) (slotsOf (length low) lv (length up) uv) (i .n) ≡ Stop (NullPivot (spot k))
@@ -126,27 +143,14 @@ module _ (i : Input) (low : List ℕ) (lv : ℕ) (up : List ℕ) (uv k : ℕ) (l
   lower-full e =
       stop-lower Shared (stored i) (i .n) _ k place (h .passed) (sym (filled-flip (stored i) k k) ∙ e .0) (fits-shared (stored i) (i .n) (length low) lv (length up) uv k ∙ e .1)
 
-  module _ (ls′ lr′ li′ s₁ : List ℕ) (p : SidePlace) (next : SideNext Lower i low lv k (k + k + 1) ls′ lr′ li′ s s₁ p) where
+  module _ (ls′ lr′ li′ s₁ : List ℕ) (p : SidePlace) (next : SideNext Sharing Lower i low lv k (k + k + 1) ls′ lr′ li′ s s₁ p) where
     pub lower-begun : Begun i s₁
     lower-begun = begun-apart (next .apart) (h .begun)
 
     pub lower-fits : fits Shared Lower (stored i) (i .n) (slotsOf (length low) lv (length up) uv) k ≡ true
     lower-fits = fits-shared (stored i) (i .n) (length low) lv (length up) uv k ∙ next .fits
 
-    pub shared-due : SideAt Upper i up uv k (k + k + 1 + 1) 0 us ur ui s₁ (g .upper)
+    pub shared-due : SideAt Sharing Upper i up uv k (k + k + 1 + 1) 0 us ur ui s₁ (g .upper)
     shared-due =
         upper-due Shared refl i low lv up uv k ls lr li us ur ui s g h place (k + k + 1 + 1) s₁ lower-begun (rw add-one (next .last))
-        (cuts-kept (stored i) (i .n) k (upperCuts (i .n)) s s₁ (λ j l. next .apart .foreign (upperCuts (i .n) + j) (omega arith, omega arith)) (h .upper .cut))
-
-    -- the upper side leaves it as it is
-    pub shared-lower : (s₂ : List ℕ) (u : Extent) (products : ℕ) → Apart Upper (i .n) s₁ s₂
-        → LowerAt Shared i low lv (k + 1) ls′ lr′ li′ s₂ (record { lower = p .extent; upper = u; products = products; window = p .window })
-    shared-lower s₂ u products a =
-        let l = next .at in (
-          record {
-            held = l .held;
-            cut = cuts-kept (flip (stored i)) (i .n) (k + 1) (lowerCuts (i .n)) s₁ s₂ (λ j b. a .foreign (lowerCuts (i .n) + j) (omega arith, λ w. absurd (omega arith))) (l .cut);
-            stores = l .stores;
-          },
-          rw (rows-apart Upper i s₁ s₂ a) (ready-kept (λ q b c d. a .foreign q (omega arith, d)) (next .ready)),
-        )
+        (upper-cuts (stored i) (i .n) k s s₁ place (next .apart) (h .upper .cut))

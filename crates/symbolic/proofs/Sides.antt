@@ -13,7 +13,6 @@ use Rattle.marks.specs.MarkLaws.{room-kept}
 use Rattle.lent.specs.Reading.{But}
 use Rattle.columns.specs.Sides.{SideReady, rowsIn}
 use Rattle.storing.specs.declared.Way.{Way}
-use Rattle.storing.specs.declared.Way.the-variants.{Sharing}
 use Rattle.storing.specs.declared.Extent.{Extent}
 use Rattle.symbolic.specs.Places.{patternOf, cutsOf, Apart, Begun, Open, RowFound, ListsAt, Keep, ListKept, SideAt, SideNext}
 use Rattle.symbolic.specs.declared.OpenRow.{OpenRow}
@@ -25,7 +24,7 @@ use Rattle.base.specs.Scratch.{listFrom}
 
 module _ {way : Way} {side : Side} {i : Input} {k : ℕ} {store : List ℕ} {values : ℕ} {starts runs index s : List ℕ} {e : Extent} (begun : Begun i s) (place : k < i .n)
     (at : ListsAt way (patternOf side i) (i .n) k (cutsOf side (i .n)) store values starts runs index s e) where
-  pub lists-open : {t window : ℕ} → Fresh (i .n) t s → SideReady side (i .n) k window (rowsIn i s) s → Open side i k t window index runs starts s
+  pub lists-open : {t window : ℕ} → Fresh (i .n) t s → SideReady side (i .n) k window (rowsIn i s) s → Open side i k t window starts runs index s
   lists-open f r = record {
     begun = begun;
     below = place;
@@ -73,16 +72,16 @@ module _ (side : Side) (i : Input) (k t : ℕ) (s₀ s₁ s₂ : List ℕ) (o : 
 
 -- ---- by what the code finds
 
-module _ {side : Side} {i : Input} {store : List ℕ} {values k t window : ℕ} {starts runs index s : List ℕ} {e : Extent} (h : SideAt side i store values k t window starts runs index s e) where
-  pub side-open : Open side i k t window index runs starts s
+module _ {way : Way} {side : Side} {i : Input} {store : List ℕ} {values k t window : ℕ} {starts runs index s : List ℕ} {e : Extent} (h : SideAt way side i store values k t window starts runs index s e) where
+  pub side-open : Open side i k t window starts runs index s
   side-open = lists-open (h .begun) (h .below) (h .at) (h .fresh) (h .ready)
 
   module _ {s₁ : List ℕ} {o : OpenRow} (found : RowFound side i k t s s₁ o) (cuts : ℕ) (c : cuts ≡ cutsOf side (i .n)) where
-    pub side-keep : Keep Sharing (patternOf side i) (i .n) k t cuts store values starts runs index s₁ o e
+    pub side-keep : Keep way (patternOf side i) (i .n) k t cuts store values starts runs index s₁ o e
     side-keep = rw c (lists-keep (h .begun) (h .below) (h .at) found)
 
-    pub side-next : {starts′ runs′ index′ s₂ : List ℕ} {e′ : Extent} → ListKept Sharing (patternOf side i) (i .n) k cuts store values starts′ runs′ index′ s₁ s₂ e′ → length s₂ ≡ length s₁
-        → SideNext side i store values k t starts′ runs′ index′ s s₂ (record { below = o .below; window = o .window; extent = e′ })
+    pub side-next : {starts′ runs′ index′ s₂ : List ℕ} {e′ : Extent} → ListKept way (patternOf side i) (i .n) k cuts store values starts′ runs′ index′ s₁ s₂ e′ → length s₂ ≡ length s₁
+        → SideNext way side i store values k t starts′ runs′ index′ s s₂ (record { below = o .below; window = o .window; extent = e′ })
     side-next {s₂ = s₂} kept′ size =
         let kept = rw c at kept′ in
         record {

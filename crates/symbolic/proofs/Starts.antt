@@ -7,7 +7,7 @@ use lib.ListN.{length, getD, take, length-append, length-take, length-drop}
 use lib.Seq.{getD-take}
 use Rattle.base.specs.Lists.{blank, sum}
 use Rattle.base.specs.TableLaws.{getD-table, length-table}
-use Rattle.base.specs.ZerosLaws.{blank-length, blank-at, blank-same}
+use Rattle.base.specs.ZerosLaws.{blank-length, blank-at}
 use Rattle.base.specs.declared.Form.{Form}
 use Rattle.base.specs.declared.Form.the-variants.{Plain, Shared, ByRow}
 use Rattle.base.specs.declared.Side.the-variants.{Lower}
@@ -101,18 +101,14 @@ columns-begun i s₀ s u l e h =
 
 -- ---- stores
 
-blank-twice : (l l′ : List ℕ) → l′ ≡ blank 0 l → l′ ≡ blank 0 l′
-blank-twice l l′ e = e ∙ blank-same 0 l l′ (sym (ap length e ∙ blank-length 0 l))
+cleared-held : (way : Way) (T R : ℕ → List ℕ) (n values : ℕ) (starts starts′ runs index : List ℕ) → length starts ≡ n + 1
+    → starts′ ≡ blank 0 starts → Holding way T R values 0 index starts′ runs index nothing
+cleared-held way T R n values starts starts′ runs index l b =
+    holding-none way T R values starts′ runs index (rw (b, blank-length) (omega arith)) (ap (λ x. getD x 0 0) b ∙ blank-at 0 starts 0 0 (omega arith))
 
-cleared-held : (way : Way) (T R : ℕ → List ℕ) (n values : ℕ) (index index′ runs starts starts′ : List ℕ) → length starts ≡ n + 1
-    → index′ ≡ blank 0 index → starts′ ≡ blank 0 starts → Holding way T R values 0 (blank 0 index′) starts′ runs index′ nothing
-cleared-held way T R n values index index′ runs starts starts′ l a b =
-    rw (← blank-twice index index′ a)
-    (holding-none way T R values starts′ runs index′ (rw (b, blank-length) (omega arith)) (ap (λ x. getD x 0 0) b ∙ blank-at 0 starts 0 0 (omega arith)))
-
-pub cleared-stores : (way : Way) (n values : ℕ) (index index′ starts starts′ runs runs′ : List ℕ) → Stores way n index values starts runs → length starts′ ≡ length starts → length runs′ ≡ length runs
+pub cleared-stores : (way : Way) (n values : ℕ) (starts starts′ runs runs′ index index′ : List ℕ) → Stores way n index values starts runs → length starts′ ≡ length starts → length runs′ ≡ length runs
     → length index′ ≡ length index → Stores way n index′ values starts′ runs′
-cleared-stores way n values index index′ starts starts′ runs runs′ z a b c =
+cleared-stores way n values starts starts′ runs runs′ index index′ z a b c =
     record { starts-size = a ∙ z .starts-size; runs-size = b ∙ z .runs-size; slots-fit = omega (arith, z .slots-fit); values-fit = z .values-fit }
 
 blank-long : (l l′ : List ℕ) → l′ ≡ blank 0 l → length l′ ≡ length l
@@ -121,9 +117,9 @@ blank-long l l′ e = ap length e ∙ blank-length 0 l
 cleared-lists : (way : Way) (P : Pattern) (n cuts values : ℕ) (starts starts′ runs runs′ index index′ s : List ℕ) → Stores way n index values starts runs
     → starts′ ≡ blank 0 starts → length runs′ ≡ length runs → index′ ≡ blank 0 index → ListsAt way P n 0 cuts index′ values starts′ runs′ index′ s nothing
 cleared-lists way P n cuts values starts starts′ runs runs′ index index′ s z a b c = record {
-  held = cleared-held way (upperRow P n) (lowerRow P) n values index index′ runs′ starts starts′ (z .starts-size) c a;
+  held = cleared-held way (upperRow P n) (lowerRow P) n values starts starts′ runs′ index′ (z .starts-size) a;
   cut = λ j l. absurd (omega arith);
-  stores = cleared-stores way n values index index′ starts starts′ runs runs′ z (blank-long starts starts′ a) b (blank-long index index′ c);
+  stores = cleared-stores way n values starts starts′ runs runs′ index index′ z (blank-long starts starts′ a) b (blank-long index index′ c);
 }
 
 -- ---- the forms
@@ -135,7 +131,7 @@ fresh-first Shared n s h = h
 fresh-first ByRow n s h = h
 
 form-start : (f : Form) (i : Input) (low : List ℕ) (lv uv : ℕ) (ls lr li us us′ ur ui ui′ s : List ℕ) → Begun i s → Fresh (i .n) 1 s → Stores (placingOf f) (i .n) ui uv us ur
-    → (ur′ : List ℕ) → us′ ≡ blank 0 us → length ur′ ≡ length ur → ui′ ≡ blank 0 ui → LowerAt f i low lv 0 ls lr li s noProgress
+    → (ur′ : List ℕ) → us′ ≡ blank 0 us → length ur′ ≡ length ur → ui′ ≡ blank 0 ui → LowerAt f i low lv 0 ls lr li s nothing 0
     → (g : Progress) → g ≡ noProgress → At f i low lv ui′ uv 0 ls lr li us′ ur′ ui′ s g
 unfolding sum
 form-start f i low lv uv ls lr li us us′ ur ui ui′ s begun fresh upper ur′ a b c lower g q = rw q (record {
@@ -153,8 +149,8 @@ pub plain-start : (i : Input) (ls ls′ li li′ : List ℕ) (lv : ℕ) (us us�
     → (g : Progress) → g ≡ noProgress → At Plain i li′ lv ui′ uv 0 ls′ ls′ li′ us′ us′ ui′ s g
 plain-start i ls ls′ li li′ lv us us′ ui ui′ uv s₀ s l a b c d e =
     form-start Plain i li′ lv uv ls′ ls′ li′ us us′ us ui ui′ s (begun-of i s₀ s (l .matrix) e) (fresh-of i s₀ s (l .matrix) e) (l .upper) us′ c (blank-long us us′ c) d (
-      cleared-held OneAfterAnother (lowerRow (stored i)) (lowerRow (flip (stored i))) (i .n) lv li li′ ls′ ls ls′ (l .lower .starts-size) b a,
-      cleared-stores OneAfterAnother (i .n) lv li li′ ls ls′ ls ls′ (l .lower) (blank-long ls ls′ a) (blank-long ls ls′ a) (blank-long li li′ b),
+      cleared-held OneAfterAnother (lowerRow (stored i)) (lowerRow (flip (stored i))) (i .n) lv ls ls′ ls′ li′ (l .lower .starts-size) a,
+      cleared-stores OneAfterAnother (i .n) lv ls ls′ ls ls′ li li′ (l .lower) (blank-long ls ls′ a) (blank-long ls ls′ a) (blank-long li li′ b),
     )
 
 pub row-start : (i : Input) (us us′ ur ui ui′ : List ℕ) (uv : ℕ) (s₀ s : List ℕ) → RowLent i us ur ui uv (length s₀) → us′ ≡ blank 0 us → ui′ ≡ blank 0 ui

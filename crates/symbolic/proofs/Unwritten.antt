@@ -5,7 +5,7 @@ use mathlib.Core.List.{List, _++_}
 use Prim.Native.Nat.{ℕ, _+_, _-_, _<_, _≤_}
 use native.Mathlib.Omega.{arith}
 use lib.ListN.{length, getD, length-take, List·getD-append}
-use Rattle.base.specs.Lists.{listAt, blank}
+use Rattle.base.specs.Lists.{listAt}
 use Rattle.base.specs.declared.Form.{Form}
 use Rattle.base.specs.declared.Form.the-variants.{Plain, Shared, ByRow}
 use Rattle.base.specs.declared.Side.{Side}
@@ -52,7 +52,7 @@ part-stays index index′ slots slots′ more rest rest′ q a b c l h =
     rw (a, b, List·getD-append slots rest 0 q l, List·getD-append slots′ rest′ 0 q (omega arith), c, List·getD-append slots more 0 q l)
 
 module _ (way : Way) (T R : ℕ → List ℕ) (n values k m : ℕ) (suited : Suited way T R n) (up : k ≤ m) (most : m ≤ n)
-    (index₀ index runs starts index′ runs′ starts′ : List ℕ) (e e′ : Extent)
+    (index₀ starts runs index starts′ runs′ index′ : List ℕ) (e e′ : Extent)
     (h : Holding way T R values k index₀ starts runs index e) (h′ : Holding way T R values m index₀ starts′ runs′ index′ e′) where
   slot-stays : (q : ℕ) → q < e .used → getD index′ q 0 ≡ getD index q 0
   slot-stays q l =
@@ -103,7 +103,7 @@ suited ByRow Lower v P n = absurd (false≢true v)
 -- before place k the stores of a side hold its lists
 held : (f : Form) (side : Side) → keeps f side ≡ true → (i : Input) (low : List ℕ) (lv : ℕ) (up : List ℕ) (uv k : ℕ) (ls lr li us ur ui s : List ℕ) (g : Progress)
     → At f i low lv up uv k ls lr li us ur ui s g
-    → Holding (placingOf f) (listsOf f side (stored i) (i .n)) (rowsOf side (stored i)) (ofSide side lv uv) k (blank 0 (ofSide side low up))
+    → Holding (placingOf f) (listsOf f side (stored i) (i .n)) (rowsOf side (stored i)) (ofSide side lv uv) k (ofSide side low up)
     (sideOf f side ls lr li us ur ui .starts) (sideOf f side ls lr li us ur ui .runs) (sideOf f side ls lr li us ur ui .index) (ofSide side (g .lower) (g .upper))
 held f Upper v i low lv up uv k ls lr li us ur ui s g h = h .upper .held
 held Plain Lower v i low lv up uv k ls lr li us ur ui s g h = h .lower .0
@@ -117,7 +117,7 @@ module _ (f : Form) (side : Side) (v : keeps f side ≡ true) (i : Input) (low :
       → Unwritten k (ofSide side (g .lower) (g .upper) .used) (sideOf f side ls lr li us ur ui) (sideOf f side ls′ lr′ li′ us′ ur′ ui′)
   unwritten m l h′ =
       side-unwritten (placingOf f) (listsOf f side (stored i) (i .n)) (rowsOf side (stored i)) (i .n) (ofSide side lv uv) k m (suited f side v (stored i) (i .n)) l (h′ .most)
-      (blank 0 (ofSide side low up)) _ _ _ _ _ _ _ _
+      (ofSide side low up) _ _ _ _ _ _ _ _
       (held f side v i low lv up uv k ls lr li us ur ui s g h) (held f side v i low lv up uv m ls′ lr′ li′ us′ ur′ ui′ s′ g′ h′)
 
   -- and place k leaves it so: `analyze_place_plain`, `analyze_place_by_row` and `analyze_place_shared` promise TurnEnds

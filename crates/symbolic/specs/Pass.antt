@@ -3,7 +3,7 @@ use mathlib.Core.Path.{_≡_}
 use mathlib.Core.List.{List, []}
 use Prim.Native.Nat.{ℕ, _+_, _*_, _<_, _≤_}
 use lib.ListN.{length}
-use Rattle.base.specs.Lists.{blank, sum}
+use Rattle.base.specs.Lists.{sum}
 use Rattle.base.specs.declared.Form.{Form}
 use Rattle.base.specs.declared.Form.the-variants.{Plain, Shared, ByRow}
 use Rattle.base.specs.declared.Side.{Side}
@@ -19,12 +19,12 @@ use Rattle.matrix.specs.Input.{Input, inputOf, stored}
 use Rattle.marks.specs.Marks.{Fresh}
 use Rattle.marks.specs.Rows.{rowSteps}
 use Rattle.columns.specs.Columns.{Ready}
-use Rattle.columns.specs.Sides.{rowsIn}
+use Rattle.columns.specs.Sides.{Inverse, rowsIn}
 use Rattle.questions.specs.Settled.{Structured}
 use Rattle.base.specs.declared.SideSizes.{SideSizes}
 use Rattle.base.specs.declared.Sizes.{Sizes}
 use Rattle.outcome.specs.Structure.{askPlaces, counts}
-use Rattle.outcome.specs.Placed.{PlacedSide}
+use Rattle.outcome.specs.Placed.{WrittenSide}
 use Rattle.storing.specs.Held.{Holding}
 use Rattle.storing.specs.declared.Extent.{Extent}
 use Rattle.storing.specs.declared.Way.{Way}
@@ -49,18 +49,19 @@ abbrev pub foundAnswer : Asked → Counts → Answer
 foundAnswer Pass c = answers.Done c
 foundAnswer (Stop q) c = answers.Refused q
 
--- where 9 to 11 are passed at every place, a side's lists stand in its stores
+-- where 9 to 11 are passed at every place, a side's lists stand in its stores, and zeros after them
 abbrev pub SidePlaced : Form → Side → Input → Sizes → List ℕ → List ℕ → List ℕ → ℕ → Type 0
-SidePlaced f side i z starts runs index values = askPlaces f (stored i) (i .n) z (i .n) ≡ Pass → PlacedSide f side (stored i) (i .n) starts runs index values
+SidePlaced f side i z starts runs index values = askPlaces f (stored i) (i .n) z (i .n) ≡ Pass → WrittenSide f side (stored i) (i .n) starts runs index values
 
--- the answer of a form's pass, and its upper side
-pub record Analyzed (f : Form) (i : Input) (z : Sizes) (us ur ui : List ℕ) (uv : ℕ) (a : Answer) : Type 0 where
+-- the answer of a form's pass, its upper side, and the inverse column order that it leaves in scratch s
+pub record Analyzed (f : Form) (i : Input) (z : Sizes) (us ur ui : List ℕ) (uv : ℕ) (s : List ℕ) (a : Answer) : Type 0 where
   pub answer : a ≡ foundAnswer (askPlaces f (stored i) (i .n) z (i .n)) (counts i)
   pub upper : SidePlaced f Upper i z us ur ui uv
+  pub inverse : askPlaces f (stored i) (i .n) z (i .n) ≡ Pass → Inverse i s
 
 -- and its lower side, which the row form has not
-pub record AnalyzedBoth (f : Form) (i : Input) (z : Sizes) (ls lr li : List ℕ) (lv : ℕ) (us ur ui : List ℕ) (uv : ℕ) (a : Answer) : Type 0 where
-  pub found : Analyzed f i z us ur ui uv a
+pub record AnalyzedBoth (f : Form) (i : Input) (z : Sizes) (ls lr li : List ℕ) (lv : ℕ) (us ur ui : List ℕ) (uv : ℕ) (s : List ℕ) (a : Answer) : Type 0 where
+  pub found : Analyzed f i z us ur ui uv s a
   pub lower : SidePlaced f Lower i z ls lr li lv
 
 -- ---- before place k
@@ -78,21 +79,21 @@ stampAt Shared k = k + k + 1
 stampAt ByRow k = k + 1
 
 -- the lower side: rows one after another, columns with their cuts and the columns of M' still to come, or the count of its entries
-abbrev pub LowerAt : Form → Input → List ℕ → ℕ → ℕ → List ℕ → List ℕ → List ℕ → List ℕ → Progress → Type 0
-LowerAt Plain i store values k starts runs index s g =
-    Holding OneAfterAnother (lowerRow (stored i)) (lowerRow (flip (stored i))) values k (blank 0 store) starts starts index (g .lower)
+abbrev pub LowerAt : Form → Input → List ℕ → ℕ → ℕ → List ℕ → List ℕ → List ℕ → List ℕ → Extent → ℕ → Type 0
+LowerAt Plain i store values k starts runs index s e window =
+    Holding OneAfterAnother (lowerRow (stored i)) (lowerRow (flip (stored i))) values k store starts starts index e
     × Stores OneAfterAnother (i .n) store values starts starts
-LowerAt Shared i store values k starts runs index s g =
-    ListsAt Sharing (flip (stored i)) (i .n) k (lowerCuts (i .n)) store values starts runs index s (g .lower) × Ready (i .n) k (g .window) (rowsIn i s) s
-LowerAt ByRow i store values k starts runs index s g = g .lower .entries ≡ sum k (λ j. length (lowerRow (stored i) j))
+LowerAt Shared i store values k starts runs index s e window =
+    ListsAt Sharing (flip (stored i)) (i .n) k (lowerCuts (i .n)) store values starts runs index s e × Ready (i .n) k window (rowsIn i s) s
+LowerAt ByRow i store values k starts runs index s e window = e .entries ≡ sum k (λ j. length (lowerRow (stored i) j))
 
--- low and up are the index stores before the pass
+-- low and up are the index stores as they stood before the first place
 pub record At (f : Form) (i : Input) (low : List ℕ) (lv : ℕ) (up : List ℕ) (uv k : ℕ) (ls lr li us ur ui s : List ℕ) (g : Progress) : Type 0 where
   pub passed : askPlaces f (stored i) (i .n) (slotsOf (length low) lv (length up) uv) k ≡ Pass
   pub most : k ≤ i .n
   pub begun : Begun i s
   pub fresh : Fresh (i .n) (stampAt f k) s
-  pub lower : LowerAt f i low lv k ls lr li s g
+  pub lower : LowerAt f i low lv k ls lr li s (g .lower) (g .window)
   pub upper : ListsAt (placingOf f) (stored i) (i .n) k (upperCuts (i .n)) up uv us ur ui s (g .upper)
   pub products-are : g .products ≡ sum k (rowSteps (stored i) (i .n))
 

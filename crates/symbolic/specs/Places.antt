@@ -4,7 +4,7 @@ use mathlib.Core.Bool.{true, false}
 use mathlib.Core.List.{List, []}
 use Prim.Native.Nat.{ℕ, suc, _+_, _<_, _≤_}
 use lib.ListN.{length, getD, take, drop}
-use Rattle.base.specs.Lists.{blank, sum}
+use Rattle.base.specs.Lists.{sum}
 use Rattle.base.specs.declared.Side.{Side}
 use Rattle.base.specs.declared.Side.the-variants.{Lower, Upper}
 use Rattle.fill.specs.Fill.{Pattern, filled, upperRow, lowerRow, flip}
@@ -61,17 +61,17 @@ pub record Begun (i : Input) (s : List ℕ) : Type 0 where
 -- ---- opening place k: its lists are found
 
 -- what it finds; starts are the side's list starts
-pub record Open (side : Side) (i : Input) (k t window : ℕ) (index runs starts s : List ℕ) : Type 0 where
+pub record Open (side : Side) (i : Input) (k t window : ℕ) (starts runs index s : List ℕ) : Type 0 where
   pub begun : Begun i s
   pub below : k < i .n
   pub held : PlaceReady (patternOf side i) (i .n) k t (cutsOf side (i .n)) s starts runs index
   pub ready : SideReady side (i .n) k window (rowsIn i s) s
 
 -- the same, for some column order and some list starts: neither is lent
-pub record Opening (side : Side) (n k t window : ℕ) (starts columns r index runs s : List ℕ) : Type 0 where
+pub record Opening (side : Side) (n k t window : ℕ) (starts columns r runs index s : List ℕ) : Type 0 where
   pub order : List ℕ
   pub lists : List ℕ
-  pub due : Open side (inputOf n starts columns [] r order []) k t window index runs lists s
+  pub due : Open side (inputOf n starts columns [] r order []) k t window lists runs index s
 
 -- lower row k and T(k) of the pattern stand in scratch from slot 5n on, and the marks are row k of the fill
 pub record Listing (P : Pattern) (n k t : ℕ) (s : List ℕ) (below above : ℕ) : Type 0 where
@@ -100,16 +100,16 @@ abbrev pub runCount : Way → ℕ → ℕ
 runCount OneAfterAnother n = n + 1
 runCount Sharing n = n
 
--- the lengths of a side's stores; store is its index store before the pass
+-- the lengths of a side's stores; store is its index store as it stood before the first place
 pub record Stores (way : Way) (n : ℕ) (store : List ℕ) (values : ℕ) (starts runs : List ℕ) : Type 0 where
   pub starts-size : length starts ≡ n + 1
   pub runs-size : length runs ≡ runCount way n
   pub slots-fit : length store ≤ maxSlots
   pub values-fit : values ≤ maxSlots
 
--- a side's lists before place k, in stores that were cleared before the first
+-- a side's lists before place k: a pass that writes began with a cleared store, a pass that compares with the one it was presented
 pub record ListsAt (way : Way) (P : Pattern) (n k cuts : ℕ) (store : List ℕ) (values : ℕ) (starts runs index s : List ℕ) (e : Extent) : Type 0 where
-  pub held : Holding way (upperRow P n) (lowerRow P) values k (blank 0 store) starts runs index e
+  pub held : Holding way (upperRow P n) (lowerRow P) values k store starts runs index e
   pub cut : Cuts P n k cuts s
   pub stores : Stores way n store values starts runs
 
@@ -145,7 +145,7 @@ pub record KeepLower (P : Pattern) (n k : ℕ) (store : List ℕ) (values : ℕ)
   pub space : Room n s
   pub size : count ≡ length (lowerRow P k)
   pub list : take count (drop (listFrom n) s) ≡ lowerRow P k
-  pub held : Holding OneAfterAnother (lowerRow P) (lowerRow (flip P)) values k (blank 0 store) starts starts index e
+  pub held : Holding OneAfterAnother (lowerRow P) (lowerRow (flip P)) values k store starts starts index e
   pub stores : Stores OneAfterAnother n store values starts starts
 
 -- the same, for some pattern and some store
@@ -156,13 +156,13 @@ pub record KeepingLower (n k values : ℕ) (starts index s : List ℕ) (count : 
 
 abbrev pub LowerEnds : Pattern → ℕ → List ℕ → ℕ → List ℕ → List ℕ → Put → Type 0
 LowerEnds P k store values starts index (Done e) =
-    (room plain (lowerRow P) (lowerRow (flip P)) (length store) values k ≡ true) × Holding OneAfterAnother (lowerRow P) (lowerRow (flip P)) values (k + 1) (blank 0 store) starts starts index e
+    (room plain (lowerRow P) (lowerRow (flip P)) (length store) values k ≡ true) × Holding OneAfterAnother (lowerRow P) (lowerRow (flip P)) values (k + 1) store starts starts index e
 LowerEnds P k store values starts index Full = room plain (lowerRow P) (lowerRow (flip P)) (length store) values k ≡ false
 
 -- ---- the products of place k, added to those before
 
 -- lower row k stands in scratch, and the lists of the places before k in their stores
-pub record Adding (P : Pattern) (n k : ℕ) (index runs starts s : List ℕ) (count products : ℕ) : Type 0 where
+pub record Adding (P : Pattern) (n k : ℕ) (starts runs index s : List ℕ) (count products : ℕ) : Type 0 where
   pub below : k < n
   pub few : n ≤ maxRows
   pub space : Room n s
@@ -171,41 +171,41 @@ pub record Adding (P : Pattern) (n k : ℕ) (index runs starts s : List ℕ) (co
   pub store : Stored P n k starts runs index
   pub before : products ≡ sum k (rowSteps P n)
 
--- the same, for some pattern, place, index store and run starts
+-- the same, for some pattern, place, run starts and index store
 pub record Addable (n : ℕ) (starts s : List ℕ) (count products : ℕ) : Type 0 where
   pub pattern : Pattern
   pub place : ℕ
-  pub index : List ℕ
   pub runs : List ℕ
-  pub adding : Adding pattern n place index runs starts s count products
+  pub index : List ℕ
+  pub adding : Adding pattern n place starts runs index s count products
 
--- ---- one side of the sharing forms at place k
+-- ---- one side at place k
 
-pub record SideAt (side : Side) (i : Input) (store : List ℕ) (values k t window : ℕ) (starts runs index s : List ℕ) (e : Extent) : Type 0 where
+pub record SideAt (way : Way) (side : Side) (i : Input) (store : List ℕ) (values k t window : ℕ) (starts runs index s : List ℕ) (e : Extent) : Type 0 where
   pub begun : Begun i s
   pub below : k < i .n
   pub fresh : Fresh (i .n) t s
   pub ready : SideReady side (i .n) k window (rowsIn i s) s
-  pub at : ListsAt Sharing (patternOf side i) (i .n) k (cutsOf side (i .n)) store values starts runs index s e
+  pub at : ListsAt way (patternOf side i) (i .n) k (cutsOf side (i .n)) store values starts runs index s e
 
 -- the same, for some column order and some store
-pub record SideDue (side : Side) (n values k t window : ℕ) (mstarts columns r starts runs index s : List ℕ) (e : Extent) : Type 0 where
+pub record SideDue (way : Way) (side : Side) (n values k t window : ℕ) (mstarts columns r starts runs index s : List ℕ) (e : Extent) : Type 0 where
   pub order : List ℕ
   pub store : List ℕ
-  pub due : SideAt side (inputOf n mstarts columns [] r order []) store values k t window starts runs index s e
+  pub due : SideAt way side (inputOf n mstarts columns [] r order []) store values k t window starts runs index s e
 
-pub record SideNext (side : Side) (i : Input) (store : List ℕ) (values k t : ℕ) (starts runs index s₀ s : List ℕ) (p : SidePlace) : Type 0 where
+pub record SideNext (way : Way) (side : Side) (i : Input) (store : List ℕ) (values k t : ℕ) (starts runs index s₀ s : List ℕ) (p : SidePlace) : Type 0 where
   pub diagonal : filled (patternOf side i) k k ≡ true
-  pub fits : room (wayOf Sharing) (upperRow (patternOf side i) (i .n)) (lowerRow (patternOf side i)) (length store) values k ≡ true
-  pub at : ListsAt Sharing (patternOf side i) (i .n) (k + 1) (cutsOf side (i .n)) store values starts runs index s (p .extent)
+  pub fits : room (wayOf way) (upperRow (patternOf side i) (i .n)) (lowerRow (patternOf side i)) (length store) values k ≡ true
+  pub at : ListsAt way (patternOf side i) (i .n) (k + 1) (cutsOf side (i .n)) store values starts runs index s (p .extent)
   pub ready : SideReady side (i .n) (k + 1) (p .window) (rowsIn i s) s
   pub last : Fresh (i .n) (suc t) s
   pub apart : Apart side (i .n) s₀ s
   pub size : p .below ≡ length (lowerRow (patternOf side i) k)
   pub lower : take (p .below) (drop (listFrom (i .n)) s) ≡ lowerRow (patternOf side i) k
 
-abbrev pub SideEnds : Side → Input → List ℕ → ℕ → ℕ → ℕ → List ℕ → List ℕ → List ℕ → List ℕ → List ℕ → SideEnd → Type 0
-SideEnds side i store values k t starts runs index s₀ s NoDiagonal = filled (patternOf side i) k k ≡ false
-SideEnds side i store values k t starts runs index s₀ s NoRoom =
-    (filled (patternOf side i) k k ≡ true) × (room (wayOf Sharing) (upperRow (patternOf side i) (i .n)) (lowerRow (patternOf side i)) (length store) values k ≡ false)
-SideEnds side i store values k t starts runs index s₀ s (Placed p) = SideNext side i store values k t starts runs index s₀ s p
+abbrev pub SideEnds : Way → Side → Input → List ℕ → ℕ → ℕ → ℕ → List ℕ → List ℕ → List ℕ → List ℕ → List ℕ → SideEnd → Type 0
+SideEnds way side i store values k t starts runs index s₀ s NoDiagonal = filled (patternOf side i) k k ≡ false
+SideEnds way side i store values k t starts runs index s₀ s NoRoom =
+    (filled (patternOf side i) k k ≡ true) × (room (wayOf way) (upperRow (patternOf side i) (i .n)) (lowerRow (patternOf side i)) (length store) values k ≡ false)
+SideEnds way side i store values k t starts runs index s₀ s (Placed p) = SideNext way side i store values k t starts runs index s₀ s p

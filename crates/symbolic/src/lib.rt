@@ -69,8 +69,8 @@ pub enum Turned {
     Stopped(Refusal),
 }
 
-// Where the cuts of a side's lists stand in scratch.
-fn cuts_of(side: Side, n: usize) -> usize
+// Tells where the cuts of a side's lists stand in scratch.
+pub fn cuts_of(side: Side, n: usize) -> usize
     requires { ⌜ n ≤ maxRows ⌝ }
     ensures { λ r. ⌜ r ≡ cutsOf side n ⌝ }
 {
@@ -81,7 +81,7 @@ fn cuts_of(side: Side, n: usize) -> usize
 }
 
 // Finds lower row k and T(k) of a side: row k of M' above the diagonal, column k below, closed over the lists before it.
-fn open_place(
+pub fn open_place(
     side: Side,
     n: usize,
     starts: &[u32],
@@ -94,8 +94,8 @@ fn open_place(
     k: Place,
     window: usize,
 ) -> Opened
-    requires { ⌜ Opening side n (k .0) stamp window (now starts) (now columns) (now r) (now index) (now runs) (now marks) ⌝ }
-    ensures { λ o. ⌜ ((c lists : List ℕ) → Open side (inputOf n (now (starts .entry)) (now (columns .entry)) [] (now (r .entry)) c []) (k .0) stamp window (now (index .entry)) (now (runs .entry)) lists (now (marks .entry)) → OpenEnds side (inputOf n (now (starts .entry)) (now (columns .entry)) [] (now (r .entry)) c []) (k .0) stamp (now (marks .entry)) (now (marks .exit)) o) ⌝ }
+    requires { ⌜ Opening side n (k .0) stamp window (now starts) (now columns) (now r) (now runs) (now index) (now marks) ⌝ }
+    ensures { λ o. ⌜ ((c lists : List ℕ) → Open side (inputOf n (now (starts .entry)) (now (columns .entry)) [] (now (r .entry)) c []) (k .0) stamp window lists (now (runs .entry)) (now (index .entry)) (now (marks .entry)) → OpenEnds side (inputOf n (now (starts .entry)) (now (columns .entry)) [] (now (r .entry)) c []) (k .0) stamp (now (marks .entry)) (now (marks .exit)) o) ⌝ }
 {
     let p = k.0 as usize;
     let end = columns::load(side, marks, n, stamp, p, window, starts, columns, r);
@@ -208,7 +208,7 @@ fn append_lower(
 // The products of place k, added to those before it: its lower row stands in scratch.
 fn add_products(n: usize, starts: &[u32], marks: &[u32], below: usize, before: u64) -> u64
     requires { ⌜ Addable n (now starts) (now marks) below before ⌝ }
-    ensures { λ r. ⌜ ((P : Pattern) (k : ℕ) (index runs : List ℕ) → Adding P n k index runs (now (starts .entry)) (now (marks .entry)) below before → r ≡ sum (k + 1) (rowSteps P n)) ⌝ }
+    ensures { λ r. ⌜ ((P : Pattern) (k : ℕ) (runs index : List ℕ) → Adding P n k (now (starts .entry)) runs index (now (marks .entry)) below before → r ≡ sum (k + 1) (rowSteps P n)) ⌝ }
 {
     let at = scratch::LIST * n;
     let end = at + below;
@@ -232,8 +232,8 @@ fn place_side(
     window: usize,
     e: Extent,
 ) -> SideEnd
-    requires { ⌜ SideDue side n «side_values» (k .0) stamp window (now starts) (now columns) (now r) (now «side_starts») (now «side_runs») (now «side_index») (now marks) e ⌝ }
-    ensures { λ o. ⌜ ((c store : List ℕ) → SideAt side (inputOf n (now (starts .entry)) (now (columns .entry)) [] (now (r .entry)) c []) store «side_values» (k .0) stamp window (now («side_starts» .entry)) (now («side_runs» .entry)) (now («side_index» .entry)) (now (marks .entry)) e → SideEnds side (inputOf n (now (starts .entry)) (now (columns .entry)) [] (now (r .entry)) c []) store «side_values» (k .0) stamp (now («side_starts» .exit)) (now («side_runs» .exit)) (now («side_index» .exit)) (now (marks .entry)) (now (marks .exit)) o) ⌝ }
+    requires { ⌜ SideDue Way.Sharing side n «side_values» (k .0) stamp window (now starts) (now columns) (now r) (now «side_starts») (now «side_runs») (now «side_index») (now marks) e ⌝ }
+    ensures { λ o. ⌜ ((c store : List ℕ) → SideAt Way.Sharing side (inputOf n (now (starts .entry)) (now (columns .entry)) [] (now (r .entry)) c []) store «side_values» (k .0) stamp window (now («side_starts» .entry)) (now («side_runs» .entry)) (now («side_index» .entry)) (now (marks .entry)) e → SideEnds Way.Sharing side (inputOf n (now (starts .entry)) (now (columns .entry)) [] (now (r .entry)) c []) store «side_values» (k .0) stamp (now («side_starts» .exit)) (now («side_runs» .exit)) (now («side_index» .exit)) (now (marks .entry)) (now (marks .exit)) o) ⌝ }
 {
     let opened = open_place(
         side,
@@ -276,8 +276,8 @@ fn place_side(
 
 // ---- the ends of the pass
 
-// Scratch is zero but for the inverse column order.
-fn begin_marks(n: usize, c: &[Index], marks: &mut [u32])
+// Clears scratch but for the inverse column order, which it writes there.
+pub fn begin_marks(n: usize, c: &[Index], marks: &mut [u32])
     requires { ⌜ InverseLent n (now c) (length (now marks) - n) ⌝ }
     ensures { λ _. ⌜ now (marks .exit) ≡ invertedAt (now (c .entry)) n (blank 0 (now (marks .entry))) ⌝ }
 {
@@ -285,8 +285,8 @@ fn begin_marks(n: usize, c: &[Index], marks: &mut [u32])
     questions::invert_at(n, c, marks);
 }
 
-// The same, and the columns of M' can be handed out.
-fn begin_columns(
+// Does the same, and lets the columns of M' be handed out.
+pub fn begin_columns(
     n: usize,
     starts: &[u32],
     columns: &[Index],
@@ -418,7 +418,7 @@ pub fn analyze_plain(
     marks: &mut [u32],
 ) -> Answer
     requires { ⌜ PlainLent (inputOf n (now starts) (now columns) [] (now r) (now c) []) (now «lower_starts») (now «lower_index») «lower_values» (now «upper_starts») (now «upper_index») «upper_values» (length (now marks)) ⌝ }
-    ensures { λ a. ⌜ AnalyzedBoth Form.Plain (inputOf n (now (starts .entry)) (now (columns .entry)) [] (now (r .entry)) (now (c .entry)) []) (slotsOf (length (now («lower_index» .entry))) «lower_values» (length (now («upper_index» .entry))) «upper_values») (now («lower_starts» .exit)) (now («lower_starts» .exit)) (now («lower_index» .exit)) «lower_values» (now («upper_starts» .exit)) (now («upper_starts» .exit)) (now («upper_index» .exit)) «upper_values» a ⌝ }
+    ensures { λ a. ⌜ AnalyzedBoth Form.Plain (inputOf n (now (starts .entry)) (now (columns .entry)) [] (now (r .entry)) (now (c .entry)) []) (slotsOf (length (now («lower_index» .entry))) «lower_values» (length (now («upper_index» .entry))) «upper_values») (now («lower_starts» .exit)) (now («lower_starts» .exit)) (now («lower_index» .exit)) «lower_values» (now («upper_starts» .exit)) (now («upper_starts» .exit)) (now («upper_index» .exit)) «upper_values» (now (marks .exit)) a ⌝ }
 {
     base::clear_u32(lower_starts);
     base::clear_index(lower_index);
@@ -528,7 +528,7 @@ pub fn analyze_by_row(
     marks: &mut [u32],
 ) -> Answer
     requires { ⌜ RowLent (inputOf n (now starts) (now columns) [] (now r) (now c) []) (now «upper_starts») (now «upper_runs») (now «upper_index») «upper_values» (length (now marks)) ⌝ }
-    ensures { λ a. ⌜ Analyzed Form.ByRow (inputOf n (now (starts .entry)) (now (columns .entry)) [] (now (r .entry)) (now (c .entry)) []) (slotsOf 0 0 (length (now («upper_index» .entry))) «upper_values») (now («upper_starts» .exit)) (now («upper_runs» .exit)) (now («upper_index» .exit)) «upper_values» a ⌝ }
+    ensures { λ a. ⌜ Analyzed Form.ByRow (inputOf n (now (starts .entry)) (now (columns .entry)) [] (now (r .entry)) (now (c .entry)) []) (slotsOf 0 0 (length (now («upper_index» .entry))) «upper_values») (now («upper_starts» .exit)) (now («upper_runs» .exit)) (now («upper_index» .exit)) «upper_values» (now (marks .exit)) a ⌝ }
 {
     base::clear_u32(upper_starts);
     base::clear_index(upper_index);
@@ -660,7 +660,7 @@ pub fn analyze_shared(
     marks: &mut [u32],
 ) -> Answer
     requires { ⌜ SharedLent (inputOf n (now starts) (now columns) [] (now r) (now c) []) (now «lower_starts») (now «lower_runs») (now «lower_index») «lower_values» (now «upper_starts») (now «upper_runs») (now «upper_index») «upper_values» (length (now marks)) ⌝ }
-    ensures { λ a. ⌜ AnalyzedBoth Form.Shared (inputOf n (now (starts .entry)) (now (columns .entry)) [] (now (r .entry)) (now (c .entry)) []) (slotsOf (length (now («lower_index» .entry))) «lower_values» (length (now («upper_index» .entry))) «upper_values») (now («lower_starts» .exit)) (now («lower_runs» .exit)) (now («lower_index» .exit)) «lower_values» (now («upper_starts» .exit)) (now («upper_runs» .exit)) (now («upper_index» .exit)) «upper_values» a ⌝ }
+    ensures { λ a. ⌜ AnalyzedBoth Form.Shared (inputOf n (now (starts .entry)) (now (columns .entry)) [] (now (r .entry)) (now (c .entry)) []) (slotsOf (length (now («lower_index» .entry))) «lower_values» (length (now («upper_index» .entry))) «upper_values») (now («lower_starts» .exit)) (now («lower_runs» .exit)) (now («lower_index» .exit)) «lower_values» (now («upper_starts» .exit)) (now («upper_runs» .exit)) (now («upper_index» .exit)) «upper_values» (now (marks .exit)) a ⌝ }
 {
     base::clear_u32(lower_starts);
     base::clear_index(lower_index);

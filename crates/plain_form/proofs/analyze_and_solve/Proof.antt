@@ -28,7 +28,7 @@ analyze-plain-requires : tie.Need-analyze-plain-requires
 analyze-plain-requires c κs = let h = c .before .before .before .before .before .before .before .before .before .before .before .before .before .before .before .before .before .before .before .before .before .pre in plain-lent _ _ _ _ _ _ _ _ _ _ _ _ _ (h .shaped .structure) (pattern-structured _ (settled _ (h .passed) .structured))
 
 returns : tie.Need-returns
-returns c = leaves-refused Plain _ _ _ _ _ _ _ _ (Found (c .before) .analyze-plain .ensures .found) (sym (c .before .refuses .ensures) ∙ c .if1 .taken) refl
+returns c = leaves-refused Plain _ _ _ _ _ _ _ _ _ (Found (c .before) .analyze-plain .ensures .found) (sym (c .before .refuses .ensures) ∙ c .if1 .taken) refl
 
 factor-and-solve-requires : tie.Need-factor-and-solve-requires
 factor-and-solve-requires c κs =
@@ -44,7 +44,7 @@ returns-2 c =
     let p = Earlier k .analyze-plain in
     let q = Solved c .factor-and-solve in
     let e = done-with _ _ _ (b .before .refuses .ensures) (b .if1 .left) (k .counts .ensures) in
-    both-leaves Plain _ _ _ _ _ _ _ _ _ _ _ _ _ _ _ _ _ _ _ _ _ _ _ _ _ _ _ _ _ _ (p .ensures) e (q .ensures)
+    both-leaves Plain _ _ _ _ _ _ _ _ _ _ _ _ _ _ _ _ _ _ _ _ _ _ _ _ _ _ _ _ _ _ _ (p .ensures) e (q .ensures)
     (p .kept .1 .1 .1 .1 .1 .0) refl (p .kept .1 .1 .1 .1 .1 .1 .0) (q .kept .1 .1 .1 .1 .1 .1 .1 .1 .1 .1 .0)
     (p .kept .1 .1 .1 .1 .1 .1 .1 .1 .0) refl (p .kept .1 .1 .1 .1 .1 .1 .1 .1 .1 .0) (q .kept .1 .1 .1 .1 .1 .1 .1 .1 .1 .1 .1 .1 .1 .1 .0)
     (q .kept .1 .1 .1 .1 .1 .1 .1 .1 .1 .1 .1 .1 .1 .1 .1 .1 .1 .0) (q .kept .1 .1 .1 .1 .1 .1 .1 .1 .1 .1 .1 .1 .1 .1 .1 .1 .1 .1 .0 ∙ p .kept .1 .1 .1 .1 .1 .1 .1 .1 .1 .1 .1 .0) (λ h. refl) (λ h. refl)

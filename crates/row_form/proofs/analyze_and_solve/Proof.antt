@@ -28,7 +28,7 @@ analyze-by-row-requires : tie.Need-analyze-by-row-requires
 analyze-by-row-requires c κs = let h = c .before .before .before .before .before .before .before .before .before .before .before .before .before .before .before .before .before .before .pre in row-lent _ _ _ _ _ _ _ _ _ _ (h .shaped .structure) (pattern-structured _ (settled _ (h .passed) .structured))
 
 returns : tie.Need-returns
-returns c = leaves-refused ByRow _ _ _ _ _ _ _ _ (Found (c .before) .analyze-by-row .ensures) (sym (c .before .refuses .ensures) ∙ c .if1 .taken) refl
+returns c = leaves-refused ByRow _ _ _ _ _ _ _ _ _ (Found (c .before) .analyze-by-row .ensures) (sym (c .before .refuses .ensures) ∙ c .if1 .taken) refl
 
 factor-and-solve-requires : tie.Need-factor-and-solve-requires
 factor-and-solve-requires c κs =
@@ -42,7 +42,7 @@ returns-2 c =
     let k = Counted (Solved c) in
     let b = k .before in
     let q = Solved c .factor-and-solve in
-    row-leaves _ _ _ _ _ _ _ _ _ _ _ _ _ (q .last .1 .1 .1 .1 .1 .1 .1 .1 .1 .1 .0) _ _ _ _ _ _ _ (Earlier k .analyze-by-row .ensures) (done-with _ _ _ (b .before .refuses .ensures) (b .if1 .left) (k .counts .ensures)) (q .ensures) (q .kept .1 .1 .1 .1 .1 .1 .1 .1 .1 .1 .0)
+    row-leaves _ _ _ _ _ _ _ _ _ _ _ _ _ _ (q .last .1 .1 .1 .1 .1 .1 .1 .1 .1 .1 .0) _ _ _ _ _ _ _ (Earlier k .analyze-by-row .ensures) (done-with _ _ _ (b .before .refuses .ensures) (b .if1 .left) (k .counts .ensures)) (q .ensures) (q .kept .1 .1 .1 .1 .1 .1 .1 .1 .1 .1 .0)
 
 pub analyze-and-solve-spec : {M : Type 1} → statement M
 analyze-and-solve-spec =

@@ -28,7 +28,7 @@ analyze-shared-requires : tie.Need-analyze-shared-requires
 analyze-shared-requires c κs = let h = c .before .before .before .before .before .before .before .before .before .before .before .before .before .before .before .before .before .before .before .before .before .before .before .before .before .pre in shared-lent _ _ _ _ _ _ _ _ _ _ _ _ _ (h .shaped .structure) (pattern-structured _ (settled _ (h .passed) .structured))
 
 returns : tie.Need-returns
-returns c = leaves-refused Shared _ _ _ _ _ _ _ _ (Found (c .before) .analyze-shared .ensures .found) (sym (c .before .refuses .ensures) ∙ c .if1 .taken) refl
+returns c = leaves-refused Shared _ _ _ _ _ _ _ _ _ (Found (c .before) .analyze-shared .ensures .found) (sym (c .before .refuses .ensures) ∙ c .if1 .taken) refl
 
 factor-and-solve-requires : tie.Need-factor-and-solve-requires
 factor-and-solve-requires c κs =
@@ -44,7 +44,7 @@ returns-2 c =
     let p = Earlier k .analyze-shared in
     let q = Solved c .factor-and-solve in
     let e = done-with _ _ _ (b .before .refuses .ensures) (b .if1 .left) (k .counts .ensures) in
-    both-leaves Shared _ _ _ _ _ _ _ _ _ _ _ _ _ _ _ _ _ _ _ _ _ _ _ _ _ _ _ _ _ _ (p .ensures) e (q .ensures)
+    both-leaves Shared _ _ _ _ _ _ _ _ _ _ _ _ _ _ _ _ _ _ _ _ _ _ _ _ _ _ _ _ _ _ _ (p .ensures) e (q .ensures)
     (p .kept .1 .1 .1 .1 .1 .0) (p .kept .1 .1 .1 .1 .1 .1 .0) (p .kept .1 .1 .1 .1 .1 .1 .1 .0) (q .kept .1 .1 .1 .1 .1 .1 .1 .1 .1 .1 .0)
     (p .kept .1 .1 .1 .1 .1 .1 .1 .1 .1 .0) (p .kept .1 .1 .1 .1 .1 .1 .1 .1 .1 .1 .0) (p .kept .1 .1 .1 .1 .1 .1 .1 .1 .1 .1 .1 .0) (q .kept .1 .1 .1 .1 .1 .1 .1 .1 .1 .1 .1 .1 .1 .1 .0)
     (q .kept .1 .1 .1 .1 .1 .1 .1 .1 .1 .1 .1 .1 .1 .1 .1 .1 .1 .0) (q .kept .1 .1 .1 .1 .1 .1 .1 .1 .1 .1 .1 .1 .1 .1 .1 .1 .1 .1 .0 ∙ p .kept .1 .1 .1 .1 .1 .1 .1 .1 .1 .1 .1 .1 .1 .0) (λ h. h) (λ h. h)

@@ -18,7 +18,7 @@ add-result : tie.Need-add-result
 add-result c = omega (arith, products-small (c .before .before .before .before .pre .adding) _ (c .row-products .ensures))
 
 returns : tie.Need-returns
-returns c = λ P k index runs a. products-next a _ (c .row-products .ensures)
+returns c = λ P k runs index a. products-next a _ (c .row-products .ensures)
 
 pub add-products-spec : {M : Type 1} → statement M
 add-products-spec =

@@ -53,7 +53,7 @@ returns c =
     let p = c .before .before .before .before .before .before .before .before .before .before .before in
     let b = In p .before .before in
     found-stop ByRow _ [] 0 (b .before .before .before .before .before .before .before .clear-index .last .0) _ 0 _ refl (b .before .before .before .before .before .before .before .clear-index .kept .0) _
-    (told (TurnEnds ByRow _ _ _ _ _ _ _ _ _ _ _ _ _) (c .before .turned2 .given .1) (p .analyze-place-by-row .ensures _ _ _ (In p .before .loop .inv .0))) _ _ _
+    (told (TurnEnds ByRow _ _ _ _ _ _ _ _ _ _ _ _ _) (c .before .turned2 .given .1) (p .analyze-place-by-row .ensures _ _ _ (In p .before .loop .inv .0))) _ _ _ _
 
 add-k : tie.Need-add-k Inv-loop μ-loop
 add-k c = let l = In (c .before .before .before .before .before .before .before .before .before .before .before) in omega (arith, l .loop-test .taken, Begin (l .before .before) .pre .matrix .few)
@@ -76,7 +76,7 @@ loop-again c =
 returns-2 : tie.Need-returns-2 Inv-loop μ-loop
 returns-2 c =
     let l = c .before .before in
-    found-end ByRow _ _ _ _ _ _ _ _ _ _ _ _ _ _ _ _ _ refl (l .before .before .before .before .before .before .before .before .clear-index .kept .0) (l .loop .inv .0) (c .before .loop-test .left) (c .counts-at .ensures) tt
+    found-end ByRow _ _ _ _ _ _ _ _ _ _ _ _ _ _ _ _ _ refl (l .before .before .before .before .before .before .before .before .clear-index .ensures) (l .loop .inv .0) (c .before .loop-test .left) (c .counts-at .ensures) tt
 
 -- the place that ended the pass
 abbrev Last : tie.After-known-told2 Inv-loop μ-loop → tie.After-analyze-place-by-row Inv-loop μ-loop

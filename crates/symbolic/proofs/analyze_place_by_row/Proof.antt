@@ -5,6 +5,7 @@ use Rattle.symbolic.specs.Places.{SideNext, SideEnds, Adding}
 use Rattle.symbolic.specs.Pass.{At}
 use Rattle.base.specs.declared.Form.the-variants.{ByRow}
 use Rattle.base.specs.declared.Side.the-variants.{Upper}
+use Rattle.storing.specs.declared.Way.the-variants.{Sharing}
 use Rattle.matrix.specs.Input.{Input, inputOf, stored}
 use mathlib.Core.Path.{refl}
 use mathlib.Core.List.{List, []}
@@ -34,20 +35,20 @@ place-side-requires c κs = let d = c .before .before .before .before .before .b
 ends : (p : tie.After-place-side) (c low up : List ℕ) → Holds (Begin p) c low up
     → let a = Begin p .args in
     let r = p .place-side in
-    SideEnds Upper (given (Begin p) c) up (a .upper-values) (a .k .0) (a .k .0 + 1) (r .last .1 .1 .1 .1 .1 .0) (r .last .1 .1 .1 .1 .1 .1 .0) (r .last .1 .1 .1 .1 .1 .1 .1 .0) (a .marks .now) (r .last .1 .1 .1 .1 .1 .1 .1 .1 .1 .0) (r .result)
+    SideEnds Sharing Upper (given (Begin p) c) up (a .upper-values) (a .k .0) (a .k .0 + 1) (r .last .1 .1 .1 .1 .1 .0) (r .last .1 .1 .1 .1 .1 .1 .0) (r .last .1 .1 .1 .1 .1 .1 .1 .0) (a .marks .now) (r .last .1 .1 .1 .1 .1 .1 .1 .1 .1 .0) (r .result)
 ends p c low up h = p .place-side .ensures c up (row-due _ _ _ _ _ _ _ _ _ _ _ h (Begin p .pre .place))
 
 returns : tie.Need-returns
 returns c =
     let p = c .before .before .before .before .before .before .before .before .before .before in
-    λ o low up h. upper-null ByRow refl _ _ _ _ _ _ _ _ _ _ _ _ _ _ h (Begin p .pre .place) (told (SideEnds Upper _ _ _ _ _ _ _ _ _ _) (c .enum-told .given .1) (ends p o low up h))
+    λ o low up h. upper-null ByRow refl _ _ _ _ _ _ _ _ _ _ _ _ _ _ h (Begin p .pre .place) (told (SideEnds Sharing Upper _ _ _ _ _ _ _ _ _ _) (c .enum-told .given .1) (ends p o low up h))
 
 returns-2 : tie.Need-returns-2
 returns-2 c =
     let p = c .before .before .before .before .before .before .before .before .before .before in
     λ o low up h.
     upper-full ByRow refl _ _ _ _ _ _ _ _ _ _ _ _ _ _ h (Begin p .pre .place) (fits-row _ _ _ _)
-    (told (SideEnds Upper _ _ _ _ _ _ _ _ _ _) (c .enum-told2 .given .1) (ends p o low up h))
+    (told (SideEnds Sharing Upper _ _ _ _ _ _ _ _ _ _) (c .enum-told2 .given .1) (ends p o low up h))
 
 abbrev Ended : tie.After-side → tie.After-place-side
 Ended e = e .before .before .before .before .before .before .before .before .before .before
@@ -55,20 +56,20 @@ Ended e = e .before .before .before .before .before .before .before .before .bef
 next : (e : tie.After-side) (c low up : List ℕ) → Holds (Begin (Ended e)) c low up
     → let a = Begin (Ended e) .args in
     let r = Ended e .place-side in
-    SideNext Upper (given (Begin (Ended e)) c) up (a .upper-values) (a .k .0) (a .k .0 + 1) (r .last .1 .1 .1 .1 .1 .0) (r .last .1 .1 .1 .1 .1 .1 .0) (r .last .1 .1 .1 .1 .1 .1 .1 .0) (a .marks .now) (r .last .1 .1 .1 .1 .1 .1 .1 .1 .1 .0) (e .side .given .0 .0)
-next e c low up h = told (SideEnds Upper _ _ _ _ _ _ _ _ _ _) (e .side .given .1) (ends (Ended e) c low up h)
+    SideNext Sharing Upper (given (Begin (Ended e)) c) up (a .upper-values) (a .k .0) (a .k .0 + 1) (r .last .1 .1 .1 .1 .1 .0) (r .last .1 .1 .1 .1 .1 .1 .0) (r .last .1 .1 .1 .1 .1 .1 .1 .0) (a .marks .now) (r .last .1 .1 .1 .1 .1 .1 .1 .1 .1 .0) (e .side .given .0 .0)
+next e c low up h = told (SideEnds Sharing Upper _ _ _ _ _ _ _ _ _ _) (e .side .given .1) (ends (Ended e) c low up h)
 
 adding : (e : tie.After-side) (c low up : List ℕ) → Holds (Begin (Ended e)) c low up
     → let a = Begin (Ended e) .args in
     let r = Ended e .place-side in
-    Adding (stored (given (Begin (Ended e)) c)) (a .n) (a .k .0) (r .last .1 .1 .1 .1 .1 .1 .1 .0) (r .last .1 .1 .1 .1 .1 .1 .0) (r .last .1 .1 .1 .1 .1 .0) (r .last .1 .1 .1 .1 .1 .1 .1 .1 .1 .0) (e .side .given .0 .0 .below) (a .g .products)
+    Adding (stored (given (Begin (Ended e)) c)) (a .n) (a .k .0) (r .last .1 .1 .1 .1 .1 .0) (r .last .1 .1 .1 .1 .1 .1 .0) (r .last .1 .1 .1 .1 .1 .1 .1 .0) (r .last .1 .1 .1 .1 .1 .1 .1 .1 .1 .0) (e .side .given .0 .0 .below) (a .g .products)
 adding e c low up h = upper-adding ByRow refl _ _ _ _ _ _ _ _ _ _ _ _ _ _ h (Begin (Ended e) .pre .place) (fits-row _ _ _ _) _ _ (h .begun) _ _ _ _ _ (next e c low up h)
 
 add-products-requires : tie.Need-add-products-requires
 add-products-requires c κs =
     let e = c .before .before .before in
     let d = Begin (Ended e) .pre in
-    record { pattern = _; place = _; index = _; runs = _; adding = adding e (d .order) (d .low) (d .up) (d .at) }
+    record { pattern = _; place = _; runs = _; index = _; adding = adding e (d .order) (d .low) (d .up) (d .at) }
 
 add-t35 : tie.Need-add-t35
 add-t35 c =

@@ -79,8 +79,8 @@ add-products-requires c κs =
     record {
       pattern = _;
       place = _;
-      index = _;
       runs = _;
+      index = _;
       adding = plain-adding _ _ _ _ _ _ _ _ _ _ _ _ (d .at) (d .place) _ _ (found a (d .order) (d .low) (d .up) (d .at));
     }
 

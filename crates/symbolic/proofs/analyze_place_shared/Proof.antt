@@ -4,6 +4,7 @@ use Rattle.symbolic.specs.Places.{SideNext, SideEnds, Adding}
 use Rattle.symbolic.specs.Pass.{At}
 use Rattle.base.specs.declared.Form.the-variants.{Shared}
 use Rattle.base.specs.declared.Side.the-variants.{Lower, Upper}
+use Rattle.storing.specs.declared.Way.the-variants.{Sharing}
 use Rattle.matrix.specs.Input.{Input, inputOf, stored}
 use mathlib.Core.Path.{refl}
 use mathlib.Core.List.{List, []}
@@ -32,18 +33,18 @@ place-side-requires c κs = let d = c .before .before .before .before .before .b
 lowers : (p : tie.After-place-side) (c low up : List ℕ) → Holds (Begin p) c low up
     → let a = Begin p .args in
     let r = p .place-side in
-    SideEnds Lower (given (Begin p) c) low (a .lower-values) (a .k .0) (a .k .0 + a .k .0 + 1) (r .last .1 .1 .1 .1 .1 .0) (r .last .1 .1 .1 .1 .1 .1 .0) (r .last .1 .1 .1 .1 .1 .1 .1 .0) (a .marks .now) (r .last .1 .1 .1 .1 .1 .1 .1 .1 .1 .0) (r .result)
+    SideEnds Sharing Lower (given (Begin p) c) low (a .lower-values) (a .k .0) (a .k .0 + a .k .0 + 1) (r .last .1 .1 .1 .1 .1 .0) (r .last .1 .1 .1 .1 .1 .1 .0) (r .last .1 .1 .1 .1 .1 .1 .1 .0) (a .marks .now) (r .last .1 .1 .1 .1 .1 .1 .1 .1 .1 .0) (r .result)
 lowers p c low up h = p .place-side .ensures c low (lower-due _ _ _ _ _ _ _ _ _ _ _ _ _ _ h (Begin p .pre .place))
 
 returns : tie.Need-returns
 returns c =
     let p = c .before .before .before .before .before .before .before .before .before .before in
-    λ o low up h. lower-null _ _ _ _ _ _ _ _ _ _ _ _ _ _ h (Begin p .pre .place) (told (SideEnds Lower _ _ _ _ _ _ _ _ _ _) (c .enum-told .given .1) (lowers p o low up h))
+    λ o low up h. lower-null _ _ _ _ _ _ _ _ _ _ _ _ _ _ h (Begin p .pre .place) (told (SideEnds Sharing Lower _ _ _ _ _ _ _ _ _ _) (c .enum-told .given .1) (lowers p o low up h))
 
 returns-2 : tie.Need-returns-2
 returns-2 c =
     let p = c .before .before .before .before .before .before .before .before .before .before in
-    λ o low up h. lower-full _ _ _ _ _ _ _ _ _ _ _ _ _ _ h (Begin p .pre .place) (told (SideEnds Lower _ _ _ _ _ _ _ _ _ _) (c .enum-told2 .given .1) (lowers p o low up h))
+    λ o low up h. lower-full _ _ _ _ _ _ _ _ _ _ _ _ _ _ h (Begin p .pre .place) (told (SideEnds Sharing Lower _ _ _ _ _ _ _ _ _ _) (c .enum-told2 .given .1) (lowers p o low up h))
 
 abbrev First : tie.After-low → tie.After-place-side
 First e = e .before .before .before .before .before .before .before .before .before .before
@@ -51,8 +52,8 @@ First e = e .before .before .before .before .before .before .before .before .bef
 below : (e : tie.After-low) (c low up : List ℕ) → Holds (Begin (First e)) c low up
     → let a = Begin (First e) .args in
     let r = First e .place-side in
-    SideNext Lower (given (Begin (First e)) c) low (a .lower-values) (a .k .0) (a .k .0 + a .k .0 + 1) (r .last .1 .1 .1 .1 .1 .0) (r .last .1 .1 .1 .1 .1 .1 .0) (r .last .1 .1 .1 .1 .1 .1 .1 .0) (a .marks .now) (r .last .1 .1 .1 .1 .1 .1 .1 .1 .1 .0) (e .low .given .0 .0)
-below e c low up h = told (SideEnds Lower _ _ _ _ _ _ _ _ _ _) (e .low .given .1) (lowers (First e) c low up h)
+    SideNext Sharing Lower (given (Begin (First e)) c) low (a .lower-values) (a .k .0) (a .k .0 + a .k .0 + 1) (r .last .1 .1 .1 .1 .1 .0) (r .last .1 .1 .1 .1 .1 .1 .0) (r .last .1 .1 .1 .1 .1 .1 .1 .0) (a .marks .now) (r .last .1 .1 .1 .1 .1 .1 .1 .1 .1 .0) (e .low .given .0 .0)
+below e c low up h = told (SideEnds Sharing Lower _ _ _ _ _ _ _ _ _ _) (e .low .given .1) (lowers (First e) c low up h)
 
 add-place-side : tie.Need-add-place-side
 add-place-side c = let d = Begin (First (c .before .before .before .before .before)) .pre in omega (arith, d .place, d .at .begun .few)
@@ -73,20 +74,20 @@ Start w = Begin (First (Low w))
 uppers : (w : tie.After-place-side2) (c low up : List ℕ) → Holds (Start w) c low up
     → let a = Start w .args in
     let r = w .place-side2 in
-    SideEnds Upper (given (Start w) c) up (a .upper-values) (a .k .0) (a .k .0 + a .k .0 + 1 + 1) (r .last .1 .1 .1 .1 .1 .0) (r .last .1 .1 .1 .1 .1 .1 .0) (r .last .1 .1 .1 .1 .1 .1 .1 .0) (First (Low w) .place-side .last .1 .1 .1 .1 .1 .1 .1 .1 .1 .0) (r .last .1 .1 .1 .1 .1 .1 .1 .1 .1 .0) (r .result)
+    SideEnds Sharing Upper (given (Start w) c) up (a .upper-values) (a .k .0) (a .k .0 + a .k .0 + 1 + 1) (r .last .1 .1 .1 .1 .1 .0) (r .last .1 .1 .1 .1 .1 .1 .0) (r .last .1 .1 .1 .1 .1 .1 .1 .0) (First (Low w) .place-side .last .1 .1 .1 .1 .1 .1 .1 .1 .1 .0) (r .last .1 .1 .1 .1 .1 .1 .1 .1 .1 .0) (r .result)
 uppers w c low up h = w .place-side2 .ensures c up (shared-due _ _ _ _ _ _ _ _ _ _ _ _ _ _ h (Start w .pre .place) _ _ _ _ _ (below (Low w) c low up h))
 
 returns-3 : tie.Need-returns-3
 returns-3 c =
     let w = c .before .before .before .before .before .before .before .before .before .before in
-    λ o low up h. upper-null Shared refl _ _ _ _ _ _ _ _ _ _ _ _ _ _ h (Start w .pre .place) (told (SideEnds Upper _ _ _ _ _ _ _ _ _ _) (c .enum-told3 .given .1) (uppers w o low up h))
+    λ o low up h. upper-null Shared refl _ _ _ _ _ _ _ _ _ _ _ _ _ _ h (Start w .pre .place) (told (SideEnds Sharing Upper _ _ _ _ _ _ _ _ _ _) (c .enum-told3 .given .1) (uppers w o low up h))
 
 returns-4 : tie.Need-returns-4
 returns-4 c =
     let w = c .before .before .before .before .before .before .before .before .before .before in
     λ o low up h.
     upper-full Shared refl _ _ _ _ _ _ _ _ _ _ _ _ _ _ h (Start w .pre .place) (lower-fits _ _ _ _ _ _ _ _ _ _ _ _ _ _ h (Start w .pre .place) _ _ _ _ _ (below (Low w) o low up h))
-    (told (SideEnds Upper _ _ _ _ _ _ _ _ _ _) (c .enum-told4 .given .1) (uppers w o low up h))
+    (told (SideEnds Sharing Upper _ _ _ _ _ _ _ _ _ _) (c .enum-told4 .given .1) (uppers w o low up h))
 
 abbrev Second : tie.After-up → tie.After-place-side2
 Second u = u .before .before .before .before .before .before .before .before .before .before
@@ -95,13 +96,13 @@ above : (u : tie.After-up) (c low up : List ℕ) → Holds (Start (Second u)) c 
     → let w = Second u in
     let a = Start w .args in
     let r = w .place-side2 in
-    SideNext Upper (given (Start w) c) up (a .upper-values) (a .k .0) (a .k .0 + a .k .0 + 1 + 1) (r .last .1 .1 .1 .1 .1 .0) (r .last .1 .1 .1 .1 .1 .1 .0) (r .last .1 .1 .1 .1 .1 .1 .1 .0) (First (Low w) .place-side .last .1 .1 .1 .1 .1 .1 .1 .1 .1 .0) (r .last .1 .1 .1 .1 .1 .1 .1 .1 .1 .0) (u .up .given .0 .0)
-above u c low up h = told (SideEnds Upper _ _ _ _ _ _ _ _ _ _) (u .up .given .1) (uppers (Second u) c low up h)
+    SideNext Sharing Upper (given (Start w) c) up (a .upper-values) (a .k .0) (a .k .0 + a .k .0 + 1 + 1) (r .last .1 .1 .1 .1 .1 .0) (r .last .1 .1 .1 .1 .1 .1 .0) (r .last .1 .1 .1 .1 .1 .1 .1 .0) (First (Low w) .place-side .last .1 .1 .1 .1 .1 .1 .1 .1 .1 .0) (r .last .1 .1 .1 .1 .1 .1 .1 .1 .1 .0) (u .up .given .0 .0)
+above u c low up h = told (SideEnds Sharing Upper _ _ _ _ _ _ _ _ _ _) (u .up .given .1) (uppers (Second u) c low up h)
 
 adding : (u : tie.After-up) (c low up : List ℕ) → Holds (Start (Second u)) c low up
     → let a = Start (Second u) .args in
     let r = Second u .place-side2 in
-    Adding (stored (given (Start (Second u)) c)) (a .n) (a .k .0) (r .last .1 .1 .1 .1 .1 .1 .1 .0) (r .last .1 .1 .1 .1 .1 .1 .0) (r .last .1 .1 .1 .1 .1 .0) (r .last .1 .1 .1 .1 .1 .1 .1 .1 .1 .0) (u .up .given .0 .0 .below) (a .g .products)
+    Adding (stored (given (Start (Second u)) c)) (a .n) (a .k .0) (r .last .1 .1 .1 .1 .1 .0) (r .last .1 .1 .1 .1 .1 .1 .0) (r .last .1 .1 .1 .1 .1 .1 .1 .0) (r .last .1 .1 .1 .1 .1 .1 .1 .1 .1 .0) (u .up .given .0 .0 .below) (a .g .products)
 adding u c low up h =
     let w = Second u in
     let b = below (Low w) c low up h in
@@ -112,7 +113,7 @@ add-products-requires : tie.Need-add-products-requires
 add-products-requires c κs =
     let u = c .before .before .before in
     let d = Start (Second u) .pre in
-    record { pattern = _; place = _; index = _; runs = _; adding = adding u (d .order) (d .low) (d .up) (d .at) }
+    record { pattern = _; place = _; runs = _; index = _; adding = adding u (d .order) (d .low) (d .up) (d .at) }
 
 same-length-23 : tie.Need-same-length-23
 same-length-23 c = First (c .before .before .before .before .before .before .before .before .before .before .before .before .before .before .before .before .before .before .before .before .before .before) .place-side .kept .1 .1 .1 .1 .1 .0
@@ -132,7 +133,7 @@ returns-5 c =
     let x = above u o low up h in
     upper-next Shared refl _ _ _ _ _ _ _ _ _ _ _ _ _ _ h (Start w .pre .place) (lower-fits _ _ _ _ _ _ _ _ _ _ _ _ _ _ h (Start w .pre .place) _ _ _ _ _ b) _ _
     (lower-begun _ _ _ _ _ _ _ _ _ _ _ _ _ _ h (Start w .pre .place) _ _ _ _ _ b) _ _ _ _ _ x _ _ _ _ _ _
-    (c .before .before .add-products .ensures _ _ _ _ (adding u o low up h)) (omega arith) (shared-lower _ _ _ _ _ _ _ _ _ _ _ _ _ _ h (Start w .pre .place) _ _ _ _ _ b _ (u .up .given .0 .0 .extent) (c .before .before .add-products .result) (x .apart))
+    (c .before .before .add-products .ensures _ _ _ _ (adding u o low up h)) (omega arith) (shared-lower (Start w .pre .place) b (x .apart))
 
 pub analyze-place-shared-spec : {M : Type 1} → statement M
 analyze-place-shared-spec =

@@ -1,5 +1,4 @@
 use Rattle.symbolic.proofs.Keeping.{lower-fits, lower-turn, lower-ready, lower-stepped}
-use Rattle.base.specs.Lists.{blank}
 use Rattle.fill.specs.Fill.{lowerRow, flip}
 use mathlib.Core.Path.{refl}
 use native.Mathlib.Omega.{arith}
@@ -20,8 +19,8 @@ returns : tie.Need-returns
 returns c =
     let p = c .before .before .before .before in
     let s = p .before .before .before .before .before .before .before in
-    λ P store h. lower-stepped P (s .args .values) (s .args .k .0) store (p .append-list .last .1 .0) (p .append-list .last .0) (p .append-list .result)
-    (p .append-list .ensures .steps (lowerRow P) (lowerRow (flip P)) (s .args .n) (blank 0 store) (lower-turn h _ refl))
+    λ P store h. lower-stepped P (s .args .values) (s .args .k .0) store (p .append-list .last .0) (p .append-list .last .1 .0) (p .append-list .result)
+    (p .append-list .ensures .steps (lowerRow P) (lowerRow (flip P)) (s .args .n) store (lower-turn h _ refl))
 
 pub append-lower-spec : {M : Type 1} → statement M
 append-lower-spec =

@@ -1,7 +1,6 @@
 use Rattle.symbolic.proofs.Keeping.{keep-fits, keep-list, keep-members, keep-turn, keep-ready, kept-next, next-lists, stepped-done, stepped-full}
 use Rattle.symbolic.specs.Places.{Keep}
 use Rattle.fill.specs.Fill.{Pattern, upperRow, lowerRow}
-use Rattle.base.specs.Lists.{blank}
 use Rattle.storing.specs.Held.{Stepped}
 use Rattle.storing.specs.declared.Way.the-variants.{OneAfterAnother}
 use mathlib.Core.List.{List}
@@ -39,8 +38,8 @@ append-list-requires c κs =
 
 -- what placing tells
 step : (p : tie.After-append-list) (P : Pattern) (store : List ℕ) (t : ℕ) → Held (Begin p) P store t
-    → Stepped OneAfterAnother (upperRow P (Begin p .args .n)) (lowerRow P) (Begin p .args .values) (Begin p .args .k .0) (blank 0 store) (p .append-list .last .0) (p .append-list .last .0) (p .append-list .last .1 .0) (p .append-list .result)
-step p P store t h = p .append-list .ensures .steps (upperRow P (Begin p .args .n)) (lowerRow P) (Begin p .args .n) (blank 0 store) (keep-turn h _ _ tt (keep-list h))
+    → Stepped OneAfterAnother (upperRow P (Begin p .args .n)) (lowerRow P) (Begin p .args .values) (Begin p .args .k .0) store (p .append-list .last .0) (p .append-list .last .0) (p .append-list .last .1 .0) (p .append-list .result)
+step p P store t h = p .append-list .ensures .steps (upperRow P (Begin p .args .n)) (lowerRow P) (Begin p .args .n) store (keep-turn h _ _ tt (keep-list h))
 
 renew-cuts-requires : tie.Need-renew-cuts-requires
 renew-cuts-requires c κs =

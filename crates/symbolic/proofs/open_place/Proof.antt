@@ -54,7 +54,7 @@ room p =
 
 -- the marks are row k of the fill, for the column order and the list starts that the caller has
 filled-row : (p : tie.After-close-place) (order lists : List ℕ) → let s = Begin (Load p) .args in
-    Open (s .side) (given (Begin (Load p)) order) (s .k .0) (s .stamp) (s .window) (s .index .now) (s .runs .now) lists (s .marks .now)
+    Open (s .side) (given (Begin (Load p)) order) (s .k .0) (s .stamp) (s .window) lists (s .runs .now) (s .index .now) (s .marks .now)
     → Holds (s .n) (s .stamp) (p .close-place .last .0) (filled (patternOf (s .side) (given (Begin (Load p)) order)) (s .k .0))
 filled-row p order lists o = closed-marks _ (given (Begin (Load p)) order) _ _ _ _ _ _ _ o _ _ (Load p .load .ensures) _ _ (closing p)
 

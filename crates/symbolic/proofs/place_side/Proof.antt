@@ -19,7 +19,7 @@ given s c = inputOf (s .args .n) (s .args .starts .now) (s .args .columns .now) 
 -- what the caller holds, for a column order and a store
 abbrev Holds : tie.Start → List ℕ → List ℕ → Type 0
 Holds s c store = let a = s .args in
-    SideAt (a .side) (given s c) store (a .side-values) (a .k .0) (a .stamp) (a .window) (a .side-starts .now) (a .side-runs .now) (a .side-index .now) (a .marks .now) (a .e)
+    SideAt Sharing (a .side) (given s c) store (a .side-values) (a .k .0) (a .stamp) (a .window) (a .side-starts .now) (a .side-runs .now) (a .side-index .now) (a .marks .now) (a .e)
 
 open-place-requires : tie.Need-open-place-requires
 open-place-requires c κs = let d = c .before .before .before .before .before .before .before .before .before .before .pre in record { order = d .order; lists = _; due = side-open (d .due) }

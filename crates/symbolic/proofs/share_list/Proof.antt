@@ -1,7 +1,6 @@
 use Rattle.symbolic.proofs.Keeping.{keep-fits, keep-row, keep-list, keep-members, keep-turn, keep-ready, kept-next, next-lists, stepped-done, stepped-full}
 use Rattle.symbolic.specs.Places.{Keep}
 use Rattle.fill.specs.Fill.{Pattern, upperRow, lowerRow}
-use Rattle.base.specs.Lists.{blank}
 use Rattle.storing.specs.Held.{Stepped}
 use Rattle.storing.specs.declared.Way.the-variants.{Sharing}
 use mathlib.Core.List.{List}
@@ -41,9 +40,9 @@ place-list-requires c κs =
 
 -- what placing tells
 step : (p : tie.After-place-list) (P : Pattern) (store : List ℕ) (t : ℕ) → Held (Begin p) P store t → let r = p .place-list in
-    Stepped Sharing (upperRow P (Begin p .args .n)) (lowerRow P) (Begin p .args .values) (Begin p .args .k .0) (blank 0 store) (r .last .1 .0) (r .last .1 .1 .0) (r .last .1 .1 .1 .0) (r .result)
+    Stepped Sharing (upperRow P (Begin p .args .n)) (lowerRow P) (Begin p .args .values) (Begin p .args .k .0) store (r .last .1 .0) (r .last .1 .1 .0) (r .last .1 .1 .1 .0) (r .result)
 step p P store t h =
-    p .place-list .ensures .steps (upperRow P (Begin p .args .n)) (lowerRow P) (Begin p .args .n) (blank 0 store)
+    p .place-list .ensures .steps (upperRow P (Begin p .args .n)) (lowerRow P) (Begin p .args .n) store
     (keep-turn h _ _ (keep-row h) (keep-list h))
 
 renew-cuts-requires : tie.Need-renew-cuts-requires
