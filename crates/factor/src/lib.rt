@@ -503,7 +503,7 @@ fn clear_for_rows(
     questions::invert_at(n, c, marks);
 }
 
-// The factors and z in a form, which passes [] for what it lacks, and its list starts as run starts where it has none. Another call clears
+// Finds the factors and z in a form, which passes [] for what it lacks, and its list starts as run starts where it has none. Another call clears
 // scratch, and after a fault all that this writes.
 pub fn factor(
     form: Form,
