@@ -224,11 +224,6 @@ unfolding row
 row-at S rows k P a F b e within range fs fw = rw (b, steps-at k (given S rows) P (S .lower k) a F e within range fs fw)
 
 -- ---- step 3's u, tested once they are all there
-pub scaled-any : (d : Float) (w : List Float) (js : List ℕ) → scaled any d w js ≡ ok (products d w js)
-unfolding scaled
-scaled-any d w [] = refl
-scaled-any d w (j ∷ js) = rw (scaled-any d w js)
-
 pub scaled-at : (k : ℕ) (d : Float) (w : List Float) (js : List ℕ)
     → scaled (at k) d w js ≡ cond (finiteAll (products d w js)) (ok (products d w js)) (met (overflow k))
 unfolding scaled

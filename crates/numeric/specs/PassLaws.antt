@@ -35,10 +35,6 @@ use Rattle.base.specs.ScratchLaws.{drop-twice}
 
 -- ---- the rows of places 0 to k - 1
 
-bind-assoc : {A B C : Type 0} (o : Out A) (f : A → Out C) (g : A → Out B) (next : B → Out C) → ((a : A) → f a ≡ (g a >>= next)) → (o >>= f) ≡ ((o >>= g) >>= next)
-bind-assoc (met q) f g next e = refl
-bind-assoc (ok a) f g next e = e a
-
 bind-met : {A B : Type 0} (o : Out A) (f g : A → Out B) (q : Fault) → ((a : A) → f a ≡ met q → g a ≡ met q) → (o >>= f) ≡ met q → (o >>= g) ≡ met q
 bind-met (met p) f g q e h = cc
 bind-met (ok a) f g q e h = e a h
