@@ -29,9 +29,10 @@ use Rattle.base.specs.declared.Form.the-variants.{Plain, Shared, ByRow}
 use Rattle.base.specs.declared.Side.{Side}
 use lib.Ieee.{Float}
 use mathlib.Core.List.{List}
+use borrow.Author.Tests.{not-true, not-false}
 use Rattle.outcome.specs.Buffers.{plainBuffers, sharedBuffers, rowBuffers, Buffers, sizes, Outcome}
 use Rattle.base.specs.Answers.{numberOf, numberOfAnswer, countsOf, absent, placeOfAnswer}
-use Rattle.base.specs.Tests.{not-true, not-false, by-test}
+use Rattle.base.specs.Tests.{by-test}
 use Rattle.outcome.proofs.Asking.{number-some, Within}
 use Rattle.outcome.proofs.Places.{null, nullAt, wants, wanting, Fails, unfilled, lack, places-pass, places-stop, lack-stops, only-null}
 use Rattle.outcome.proofs.Ends.{solve-ends}
@@ -53,12 +54,12 @@ null-found i k e =
     let h = first-found (null (stored i)) (i .n) k e in
     record {
       below = h .0;
-      none = λ w. true≢false (sym (back→ i k w) ∙ not-false (filled (stored i) k k) (h .1));
-      before = λ j l. →back i j (not-true (filled (stored i) j j) (first-none (null (stored i)) k (h .2) j l));
+      none = λ w. true≢false (sym (back→ i k w) ∙ not-true (filled (stored i) k k) (h .1));
+      before = λ j l. →back i j (not-false (filled (stored i) j j) (first-none (null (stored i)) k (h .2) j l));
     }
 
 null-none : (i : Input) → nulls i ≡ Nothing → AllBack i
-null-none i e k l = →back i k (not-true (filled (stored i) k k) (first-none (null (stored i)) (i .n) e k l))
+null-none i e k l = →back i k (not-false (filled (stored i) k k) (first-none (null (stored i)) (i .n) e k l))
 
 -- ---- what is answered without a lack of slots
 

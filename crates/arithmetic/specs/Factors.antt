@@ -15,9 +15,6 @@ pub bind-ok : {A B : Type 0} (o : Out A) (f : A → Out B) (b : B) → (o >>= f)
 bind-ok (ok a) f b e = (a, refl, e)
 bind-ok (met q) f b e = absurd (let z : _≡_ {A = ℕ} 0 1 = cc in omega arith)
 
-pub ok-inj : {A : Type 0} (a b : A) → ok a ≡ ok b → a ≡ b
-ok-inj a b e = cc
-
 scaled-length : (k : ℕ) (d : Float) (w : List Float) (js : List ℕ) → length (scaledRun k d w js .value) ≡ length js
 unfolding scaledRun
 scaled-length k d w [] = refl

@@ -2,7 +2,7 @@
 -- each result does.
 use mathlib.Core.Path.{_≡_, refl, sym, _∙_, ap, subst}
 use mathlib.Core.Logic.{_⊎_, inl, inr, ⊎-elim}
-use mathlib.Core.Bool.{Bool, true, false, cond, _&&_, Bool·beq}
+use mathlib.Core.Bool.{Bool, true, false, cond, _&&_, Bool·beq, and-false}
 use mathlib.Core.List.{List, [], _∷_, _++_, List·Memᴰ, List·Memᴰ·head, List·Memᴰ·tail, List·Memᴰ·not-nil, List·Memᴰ·cases-cons}
 use Prim.Native.Nat.{ℕ, _<_}
 use native.Mathlib.Decide.{ℕ-discrete, decLt}
@@ -12,6 +12,7 @@ use lib.ListN.{length, getD, set, length-set}
 use lib.Seq.{getD-set-same, getD-set-other, set-out}
 use lib.Ieee.{Float, nan, inf, fin, Format, binary64, neg, add, sub, mul}
 use lib.Ieee.Scale.{finite}
+use Rattle.base.specs.Tests.{and-cases}
 use Rattle.arithmetic.specs.RowEnd.{finiteOn, finiteAll, quiet, products}
 use Rattle.arithmetic.specs.Arith.{Out, ok, System, Row, Given, given, Work, met, overflow}
 use Rattle.arithmetic.specs.Stopping.{_>>=_, any, less, subtract, stepAt, scaled, finish, row, rest, at, start, steps}
@@ -163,21 +164,13 @@ steps-stay G (i ∷ is) a F e =
     let ih = steps-stay G is (after G i a (r .0)) F (sym (step-any G i is a (r .0) (r .1)) ∙ e) in
     (λ h. ih .0 (sub-left binary64 (a .s) _ h), λ j h. ih .1 j (subtract-stays m (G .upper i) (G .u i) (a .w) (r .0) (r .1) j h))
 
-and-true : (a b : Bool) → a && b ≡ true → (a ≡ true) × (b ≡ true)
-and-true true b e = (refl, e)
-and-true false b e = absurd (subst T (sym e) tt)
-
-and-false : (a : Bool) → a && false ≡ false
-and-false true = refl
-and-false false = refl
-
 finiteOn-at : (P : List ℕ) (w : List Float) → finiteOn P w ≡ true → (j : ℕ) → List·Memᴰ j P → finite (getD w j nan) ≡ true
 finiteOn-at [] w e j h = absurd (List·Memᴰ·not-nil h)
 finiteOn-at (p ∷ P) w e j h =
-    let b = and-true (finite (getD w p nan)) (finiteOn P w) e in
+    let b = and-cases (finite (getD w p nan)) (finiteOn P w) e in
     ⊎-elim (λ q. rw q (b .0)) (λ m. finiteOn-at P w (b .1) j m) (List·Memᴰ·cases-cons h)
 
-on-all : (P : List ℕ) (w : List Float) → ((j : ℕ) → List·Memᴰ j P → finite (getD w j nan) ≡ true) → finiteOn P w ≡ true
+pub on-all : (P : List ℕ) (w : List Float) → ((j : ℕ) → List·Memᴰ j P → finite (getD w j nan) ≡ true) → finiteOn P w ≡ true
 on-all [] w h = refl
 on-all (p ∷ P) w h = rw (h p (List·Memᴰ·head refl)) (on-all P w (λ j m. h j (List·Memᴰ·tail m)))
 
@@ -231,11 +224,6 @@ unfolding row
 row-at S rows k P a F b e within range fs fw = rw (b, steps-at k (given S rows) P (S .lower k) a F e within range fs fw)
 
 -- ---- step 3's u, tested once they are all there
-pub scaled-any : (d : Float) (w : List Float) (js : List ℕ) → scaled any d w js ≡ ok (products d w js)
-unfolding scaled
-scaled-any d w [] = refl
-scaled-any d w (j ∷ js) = rw (scaled-any d w js)
-
 pub scaled-at : (k : ℕ) (d : Float) (w : List Float) (js : List ℕ)
     → scaled (at k) d w js ≡ cond (finiteAll (products d w js)) (ok (products d w js)) (met (overflow k))
 unfolding scaled

@@ -1,7 +1,7 @@
 -- Laws of sums, counts, ascending lists and membership.
 use mathlib.Core.Path.{_≡_, refl, sym, ap, ap₂, _∙_}
 use mathlib.Core.Bool.{Bool, true, false, _&&_, _||_, or-assoc, or-false, and-false}
-use mathlib.Core.List.{List, [], _∷_, _++_, append-nil, map, map-append}
+use mathlib.Core.List.{List, [], _∷_, _++_, append-nil, map, map-append, List·Memᴰ, List·Memᴰ·head, List·Memᴰ·tail}
 use Prim.Native.Nat.{ℕ, zero, suc, _+_, _*_, _≤_, _<_}
 use native.Mathlib.Nat.{add-mul}
 use native.Mathlib.Omega.{arith}
@@ -227,7 +227,14 @@ unfolding asc sum total
 total-asc f p zero = refl
 total-asc f p (suc n) = rw map-append (total-append (map f (asc p n)) (map f (keep (p n) n)) ∙ ap₂ _+_ (total-asc f p n) (total-keep f (p n) n))
 
--- ---- membership, as a test
+-- ---- membership
+
+pub mem-at : (l : List ℕ) (p : ℕ) → p < length l → List·Memᴰ (getD l p 0) l
+mem-at [] p h = absurd (omega arith)
+mem-at (x ∷ l) zero h = List·Memᴰ·head refl
+mem-at (x ∷ l) (suc p) h = List·Memᴰ·tail (mem-at l p (omega arith))
+
+-- as a test
 
 pub has-append : (a b : List ℕ) (j : ℕ) → has (a ++ b) j ≡ (has a j || has b j)
 unfolding has

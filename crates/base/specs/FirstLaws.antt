@@ -1,17 +1,25 @@
--- Laws of `first`: what it finds, and the turns of a loop that looks for it.
+-- Laws of `first`: what it finds, and the turns of a loop that looks for it. And what a question that is passed tells.
 use mathlib.Core.Path.{_≡_, refl, sym, _∙_}
-use mathlib.Core.Bool.{Bool, true, false}
+use mathlib.Core.Bool.{Bool, true, false, true≢false}
 use Prim.Native.Nat.{ℕ, zero, suc, _+_, _≤_, _<_}
 use native.Mathlib.Omega.{arith}
 use native.Mathlib.Numerals.{add-one}
 use native.Mathlib.Nat.{not-suc-le-zero}
 use native.Mathlib.Decide.{decLt, le-ind}
-use Rattle.base.specs.First.{atIf, orElse, first}
+use Rattle.base.specs.First.{atIf, orElse, first, isAt}
 use Rattle.base.specs.declared.Found.{Found}
 use Rattle.base.specs.declared.Found.the-variants.{At, Nothing}
+use Rattle.base.specs.Answers.{holds, absent, andThen}
+use Rattle.base.specs.declared.Refusal.{Refusal}
+use Rattle.base.specs.declared.Asked.{Asked}
+use Rattle.base.specs.declared.Asked.the-variants.{Pass, Stop}
 
 pub at-nothing : (i : ℕ) → At i ≡ Nothing → ⊥
 at-nothing i e = let z : _≡_ {A = ℕ} 0 1 = cc in omega arith
+
+pub isAt-none : (f : Found) → isAt f ≡ false → f ≡ Nothing
+isAt-none (At i) e = absurd (true≢false e)
+isAt-none Nothing e = refl
 
 orElse-first : (f g : Found) → orElse f g ≡ Nothing → f ≡ Nothing
 orElse-first (At i) g e = e
@@ -87,3 +95,20 @@ module _ (t : ℕ → Bool) where
 
   pub scan-more : (b : Bool) (i : ℕ) → first t i ≡ Nothing → b ≡ t i → b ≡ false → first t (i + 1) ≡ Nothing
   scan-more b i h e f = first-more i h (sym e ∙ f)
+
+-- ---- questions that are passed
+
+pub stop-pass : (q : Refusal) → Stop q ≡ Pass → ⊥
+stop-pass q e = let z : _≡_ {A = ℕ} 0 1 = cc in omega arith
+
+pub holds-pass : (b : Bool) (q : Refusal) → holds b q ≡ Pass → b ≡ true
+holds-pass true q e = refl
+holds-pass false q e = absurd (stop-pass q e)
+
+pub absent-pass : (f : Found) (g : ℕ → Refusal) → absent f g ≡ Pass → f ≡ Nothing
+absent-pass (At k) g e = absurd (stop-pass (g k) e)
+absent-pass Nothing g e = refl
+
+pub both-pass : (a b : Asked) → andThen a b ≡ Pass → (a ≡ Pass) × (b ≡ Pass)
+both-pass (Stop q) b e = absurd (stop-pass q e)
+both-pass Pass b e = (refl, e)

@@ -3,3 +3,7 @@ use Prim.Native.Nat.{ℕ}
 
 abbrev pub indexBound : ℕ
 indexBound = 65536
+
+-- the bytes of a slot of an index store
+abbrev pub indexBytes : ℕ
+indexBytes = 2

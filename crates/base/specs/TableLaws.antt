@@ -1,4 +1,4 @@
--- Laws of `table`, a list by its entries, in the order in which a loop makes it.
+-- Laws of `table` and `joined`, a list by its entries or parts, in the order in which a loop makes it.
 use mathlib.Core.Path.{_≡_, refl, sym, _∙_}
 use mathlib.Core.Logic.{⊎-elim}
 use mathlib.Core.List.{List, [], _∷_, _++_, map, append-nil, append-assoc}
@@ -7,7 +7,7 @@ use native.Mathlib.Nat.{add-zero, add-suc, le-of-suc-le-suc, not-suc-le-zero, eq
 use native.Mathlib.Numerals.{add-one}
 use native.Mathlib.Omega.{arith}
 use lib.ListN.{length, getD, take, set, length-append, length-set, List·getD-append}
-use Rattle.base.specs.Lists.{table}
+use Rattle.base.specs.Lists.{table, joined}
 use lib.Seq.{take-suc-set, take-all, getD-at}
 
 module _ {A : Type 0} where
@@ -25,6 +25,11 @@ module _ {A : Type 0} where
   unfolding table
   table-ext f g zero h = refl
   table-ext f g (suc n) h = rw (table-ext f g n (λ i l. h i (omega arith)), h n (omega arith))
+
+  pub joined-ext : (f g : ℕ → List A) (n : ℕ) → ((i : ℕ) → i < n → f i ≡ g i) → joined f n ≡ joined g n
+  unfolding joined
+  joined-ext f g zero h = refl
+  joined-ext f g (suc n) h = rw (joined-ext f g n (λ i l. h i (omega arith)), h n (omega arith))
 
   pub getD-table : (f : ℕ → A) (n : ℕ) (d : A) (i : ℕ) → i < n → getD (table f n) i d ≡ f i
   unfolding table

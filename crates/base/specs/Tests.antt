@@ -1,6 +1,6 @@
--- Facts on tests: Bool's and, or and not, and the case split that keeps its equation.
+-- Facts on tests: Bool's and and or, and the case split that keeps its equation.
 use mathlib.Core.Path.{_≡_, refl, sym}
-use mathlib.Core.Bool.{Bool, true, false, not, _&&_, _||_, false≢true, true≢false}
+use mathlib.Core.Bool.{Bool, true, false, _&&_, _||_, false≢true, true≢false}
 use mathlib.Core.Logic.{_⊎_, inl, inr}
 
 pub by-test : {C : Type 0} (t : Bool) → (t ≡ true → C) → (t ≡ false → C) → C
@@ -33,14 +33,6 @@ and-left a b e = rw e
 pub and-right : (a b : Bool) → b ≡ false → (a && b) ≡ false
 and-right true b e = e
 and-right false b e = refl
-
-pub not-true : (b : Bool) → not b ≡ false → b ≡ true
-not-true true e = refl
-not-true false e = absurd (true≢false e)
-
-pub not-false : (b : Bool) → not b ≡ true → b ≡ false
-not-false true e = absurd (true≢false (sym e))
-not-false false e = refl
 
 pub true-ext : (a b : Bool) → (a ≡ true → b ≡ true) → (b ≡ true → a ≡ true) → a ≡ b
 true-ext true b f g = sym (f refl)

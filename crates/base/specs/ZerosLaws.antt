@@ -2,7 +2,7 @@
 use mathlib.Core.Path.{_≡_, refl, _∙_, ap}
 use mathlib.Core.List.{List, [], _∷_, _++_, append-nil}
 use Prim.Native.Nat.{ℕ, zero, suc, _+_, _-_, _≤_, _<_}
-use native.Mathlib.Nat.{not-suc-le-zero, le-of-suc-le-suc}
+use native.Mathlib.Nat.{not-suc-le-zero, le-of-suc-le-suc, sub-zero, suc-sub-suc}
 use native.Mathlib.Omega.{arith}
 use native.Mathlib.Numerals.{add-one}
 use lib.ListN.{length, set, drop, replicate, length-replicate, length-append, drop-of-length-le, getD, getD-replicate}
@@ -31,6 +31,11 @@ module _ {A : Type 0} (v : A) where
   filling-all d s i l h e =
       let q : i ≡ length d = omega arith in
       e ∙ rw (drop-of-length-le d l, append-nil, q)
+
+  pub drop-replicate : (m j : ℕ) → drop j (replicate m v) ≡ replicate (m - j) v
+  drop-replicate m zero = rw sub-zero
+  drop-replicate zero (suc j) = let e : 0 - suc j ≡ 0 = omega arith in rw e
+  drop-replicate (suc m) (suc j) = rw suc-sub-suc (drop-replicate m j)
 
   pub blank-length : (d : List A) → length (blank v d) ≡ length d
   unfolding blank

@@ -13,18 +13,21 @@ pub mod scratch;
 // A number of the columns, the orders and the index stores. specs/Index has its bound; every cast from or to it stands below.
 pub type Index = u16;
 
+// Widens an index number to a slot's number.
 pub fn wide(x: Index) -> usize
     ensures { λ r. ⌜ (r ≡ x) × (r < indexBound) ⌝ }
 {
     x as usize
 }
 
+// Widens an index number to 32 bits.
 pub fn number(x: Index) -> u32
     ensures { λ r. ⌜ (r ≡ x) × (r < indexBound) ⌝ }
 {
     x as u32
 }
 
+// Narrows a number below the index's bound to an index number.
 pub fn narrow(x: u32) -> Index
     requires { ⌜ x < indexBound ⌝ }
     ensures { λ r. ⌜ r ≡ x ⌝ }
@@ -32,7 +35,7 @@ pub fn narrow(x: u32) -> Index
     x as Index
 }
 
-// A 32-bit number as a slot's.
+// Widens a 32-bit number to a slot's number.
 pub fn slot(x: u32) -> usize
     ensures { λ r. ⌜ (r ≡ x) × (r < 4294967296) ⌝ }
 {
@@ -139,7 +142,7 @@ pub enum Ended {
 }
 
 impl Refusal {
-    // The paper's number.
+    // Gives the paper's number.
     pub fn number(self) -> u32
         ensures { λ r. ⌜ r ≡ numberOf self ⌝ }
     {
@@ -166,7 +169,7 @@ impl Refusal {
         }
     }
 
-    // The paper's place, 0 where it names none.
+    // Gives the paper's place, 0 where it names none.
     pub fn place(self) -> u32
         ensures { λ r. ⌜ r ≡ placeOf self ⌝ }
     {
@@ -195,7 +198,7 @@ impl Refusal {
 }
 
 impl Answer {
-    // 0 for done, else the refusal's number.
+    // Gives 0 for done, else the refusal's number.
     pub fn number(self) -> u32
         ensures { λ r. ⌜ r ≡ numberOfAnswer self ⌝ }
     {
@@ -206,6 +209,7 @@ impl Answer {
         }
     }
 
+    // Gives 0 for done, else the refusal's place.
     pub fn place(self) -> u32
         ensures { λ r. ⌜ r ≡ placeOfAnswer self ⌝ }
     {
@@ -216,7 +220,7 @@ impl Answer {
         }
     }
 
-    // The counts, 0 after a refusal.
+    // Gives the counts, 0 after a refusal.
     pub fn counts(self) -> Counts
         ensures { λ r. ⌜ r ≡ countsOf self ⌝ }
     {
@@ -244,6 +248,7 @@ impl Ended {
         }
     }
 
+    // Gives 0 for done, else the refusal's place.
     pub fn place(self) -> u32
         ensures { λ r. ⌜ r ≡ placeOfEnd self ⌝ }
     {
@@ -255,13 +260,14 @@ impl Ended {
     }
 }
 
-// Whether x is neither a NaN nor an infinity: the difference of these with themselves is a NaN.
+// Tells whether x is neither a NaN nor an infinity: the difference of these with themselves is a NaN.
 pub fn is_finite(x: f64) -> bool
     ensures { λ r. ⌜ r ≡ finite x ⌝ }
 {
     x - x == 0.0
 }
 
+// Writes 0 into every slot.
 pub fn clear_index(s: &mut [Index])
     ensures { λ _. ⌜ now (s .exit) ≡ blank 0 (now (s .entry)) ⌝ }
 {
@@ -272,6 +278,7 @@ pub fn clear_index(s: &mut [Index])
     }
 }
 
+// Writes 0 into every slot.
 pub fn clear_u32(s: &mut [u32])
     ensures { λ _. ⌜ now (s .exit) ≡ blank 0 (now (s .entry)) ⌝ }
 {
@@ -282,7 +289,7 @@ pub fn clear_u32(s: &mut [u32])
     }
 }
 
-// +0 in every slot.
+// Writes +0 into every slot.
 pub fn clear_f64(s: &mut [f64])
     ensures { λ _. ⌜ now (s .exit) ≡ blank nought (now (s .entry)) ⌝ }
 {

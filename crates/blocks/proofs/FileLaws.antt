@@ -6,16 +6,16 @@ use Prim.Native.Nat.{ℕ, zero, suc, _+_, _-_, _*_, _/_, _%_, _^_, _<_, _≤_}
 use native.Mathlib.Nat.{not-suc-le-zero}
 use native.Mathlib.Omega.{arith}
 use native.Mathlib.Decide.{decLt}
-use borrow.Author.Tests.{eq-eqb, eqb-true, ltb-true, leb-true, lt-ltb, le-leb}
+use borrow.Author.Tests.{eq-eqb, eqb-true, ltb-true, leb-true, lt-ltb, le-leb, not-true, not-false}
 use lib.Dec.{eqb, ltb, leb}
 use lib.ListN.{length, getD, take, drop, replicate, length-append, length-take, List·getD-append, List·getD-eq-default, drop-of-length-le}
 use lib.Seq.{getD-take, getD-drop, ext-getD}
 use Rattle.base.specs.Lists.{joined, padded}
 use Rattle.base.specs.First.{first}
-use Rattle.base.specs.FirstLaws.{first-none, first-all, first-found}
-use Rattle.base.specs.TableLaws.{length-table, getD-table}
+use Rattle.base.specs.FirstLaws.{first-none, first-all, first-found, both-pass, holds-pass, absent-pass}
+use Rattle.base.specs.TableLaws.{length-table, getD-table, joined-ext}
 use Rattle.base.specs.ZerosLaws.{padded-length}
-use Rattle.base.specs.Tests.{and-cases, not-true, not-false}
+use Rattle.base.specs.Tests.{and-cases}
 use Rattle.base.specs.Answers.{holds, absent}
 use Rattle.base.specs.declared.Found.{Found}
 use Rattle.base.specs.declared.Found.the-variants.{At, Nothing}
@@ -28,14 +28,8 @@ use Rattle.fields.proofs.ZeroLaws.{zero-bytes, zero-yes}
 use Rattle.blocks.specs.Blocks.{byteFrom, checkA, checkB, rightBlock, wrongBlock, firstWrong, wholeBlocks, askBlocks, sealBlock, payloadIn, blocksFor, fileOf, endsAt, payloadOf, sealed}
 use Rattle.blocks.proofs.CheckLaws.{checks-ext, checkA-lt, checkB-lt}
 use Rattle.blocks.proofs.SealLaws.{length-sealBlock, length-payload, sealedAt}
-use Rattle.blocks.proofs.AskLaws.{then-first, then-second, holds-true, absent-none}
 
 -- ---- blocks one after another
-
-joined-ext : (f g : ℕ → List ℕ) (n : ℕ) → ((k : ℕ) → k < n → f k ≡ g k) → joined f n ≡ joined g n
-unfolding joined
-joined-ext f g zero h = refl
-joined-ext f g (suc n) h = rw (joined-ext f g n (λ i l. h i (omega arith)), h n (omega arith))
 
 module _ (f : ℕ → List ℕ) (long : (k : ℕ) → length (f k) ≡ 512) where
   length-joined : (n : ℕ) → length (joined f n) ≡ 512 * n
@@ -181,35 +175,35 @@ whole-parts len w =
 pub asked-whole : (file : List ℕ) → askBlocks file ≡ Pass → (0 < length file) × (length file % 512 ≡ 0) × (length file ≤ 2 ^ 41)
 unfolding askBlocks
 asked-whole file p =
-    whole-parts (length file) (holds-true (wholeBlocks (length file)) FileLength (then-first (holds (wholeBlocks (length file)) FileLength) (absent (firstWrong file) Block) p))
+    whole-parts (length file) (holds-pass (wholeBlocks (length file)) FileLength (both-pass (holds (wholeBlocks (length file)) FileLength) (absent (firstWrong file) Block) p .0))
 
 -- the ways to ask
 module _ (file : List ℕ) where
   pub asked-16 : not (wholeBlocks (length file)) ≡ true → Stop FileLength ≡ askBlocks file
   unfolding askBlocks
-  asked-16 w = rw (not-false (wholeBlocks (length file)) w)
+  asked-16 w = rw (not-true (wholeBlocks (length file)) w)
 
   module _ (f : Found) (w : not (wholeBlocks (length file)) ≡ false) (e : f ≡ firstWrong file) where
     -- 2^41 bytes are 2^32 blocks
     pub block-fits : (k : ℕ) → f ≡ At k → k < 2 ^ 32
     block-fits k a =
-        let whole = whole-parts (length file) (not-true (wholeBlocks (length file)) w) in
+        let whole = whole-parts (length file) (not-false (wholeBlocks (length file)) w) in
         let l = first-found (wrongBlock file) (length file / 512) k (sym e ∙ a) .0 in
         omega arith
 
     pub asked-17 : (k : ℕ) → f ≡ At k → Stop (Block k) ≡ askBlocks file
     unfolding askBlocks
-    asked-17 k a = rw (not-true (wholeBlocks (length file)) w, ← e, a)
+    asked-17 k a = rw (not-false (wholeBlocks (length file)) w, ← e, a)
 
     pub asked-pass : f ≡ Nothing → Pass ≡ askBlocks file
     unfolding askBlocks
-    asked-pass a = rw (not-true (wholeBlocks (length file)) w, ← e, a)
+    asked-pass a = rw (not-false (wholeBlocks (length file)) w, ← e, a)
 
 asked-right : (file : List ℕ) → askBlocks file ≡ Pass → (k : ℕ) → k < length file / 512 → rightBlock file k ≡ true
 unfolding askBlocks wrongBlock
 asked-right file p k h =
-    not-true (rightBlock file k) (first-none (wrongBlock file) (length file / 512)
-    (absent-none (firstWrong file) Block (then-second (holds (wholeBlocks (length file)) FileLength) (absent (firstWrong file) Block) p)) k h)
+    not-false (rightBlock file k) (first-none (wrongBlock file) (length file / 512)
+    (absent-pass (firstWrong file) Block (both-pass (holds (wholeBlocks (length file)) FileLength) (absent (firstWrong file) Block) p .1)) k h)
 
 -- a block that is right is the sealed block of its payload
 block-back : (file : List ℕ) (k : ℕ) (p : List ℕ) → ((i : ℕ) → getD file i 0 < 256) → length p ≡ 504 → ((j : ℕ) → j < 504 → getD p j 0 ≡ byteFrom file (512 * k) j)

@@ -23,7 +23,7 @@ fn wide(x: u8) -> u32
     x as u32
 }
 
-// The checks of the block that starts at `from`. B adds up the sums so far; neither passes 65,806,320 before the division.
+// Gives the checks of the block that starts at `from`. B adds up the sums so far; neither passes 65,806,320 before the division.
 pub fn checks_of(file: &[u8], from: usize) -> Checks
     requires { ⌜ from + 508 ≤ length (now file) ⌝ }
     ensures { λ r. ⌜ (r .a ≡ checkA (byteFrom (now (file .entry)) from)) × (r .b ≡ checkB (byteFrom (now (file .entry)) from)) ⌝ }
@@ -42,7 +42,7 @@ pub fn checks_of(file: &[u8], from: usize) -> Checks
     }
 }
 
-// The number in `width` bytes of the block that starts at `from`, from its byte `at` on, least first.
+// Reads the number in `width` bytes of the block that starts at `from`, from its byte `at` on, least first.
 pub fn number_in(file: &[u8], from: usize, at: usize, width: usize) -> u64
     requires { ⌜ (width ≤ 8) × (from + (at + width) ≤ length (now file)) ⌝ }
     ensures { λ r. ⌜ (r ≡ le width (byteFrom (now (file .entry)) from) at) × (r < 256 ^ width) ⌝ }
@@ -56,7 +56,7 @@ pub fn number_in(file: &[u8], from: usize, at: usize, width: usize) -> u64
     n
 }
 
-// Whether number and both checks of block `k` are right.
+// Tells whether number and both checks of block `k` are right.
 pub fn right_block(file: &[u8], k: usize) -> bool
     requires { ⌜ 512 * k + 512 ≤ length (now file) ⌝ }
     ensures { λ r. ⌜ r ≡ rightBlock (now (file .entry)) k ⌝ }
@@ -69,7 +69,7 @@ pub fn right_block(file: &[u8], k: usize) -> bool
     (number == k as u64) & (a == c.a as u64) & (b == c.b as u64)
 }
 
-// The first block at fault.
+// Finds the first block at fault.
 pub fn first_wrong(file: &[u8]) -> Found
     ensures { λ r. ⌜ r ≡ firstWrong (now (file .entry)) ⌝ }
 {
@@ -84,7 +84,7 @@ pub fn first_wrong(file: &[u8]) -> Found
     Found::Nothing
 }
 
-// Questions 16 and 17.
+// Asks 16 and 17.
 pub fn ask_blocks(file: &[u8]) -> Asked
     ensures { λ r. ⌜ r ≡ askBlocks (now (file .entry)) ⌝ }
 {
@@ -99,7 +99,7 @@ pub fn ask_blocks(file: &[u8]) -> Asked
     }
 }
 
-// Whether the file has as many blocks as `size` payload bytes demand, and zeros after these.
+// Tells whether the file has as many blocks as `size` payload bytes demand, and zeros after these.
 pub fn ends_at(file: &[u8], size: usize) -> bool
     requires { ⌜ size < 2 ^ 63 ⌝ }
     ensures { λ r. ⌜ r ≡ endsAt (now (file .entry)) size ⌝ }

@@ -14,7 +14,7 @@ ghost use Rattle.matrix_file.specs.MatrixFile.{matrixLists, opened, readOutcome
 ghost use Rattle.report.specs.Report.{Told, ToldEnd, numberOfShape, shapeSlots, listSlots};
 use base::Index;
 
-// The fill and its lists, lower rows and T(k) one after another.
+// Finds the fill and its lists, lower rows and T(k) one after another.
 #[no_mangle]
 pub extern "C" fn lp_structure_plain(
     n: usize,
@@ -55,7 +55,7 @@ pub extern "C" fn lp_structure_plain(
     report::put_answer(report, a)
 }
 
-// Structure, factors and one solution in the plain form.
+// Finds structure, factors and one solution in the plain form.
 #[no_mangle]
 pub extern "C" fn lp_solve_plain(
     n: usize,
@@ -104,7 +104,7 @@ pub extern "C" fn lp_solve_plain(
     report::put_answer(report, a)
 }
 
-// The fill and its lists, lower columns and T(k) sharing index slots.
+// Finds the fill and its lists, lower columns and T(k) sharing index slots.
 #[no_mangle]
 pub extern "C" fn lp_structure_shared(
     n: usize,
@@ -149,7 +149,7 @@ pub extern "C" fn lp_structure_shared(
     report::put_answer(report, a)
 }
 
-// Structure, factors and one solution in the shared form.
+// Finds structure, factors and one solution in the shared form.
 #[no_mangle]
 pub extern "C" fn lp_solve_shared(
     n: usize,
@@ -202,7 +202,7 @@ pub extern "C" fn lp_solve_shared(
     report::put_answer(report, a)
 }
 
-// One solution by rows, L not kept.
+// Finds one solution by rows, L not kept.
 #[no_mangle]
 pub extern "C" fn lp_solve_row(
     n: usize,
@@ -247,7 +247,7 @@ pub extern "C" fn lp_solve_row(
     report::put_answer(report, a)
 }
 
-// The list of a side at a place in the plain form: offset in its index store and length.
+// Gives the list of a side at a place in the plain form: offset in its index store and length.
 #[no_mangle]
 pub extern "C" fn lp_list_plain(
     side: u32,
@@ -274,7 +274,7 @@ pub extern "C" fn lp_list_plain(
     )
 }
 
-// The same in the shared form.
+// Gives the same in the shared form.
 #[no_mangle]
 pub extern "C" fn lp_list_shared(
     side: u32,
@@ -305,7 +305,7 @@ pub extern "C" fn lp_list_shared(
     )
 }
 
-// n and e of a matrix file.
+// Gives n and e of a matrix file.
 #[no_mangle]
 pub extern "C" fn lp_file_shape(file: &[u8], report: &mut [u64]) -> u32
     ensures { λ q. ⌜ q ≡ numberOfShape (opened (now (file .entry))) ⌝ }
@@ -314,7 +314,7 @@ pub extern "C" fn lp_file_shape(file: &[u8], report: &mut [u64]) -> u32
     report::file_shape(file, report)
 }
 
-// A matrix file read into lent buffers.
+// Reads a matrix file into lent buffers.
 #[no_mangle]
 pub extern "C" fn lp_read_matrix(
     file: &[u8],
@@ -332,7 +332,7 @@ pub extern "C" fn lp_read_matrix(
     report::read_matrix(file, starts, columns, values, r, c, b, report)
 }
 
-// A matrix written as a file.
+// Writes a matrix as a file.
 #[no_mangle]
 pub extern "C" fn lp_write_matrix(
     n: usize,

@@ -1,25 +1,25 @@
 -- The lists are those of M': a row of places is a row of `stored`, a column of rows is one of its columns.
 use mathlib.Core.Path.{_≡_, refl, sym, ap, _∙_}
 use mathlib.Core.Bool.{Bool, true, false, _&&_, _||_}
-use mathlib.Core.List.{List, [], _∷_, map}
+use mathlib.Core.List.{List, [], _∷_}
 use Prim.Native.Nat.{ℕ, zero, suc, _+_, _-_, _<_, _≤_}
 use native.Mathlib.Omega.{arith}
 use native.Mathlib.Decide.{ℕ-discrete, decLt}
-use lib.ListN.{length, getD, take, drop, length-take, length-drop}
-use lib.Seq.{getD-take, getD-drop}
+use lib.ListN.{length, getD}
 use lib.Dec.{eqb, ltb}
 use borrow.Author.Tests.{eq-eqb, ne-eqb, lt-ltb, le-ltb}
-use Rattle.base.specs.Lists.{has, rowOf, listAt, bit}
+use Rattle.base.specs.Lists.{has, rowOf, bit}
 use Rattle.base.specs.declared.Side.{Side}
 use Rattle.base.specs.declared.Side.the-variants.{Lower, Upper}
-use Rattle.lent.specs.Reading.{Below, orderOf, placed}
-use Rattle.lent.specs.ReadingLaws.{placed-length, placed-at}
+use Rattle.lent.specs.Reading.{Below, Distinct, orderOf}
+use Rattle.lent.specs.ReadingLaws.{placed-length, placed-at, placed-is}
+use Rattle.questions.specs.SettledLaws.{columns-under}
 use Rattle.matrix.specs.Input.{Input, ic, stored}
 use Rattle.matrix.specs.OrderLaws.{order-below, place-hits}
 use Rattle.marks.specs.Marks.{Room, stamped, Fresh, Holds}
 use Rattle.marks.specs.MarkLaws.{holds-kept, holds-same, holds-list}
 use Rattle.columns.specs.Columns.{Given, placesByRow, consIf, hits, bare, column}
-use Rattle.columns.specs.Sides.{sidePattern, sideRow, SideLoaded, Distinct, Inverse, Sound, rowsIn}
+use Rattle.columns.specs.Sides.{sidePattern, sideRow, SideLoaded, Inverse, Sound, rowsIn}
 use Rattle.columns.proofs.ColumnLaws.{hits-bit, hits-none, column-zero, column-suc, bare-length}
 use Rattle.columns.proofs.SideLaws.{side-marks, side-below}
 
@@ -88,24 +88,12 @@ column-few R (suc i) j d = rw (column-suc R i) (omega (arith, once i (R i) (colu
 
 -- ---- M'
 
-part-below : (n a : ℕ) (s j : List ℕ) → Below n j → Below n (rowOf s j a)
-unfolding listAt
-part-below n a s j h t l =
-    let b : t < length (take (getD s (a + 1) 0 - getD s a 0) (drop (getD s a 0) j)) = l in
-    let c = rw (length-take, length-drop) at b in
-    rw (getD-take (getD s (a + 1) 0 - getD s a 0) (drop (getD s a 0) j) t 0 (omega arith), getD-drop) (h (getD s a 0 + t) (omega arith))
-
-placed-is : (order xs : List ℕ) (n : ℕ) (f : ℕ → ℕ) → ((j : ℕ) → j < n → getD order j 0 ≡ f j) → Below n xs → placed order xs ≡ map f xs
-unfolding placed
-placed-is order [] n f e b = refl
-placed-is order (x ∷ xs) n f e b = rw (e x (b 0 (omega arith)), placed-is order xs n f e (λ p h. b (suc p) (omega arith)))
-
 module _ (i : Input) (s : List ℕ) (sound : Sound i) (inverse : Inverse i s) where
   back : (c p : ℕ) → c < i .n → getD (orderOf (i .n) s) c 0 ≡ p → c ≡ getD (i .c) p 0
-  back c p h e = sym (place-hits (i .c) (i .n) (sound .column-order) c h .1) ∙ ap (λ m. getD (i .c) m 0) (sym (inverse .place c h) ∙ e)
+  back c p h e = sym (place-hits (i .c) (i .n) (sound .structured .readable .column-order) c h .1) ∙ ap (λ m. getD (i .c) m 0) (sym (inverse .place c h) ∙ e)
 
   row-under : (k : ℕ) → Below (i .n) (rowOf (i .starts) (i .columns) (getD (i .r) k 0))
-  row-under k = part-below (i .n) (getD (i .r) k 0) (i .starts) (i .columns) (sound .columns-below)
+  row-under = columns-under i (sound .structured .readable)
 
   -- row k of M'
   row-stored : (k p : ℕ) → has (rowsIn i s k) p ≡ stored i k p
@@ -122,7 +110,7 @@ module _ (i : Input) (s : List ℕ) (sound : Sound i) (inverse : Inverse i s) wh
         apart = λ p q a b e.
             let u = placed-at ic cols p (omega arith) in
             let v = placed-at ic cols q (omega arith) in
-            sound .distinct k h .apart p q a (omega arith)
+            sound .structured .distinct k h .apart p q a (omega arith)
             (back (getD cols p 0) (getD ic (getD cols q 0) 0) (row-under k p (omega arith)) (sym u ∙ e ∙ v) ∙ sym (back (getD cols q 0) (getD ic (getD cols q 0) 0) (row-under k q (omega arith)) refl));
       }
 
@@ -130,17 +118,9 @@ module _ (i : Input) (s : List ℕ) (sound : Sound i) (inverse : Inverse i s) wh
   pub given-sound : Room (i .n) s → Given (i .n) (i .starts) (i .columns) (i .r) s
   given-sound sp = record {
     space = sp;
-    order = λ c h. omega (arith, inverse .place c h, place-hits (i .c) (i .n) (sound .column-order) c h .0);
+    order = λ c h. omega (arith, inverse .place c h, place-hits (i .c) (i .n) (sound .structured .readable .column-order) c h .0);
     long = omega (arith, sound .order-long);
-    read = λ k h.
-        let b = order-below (i .r) (i .n) (sound .row-order) k h in
-        let up = sound .rise (getD (i .r) k 0) b in
-        record {
-          has-run = omega (arith, sound .starts-long);
-          has-start = omega (arith, sound .starts-long);
-          rise = up;
-          inside = omega (arith, sound .within (getD (i .r) k 0) b);
-        };
+    read = λ k h. sound .structured .readable .rows (sound .starts-long) (getD (i .r) k 0) (order-below (i .r) (i .n) (sound .structured .readable .row-order) k h);
     below = λ k h. row-under k;
     few = λ j. column-few (rowsIn i s) (i .n) j row-distinct;
   }

@@ -6,8 +6,8 @@ use native.Mathlib.Omega.{arith}
 use Rattle.base.specs.Lists.{listAt}
 use Rattle.base.specs.First.{first}
 use Rattle.matrix.specs.Input.{Input, ic, isOf}
-use Rattle.matrix.specs.Questions.{badIndex, IsOrder}
 use Rattle.lent.specs.Reading.{orderOf, placed}
+use Rattle.questions.proofs.Witness.{holds}
 use Rattle.columns.specs.Columns.{Given, placesByRow, hits, bare, column, none, node, Ready}
 use Rattle.columns.specs.Sides.{Inverse, Sound, rowsIn}
 use Rattle.columns.proofs.Stored.{given-sound}
@@ -20,17 +20,17 @@ abbrev scratch : List ℕ
 scratch = 0 ∷ 0 ∷ 0 ∷ 0 ∷ 1 ∷ 0 ∷ 0 ∷ 0 ∷ []
 
 pub sound : Sound one
-unfolding IsOrder first badIndex isOf listAt
-sound = record {
-  starts-long = refl;
-  order-long = refl;
-  rise = elim [ zero ↦ λ h. omega arith | suc k ↦ λ h. absurd (omega arith) ];
-  within = elim [ zero ↦ λ h. omega arith | suc k ↦ λ h. absurd (omega arith) ];
-  columns-below = elim [ zero ↦ λ h. omega arith | suc k ↦ λ h. absurd (omega arith) ];
-  row-order = refl;
-  column-order = refl;
-  distinct = elim [ zero ↦ λ h. record { apart = λ p q a b e. omega arith } | suc k ↦ λ h. absurd (omega arith) ];
-}
+sound =
+    let q = holds .structured in
+    record {
+      starts-long = refl;
+      order-long = refl;
+      structured = record {
+        readable = record { rows = q .readable .rows; columns = q .readable .columns; row-order = q .readable .row-order; column-order = q .readable .column-order };
+        entered = q .entered;
+        distinct = q .distinct;
+      };
+    }
 
 pub inverse : Inverse one scratch
 unfolding orderOf ic first isOf

@@ -1,15 +1,14 @@
 -- M' by side: the rows of M' above the diagonal, its columns below. Definitions only.
 use mathlib.Core.List.{List}
 use mathlib.Core.Path.{_≡_}
-use Prim.Native.Nat.{ℕ, _+_, _<_, _≤_}
+use Prim.Native.Nat.{ℕ, _+_, _<_}
 use lib.ListN.{length, getD}
 use Rattle.base.specs.declared.Side.{Side}
 use Rattle.base.specs.declared.Side.the-variants.{Lower, Upper}
 use Rattle.fill.specs.Fill.{Pattern, flip}
 use Rattle.matrix.specs.Input.{Input, ic}
-use Rattle.matrix.specs.Questions.{IsOrder}
-use Rattle.base.specs.Lists.{rowOf}
-use Rattle.lent.specs.Reading.{Below, orderOf}
+use Rattle.lent.specs.Reading.{orderOf}
+use Rattle.questions.specs.Settled.{Structured}
 use Rattle.marks.specs.Marks.{stamped}
 use Rattle.columns.specs.Columns.{column, placesByRow, Ready, Loaded}
 
@@ -33,10 +32,6 @@ abbrev pub SideLoaded : Side → ℕ → ℕ → ℕ → ℕ → ℕ → (ℕ �
 SideLoaded Upper n t k hi₀ hi R s₀ s = (s ≡ stamped n t s₀ (R k)) × (hi ≡ hi₀)
 SideLoaded Lower n t k hi₀ hi R s₀ s = Loaded n t k hi R s₀ s
 
--- no number twice
-pub record Distinct (l : List ℕ) : Type 0 where
-  pub apart : (p q : ℕ) → p < q → q < length l → getD l p 0 ≡ getD l q 0 → ⊥
-
 -- slots n to 2n hold the inverse of the column order
 pub record Inverse (i : Input) (s : List ℕ) : Type 0 where
   pub place : (j : ℕ) → j < i .n → getD (orderOf (i .n) s) j 0 ≡ ic (i .c) (i .n) j
@@ -45,13 +40,8 @@ pub record Inverse (i : Input) (s : List ℕ) : Type 0 where
 abbrev pub rowsIn : Input → List ℕ → ℕ → List ℕ
 rowsIn i s = placesByRow (orderOf (i .n) s) (i .starts) (i .columns) (i .r)
 
--- what questions 2 to 5 and 8 settle
+-- what question 2 settles of the starts and the row order, and 3, 4, 5, 7 and 8
 pub record Sound (i : Input) : Type 0 where
   pub starts-long : length (i .starts) ≡ i .n + 1
   pub order-long : length (i .r) ≡ i .n
-  pub rise : (q : ℕ) → q < i .n → getD (i .starts) q 0 ≤ getD (i .starts) (q + 1) 0
-  pub within : (q : ℕ) → q < i .n → getD (i .starts) (q + 1) 0 ≤ length (i .columns)
-  pub columns-below : Below (i .n) (i .columns)
-  pub row-order : IsOrder (i .r) (i .n)
-  pub column-order : IsOrder (i .c) (i .n)
-  pub distinct : (k : ℕ) → k < i .n → Distinct (rowOf (i .starts) (i .columns) (getD (i .r) k 0))
+  pub structured : Structured i

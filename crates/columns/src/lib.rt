@@ -80,7 +80,7 @@ fn count_columns(marks: &mut [u32], n: usize, starts: &[u32], columns: &[Index],
     }
 }
 
-// Before the first column: no window is open.
+// Makes ready for the first column: no window is open.
 pub fn start_columns(marks: &mut [u32], n: usize, starts: &[u32], columns: &[Index], r: &[Index])
     requires { ⌜ Given n (now starts) (now columns) (now r) (now marks) ⌝ }
     ensures { λ _. ⌜ Started n (placesByRow (orderOf n (now (marks .entry))) (now (starts .entry)) (now (columns .entry)) (now (r .entry))) (now (marks .entry)) (now (marks .exit)) ⌝ }
@@ -262,7 +262,7 @@ pub fn load_column(
     end
 }
 
-// Place k of a side as stamps: row k of M' above, column k below. Answers the end of the window at hand.
+// Hands out place k of a side as stamps, row k of M' above, column k below, and answers the end of the window at hand.
 pub fn load(
     side: Side,
     marks: &mut [u32],

@@ -11,7 +11,7 @@ use lib.Ieee.{Float, nan, binary64, mul, sub}
 use lib.Ieee.Scale.{finite}
 use Rattle.base.specs.Lists.{nought, blank, joined, padded, table}
 use Rattle.base.specs.Tests.{by-test}
-use Rattle.base.specs.TableLaws.{getD-table, length-table}
+use Rattle.base.specs.TableLaws.{getD-table, length-table, joined-ext}
 use Rattle.base.specs.declared.Form.{Form}
 use Rattle.base.specs.declared.Form.the-variants.{Plain, Shared, ByRow}
 use Rattle.base.specs.declared.Side.the-variants.{Lower, Upper}
@@ -194,11 +194,6 @@ unfolding joined
 joined-none zero = refl
 joined-none (suc n) = rw (joined-none n)
 
-joined-same : {A : Type 0} (f g : ℕ → List A) (n : ℕ) → ((k : ℕ) → k < n → f k ≡ g k) → joined f n ≡ joined g n
-unfolding joined
-joined-same f g zero e = refl
-joined-same f g (suc n) e = rw (joined-same f g n (λ k h. e k (omega arith)), e n (omega arith))
-
 -- L by form
 lower-kept : (f : Form) (i : Input) (L : PlacedLists) (rows : List Row) (cursors : List ℕ) (l : List Float) → LowerPlaced f (stored i) (i .n) L l
     → LowerHeld f (system i) rows (i .n) (L .lower-starts) cursors l → l ≡ padded nought (length l) (valuesKept f Lower (stored i) (i .n) rows)
@@ -216,7 +211,7 @@ lower-kept Shared i L rows cursors l S h =
     (omega (arith, start-at Shared Lower (stored i) (i .n) (L .lower-starts) _ _ (length l) side (i .n) (omega arith), S .values-in))
     (columns-end (system i) (L .lower-starts) (λ j b. omega (arith, size-at Shared Lower (stored i) (i .n) (L .lower-starts) _ _ (length l) side j b))
     (shared-fits i (L .lower-starts) (length l) S) rows cursors l h)
-    ∙ ap (padded nought (length l)) (joined-same _ _ (i .n) (λ j b. column-is (stored i) (i .n) rows j))
+    ∙ ap (padded nought (length l)) (joined-ext _ _ (i .n) (λ j b. column-is (stored i) (i .n) rows j))
 lower-kept ByRow i L rows cursors l S h = rw (h, joined-none (i .n))
 
 -- ---- the answer

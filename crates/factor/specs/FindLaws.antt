@@ -1,6 +1,6 @@
 -- Lower row k found anew, in the forms that keep no lower rows: from what its calls leave, and between two rows.
 use mathlib.Core.Path.{_≡_, refl, sym, ap, _∙_}
-use mathlib.Core.List.{List, [], _∷_, map}
+use mathlib.Core.List.{List}
 use Prim.Native.Nat.{ℕ, suc, _+_, _<_, _≤_}
 use native.Mathlib.Omega.{arith}
 use lib.ListN.{length, getD, take, drop, length-drop}
@@ -11,11 +11,11 @@ use Rattle.base.specs.declared.Side.the-variants.{Upper}
 use Rattle.fill.specs.Fill.{Pattern, filled}
 use Rattle.matrix.specs.Input.{Input, ic, stored}
 use Rattle.matrix.specs.OrderLaws.{order-below, place-hits}
-use Rattle.questions.specs.Settled.{Under, columnsAt}
-use Rattle.questions.specs.SettledLaws.{row-under}
-use Rattle.outcome.specs.Placed.{PlacedSide, starts-long, size-at, run-at, run-inside, list-at}
-use Rattle.lent.specs.Reading.{Below, But, orderOf, placed}
-use Rattle.lent.specs.ReadingLaws.{order-read}
+use Rattle.questions.specs.Settled.{columnsAt}
+use Rattle.questions.specs.SettledLaws.{columns-under}
+use Rattle.outcome.specs.Placed.{PlacedSide, list-at}
+use Rattle.lent.specs.Reading.{But, orderOf, placed}
+use Rattle.lent.specs.ReadingLaws.{order-read, placed-is}
 use Rattle.marks.specs.Marks.{Holds, Base, Parts, Blocks, members}
 use Rattle.marks.specs.MarkLaws.{holds-same}
 use Rattle.marks.specs.Rows.{Stored, Loaded, LowerListed, Closing, Renewed}
@@ -23,7 +23,8 @@ use Rattle.marks.specs.FillLaws.{held-parts}
 use Rattle.marks.specs.ListLaws.{lower-members, lower-marks, lower-read, lower-but, lower-le}
 use Rattle.marks.specs.Turn.{loaded-cuts, closed-marks, place-turn}
 use Rattle.factor.specs.Factoring.{PlacedLists, Workspace, Going, RowDue, Findable, LowerFound, lowerIn}
-use Rattle.base.specs.Scratch.{blocksFrom, upperCuts, cursorsFrom, listFrom}
+use Rattle.factor.specs.SystemLaws.{placed-shape}
+use Rattle.base.specs.Scratch.{blocksFrom, upperCuts, cursorsFrom, listFrom, zFrom}
 
 -- ---- one finding, from what its calls leave
 
@@ -97,23 +98,11 @@ module _ {P : Pattern} {n k : ℕ} {starts columns r index runs ustarts s₀ : L
 
 -- ---- between two rows
 
-placed-is : (f : ℕ → ℕ) (n : ℕ) (s cols : List ℕ) → ((j : ℕ) → j < n → getD s (n + j) 0 ≡ f j) → Below n cols → placed (orderOf n s) cols ≡ map f cols
-unfolding placed
-placed-is f n s [] e b = refl
-placed-is f n s (j ∷ cols) e b =
-    let h = b 0 (omega arith) in
-    rw (← order-read n s j h, e j h, placed-is f n s cols e (λ p h. b (suc p) (omega arith)))
-
 -- the lists of the places up to k stand in the store
 placed-stored : (f : Form) (P : Pattern) (n k : ℕ) (starts runs index : List ℕ) (size : ℕ) → k < n → PlacedSide f Upper P n starts runs index size → Stored P n (k + 1) starts runs index
 placed-stored f P n k starts runs index size h S = record {
   list = λ j l. list-at f Upper P n starts runs index size S j (omega arith);
-  read = λ j l. record {
-    has-run = run-at f Upper P n starts runs index size S j (omega arith) .0;
-    has-start = omega (arith, starts-long f Upper P n starts runs index size S);
-    rise = omega (arith, size-at f Upper P n starts runs index size S j (omega arith));
-    inside = run-inside f Upper P n starts runs index size S j (omega arith);
-  };
+  read = λ j l. placed-shape f P n starts runs index size S .list j (omega arith);
 }
 
 module _ {f : Form} {i : Input} {L : PlacedLists} {k : ℕ} {w : Workspace} (G : Going f i L k w) (h : k < i .n)
@@ -121,30 +110,21 @@ module _ {f : Form} {i : Input} {L : PlacedLists} {k : ℕ} {w : Workspace} (G :
   abbrev own : ℕ
   own = getD (i .r) k 0
 
-  columns-in : Below (i .n) (columnsAt i k)
-  unfolding Under
-  columns-in = row-under (i .n) (i .starts) (i .columns) own (G .given .settled .structured .readable .columns)
-
   -- what finding lower row k asks
   pub findable : Findable (stored i) (i .n) k (i .starts) (i .columns) (i .r) (L .upper-starts) (L .upper-runs) (L .upper-index) (w .marks)
   unfolding stored
   findable =
       let g = G .given .settled .structured .readable in
       let b = order-below (i .r) (i .n) (g .row-order) k h in
-      let row = g .rows own b in
+      let columns-in = columns-under i g k in
       record {
         place = h;
         room = record { small = omega (arith, G .given .lent .lent .orders .few); long = G .given .slots };
         own-place = omega (arith, G .given .lent .lent .orders .row-order);
-        row = record {
-          has-run = omega (arith, G .given .lent .lent .starts);
-          has-start = omega (arith, G .given .lent .lent .starts);
-          rise = row .up;
-          inside = omega (arith, row .up, row .within);
-        };
+        row = g .rows (G .given .lent .lent .starts) own b;
         columns-below = columns-in;
         inverse = λ j l. rw (← order-read (i .n) (w .marks) j l, G .given .inverse j l) (place-hits (i .c) (i .n) (g .column-order) j l .0);
-        entries = λ j l. ap (λ (x : List ℕ). has x j) (placed-is (ic (i .c) (i .n)) (i .n) (w .marks) (columnsAt i k) (G .given .inverse) columns-in);
+        entries = λ j l. ap (λ (x : List ℕ). has x j) (placed-is (orderOf (i .n) (w .marks)) (columnsAt i k) (i .n) (ic (i .c) (i .n)) (λ c b. sym (order-read (i .n) (w .marks) c b) ∙ G .given .inverse c b) columns-in);
         held = H;
         store = placed-stored f (stored i) (i .n) k (L .upper-starts) (L .upper-runs) (L .upper-index) (length (w .upper)) h (G .given .upper-side);
       }

@@ -1,20 +1,19 @@
 -- The system of an input that passed its questions: the fill closes each row, and a row of M is lent as the steps ask for it.
-use mathlib.Core.Path.{_≡_, refl, sym, ap, _∙_}
+use mathlib.Core.Path.{_≡_, sym, ap, _∙_}
 use mathlib.Core.Bool.{true, _&&_, _||_}
-use mathlib.Core.List.{List, [], _∷_, _++_, map}
-use Prim.Native.Nat.{ℕ, suc, _+_, _-_, _<_, _≤_}
+use mathlib.Core.List.{List, _∷_, _++_, map}
+use Prim.Native.Nat.{ℕ, _+_, _-_, _<_, _≤_}
 use native.Mathlib.Omega.{arith}
 use native.Mathlib.Decide.{decLt}
 use lib.ListN.{length, getD, take, drop, length-take, length-drop}
-use lib.Seq.{getD-take, getD-drop, ext-getD, length-take-le}
+use lib.Seq.{getD-take, getD-drop}
 use lib.Dec.{eqb, ltb}
 use lib.Ieee.{Float, nan}
 use lib.Ieee.Scale.{finite}
 use borrow.Author.Tests.{lt-ltb, ltb-true, eq-eqb}
-use Rattle.base.specs.Lists.{has, asc, table, listAt, rowOf}
+use Rattle.base.specs.Lists.{has, asc, listAt, rowOf}
 use Rattle.base.specs.Tests.{and-cases, or-right}
 use Rattle.base.specs.AscLaws.{has-asc, has-append, asc-ascends, length-asc}
-use Rattle.base.specs.TableLaws.{getD-table, length-table}
 use Rattle.base.specs.declared.Form.{Form}
 use Rattle.base.specs.declared.Side.the-variants.{Upper}
 use Rattle.fill.specs.Fill.{Pattern, filled, upper, upperRow, lowerRow}
@@ -23,16 +22,16 @@ use Rattle.matrix.specs.Input.{Input, ic, stored, entries, rightAt}
 use Rattle.matrix.specs.OrderLaws.{place-hits}
 use Rattle.outcome.specs.Solve.{system}
 use Rattle.outcome.specs.Placed.{PlacedSide, starts-long, size-at, values-at, run-at, run-inside, list-at}
-use Rattle.questions.specs.Settled.{Under, Finite, placesAt}
-use Rattle.questions.specs.SettledLaws.{row-under, places-under}
+use Rattle.questions.specs.Settled.{Finite, placesAt}
+use Rattle.questions.specs.SettledLaws.{columns-under, places-under}
 use Rattle.marks.specs.FillLaws.{upper-below}
-use Rattle.lent.specs.Reading.{Below, ownAt, orderOf}
-use Rattle.numeric.specs.Stores.{Ascending, StoreShape, Reducible, placesOf}
-use Rattle.numeric.specs.StoreLaws.{list-length}
+use Rattle.lent.specs.Reading.{Below, ownAt, orderOf, placed}
+use Rattle.numeric.specs.Stores.{Ascending, StoreShape, Reducible}
+use Rattle.lent.specs.ReadingLaws.{list-length, order-read, placed-is}
 use Rattle.numeric.specs.Rows.{filledRow, Closed, RowLent}
 use Rattle.numeric.specs.RowLaws.{has-at}
-use Rattle.factor.specs.Factoring.{Inverse, RowAt}
-use Rattle.base.specs.Scratch.{blocksFrom, listFrom}
+use Rattle.factor.specs.Factoring.{RowAt}
+use Rattle.base.specs.Scratch.{listFrom}
 use Rattle.base.specs.declared.OwnNumber.{OwnNumber}
 
 -- ---- the fill
@@ -108,25 +107,12 @@ placed-shape f P n starts runs index size h = record {
 
 -- ---- a row of M
 
--- the inverse order, as a slice
-inverse-is : (i : Input) (s : List ℕ) → blocksFrom (i .n) ≤ length s → Inverse i s → orderOf (i .n) s ≡ table (ic (i .c) (i .n)) (i .n)
-unfolding orderOf
-inverse-is i s h e =
-    let l : length (take (i .n) (drop (i .n) s)) ≡ i .n = length-take-le (i .n) (drop (i .n) s) (simp length-drop (omega arith)) in
-    ext-getD 0 (take (i .n) (drop (i .n) s)) (table (ic (i .c) (i .n)) (i .n)) (l ∙ sym (length-table (ic (i .c) (i .n)) (i .n)))
-    (λ j g. let b : j < i .n = rw l at g in
-    getD-take (i .n) (drop (i .n) s) j 0 b ∙ getD-drop (i .n) s j 0 ∙ e j b ∙ sym (getD-table (ic (i .c) (i .n)) (i .n) 0 j b))
-
-places-same : (f : ℕ → ℕ) (n : ℕ) (cols : List ℕ) → Below n cols → map (λ j. getD (table f n) j 0) cols ≡ map f cols
-places-same f n [] b = refl
-places-same f n (j ∷ cols) b = rw (getD-table f n 0 j (b 0 (omega arith)), places-same f n cols (λ p h. b (suc p) (omega arith)))
-
 module _ (i : Input) (k below : ℕ) (us ur ui marks : List ℕ) (upper work : ℕ) (R : RowAt i k below us ur ui marks upper work) where
   abbrev own : ℕ
   own = getD (i .r) k 0
 
-  order-is : orderOf (i .n) marks ≡ table (ic (i .c) (i .n)) (i .n)
-  order-is = inverse-is i marks (omega (arith, R .slots)) (R .inverse)
+  order-at : (j : ℕ) → j < i .n → getD (orderOf (i .n) marks) j 0 ≡ ic (i .c) (i .n) j
+  order-at j h = sym (order-read (i .n) marks j h) ∙ R .inverse j h
 
   -- what the code reads: own row r(k), its columns and values, b(r(k)) and lower row k
   module _ (row : OwnNumber) (columns lower : List ℕ) (values : List Float) (b : Float) (er : row ≡ ownAt (i .r) (record { 0 = k })) (rc : columns ≡ rowOf (i .starts) (i .columns) (row .0))
@@ -141,12 +127,10 @@ module _ (i : Input) (k below : ℕ) (us ur ui marks : List ℕ) (upper work : �
     eb = rb ∙ ap (λ (x : OwnNumber). getD (i .b) (x .0) nan) er
 
     columns-below : Below (i .n) columns
-    unfolding Under
-    columns-below = rw ec (row-under (i .n) (i .starts) (i .columns) own (R .settled .structured .readable .columns))
+    columns-below = rw ec (columns-under i (R .settled .structured .readable) k)
 
-    places-are : placesOf (orderOf (i .n) marks) columns ≡ placesAt i k
-    unfolding placesOf
-    places-are = rw order-is (places-same (ic (i .c) (i .n)) (i .n) columns columns-below ∙ ap (map (ic (i .c) (i .n))) ec)
+    places-are : placed (orderOf (i .n) marks) columns ≡ placesAt i k
+    places-are = placed-is (orderOf (i .n) marks) columns (i .n) (ic (i .c) (i .n)) order-at columns-below ∙ ap (map (ic (i .c) (i .n))) ec
 
     long : length columns ≡ length values
     long = rw (ec, ev) (list-length (i .starts) (i .starts) (i .columns) own (R .columns) ∙ sym (list-length (i .starts) (i .starts) (i .values) own (R .values)))
@@ -160,7 +144,7 @@ module _ (i : Input) (k below : ℕ) (us ur ui marks : List ℕ) (upper work : �
         slots = omega (arith, R .slots);
         paired = long;
         known = columns-below;
-        inside = λ p g. rw (order-is, getD-table (ic (i .c) (i .n)) (i .n) 0 (getD columns p 0) (columns-below p g))
+        inside = λ p g. rw (order-at (getD columns p 0) (columns-below p g))
             (place-hits (i .c) (i .n) (R .settled .structured .readable .column-order) (getD columns p 0) (columns-below p g) .0);
       };
       below = rw (el ∙ R .lower) (lower-below (stored i) (i .n) k (omega (arith, R .place)));
@@ -175,13 +159,13 @@ module _ (i : Input) (k below : ℕ) (us ur ui marks : List ℕ) (upper work : �
         rw (getD-take (getD s (own + 1) 0 - getD s own 0) (drop (getD s own 0) (i .values)) p nan (omega arith), getD-drop) (R .settled .values (getD s own 0 + p) (omega arith))
 
     place-filled : (p : ℕ) → p < length (placesAt i k) → has (filledRow (system i) k) (getD (placesAt i k) p 0) ≡ true
-    unfolding system stored Under
+    unfolding system stored
     place-filled p g =
         let b = places-under i (R .settled .structured .readable) k p g in
         row-has (stored i) (i .n) k (getD (placesAt i k) p 0) b
         (filled-stored (stored i) k (getD (placesAt i k) p 0) (has-at (placesAt i k) p g))
 
-    pub row-lent : RowLent (system i) k lower (placesOf (orderOf (i .n) marks) columns) values b
+    pub row-lent : RowLent (system i) k lower (placed (orderOf (i .n) marks) columns) values b
     unfolding system entries rightAt Finite
     row-lent = record {
       entries = rw (places-are, ev);

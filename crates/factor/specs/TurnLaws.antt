@@ -21,7 +21,7 @@ use Rattle.outcome.proofs.Meaning.{listed-stops}
 use Rattle.marks.specs.ListLaws.{lower-le}
 use Rattle.numeric.specs.declared.Pivot.{Pivot}
 use Rattle.numeric.specs.declared.Pivot.the-variants.{Usable, Zero, Overflow}
-use Rattle.lent.specs.Reading.{ListIn, Below}
+use Rattle.lent.specs.Reading.{Below}
 use Rattle.numeric.specs.Stores.{Closable, gathered}
 use Rattle.numeric.specs.Rows.{Reduced, Shut, keptRow}
 use Rattle.numeric.specs.PassLaws.{forward-length, held-more, held-zero, held-overflow}
@@ -115,9 +115,7 @@ module _ {f : Form} {i : Input} {L : PlacedLists} {k : ℕ} {w : Workspace} (G :
   row-at m below em inv eb el =
       let F = G .given in
       let own = order-below (i .r) (i .n) (F .settled .structured .readable .row-order) k h in
-      let row = F .settled .structured .readable .rows (getD (i .r) k 0) own in
-      let columns : ListIn (i .starts) (i .starts) (length (i .columns)) (getD (i .r) k 0) =
-      record { has-run = omega (arith, F .lent .lent .starts); has-start = omega (arith, F .lent .lent .starts); rise = row .up; inside = omega (arith, row .up, row .within) } in
+      let columns = F .settled .structured .readable .rows (F .lent .lent .starts) (getD (i .r) k 0) own in
       record {
         place = h;
         lent = rw em (F .lent);

@@ -1,16 +1,15 @@
 -- Laws of the closing zeros.
-use mathlib.Core.Path.{_≡_, refl, sym, ap, _∙_}
-use mathlib.Core.Bool.{true, false, not, false≢true}
+use mathlib.Core.Path.{_≡_, sym, ap, _∙_}
+use mathlib.Core.Bool.{true, false, not}
 use mathlib.Core.List.{List}
 use Prim.Native.Nat.{ℕ, _+_, _-_, _<_, _≤_}
 use native.Mathlib.Omega.{arith}
 use lib.Dec.{eqb}
-use borrow.Author.Tests.{eq-eqb, ne-eqb, eqb-true}
+use borrow.Author.Tests.{eq-eqb, ne-eqb, eqb-true, not-true, not-false}
 use Rattle.base.specs.declared.Found.{Found}
-use Rattle.base.specs.declared.Found.the-variants.{At, Nothing}
+use Rattle.base.specs.declared.Found.the-variants.{Nothing}
 use Rattle.base.specs.First.{first, isAt}
-use Rattle.base.specs.FirstLaws.{first-at, first-more, first-end, first-none, first-all}
-use Rattle.base.specs.Tests.{not-true, not-false}
+use Rattle.base.specs.FirstLaws.{first-at, first-more, first-end, first-none, first-all, isAt-none}
 use Rattle.fields.specs.Payload.{room, payload, marked, zeroFrom}
 
 module _ (file : List ℕ) (from : ℕ) where
@@ -33,19 +32,15 @@ module _ (file : List ℕ) (from : ℕ) where
 
   -- ---- what the answer tells, and when it is yes
 
-  none-at : (f : Found) → isAt f ≡ false → f ≡ Nothing
-  none-at (At i) e = absurd (false≢true (sym e))
-  none-at Nothing e = refl
-
   byte-zero : (i : ℕ) → marked file from i ≡ false → payload file (from + i) ≡ 0
   unfolding marked
-  byte-zero i e = eqb-true (payload file (from + i)) 0 (not-true (eqb (payload file (from + i)) 0) e)
+  byte-zero i e = eqb-true (payload file (from + i)) 0 (not-false (eqb (payload file (from + i)) 0) e)
 
   pub zero-bytes : zeroFrom file from ≡ true → (i : ℕ) → from ≤ i → i < room file → payload file i ≡ 0
   zero-bytes z i g l =
       let e : from + (i - from) ≡ i = omega arith in
       rw e at (byte-zero (i - from) (first-none (marked file from) (room file - from)
-      (none-at (first (marked file from) (room file - from)) (not-false (isAt (first (marked file from) (room file - from))) z)) (i - from) (omega arith)))
+      (isAt-none (first (marked file from) (room file - from)) (not-true (isAt (first (marked file from) (room file - from))) z)) (i - from) (omega arith)))
 
   pub zero-yes : ((i : ℕ) → from ≤ i → i < room file → payload file i ≡ 0) → zeroFrom file from ≡ true
   zero-yes z =

@@ -15,7 +15,7 @@ pub struct Reader<'a> {
     pub at: usize,
 }
 
-// Payload byte `at`.
+// Reads payload byte `at`.
 pub fn payload_byte(file: &[u8], at: usize) -> u64
     requires { ⌜ at < room (now file) ⌝ }
     ensures { λ r. ⌜ (r ≡ payload (now (file .entry)) at) × (r < 256) ⌝ }
@@ -23,7 +23,7 @@ pub fn payload_byte(file: &[u8], at: usize) -> u64
     file[at / 504 * 512 + at % 504] as u64
 }
 
-// The number in the `width` payload bytes from `at`, least first.
+// Reads the number in the `width` payload bytes from `at`, least first.
 pub fn number_at(file: &[u8], at: usize, width: usize) -> u64
     requires { ⌜ (width ≤ 8) × (at + width ≤ room (now file)) ⌝ }
     ensures { λ r. ⌜ (r ≡ le width (payload (now (file .entry))) at) × (r < 256 ^ width) ⌝ }
@@ -37,14 +37,14 @@ pub fn number_at(file: &[u8], at: usize, width: usize) -> u64
     n
 }
 
-// A reader at the first payload byte.
+// Makes a reader at the first payload byte.
 pub fn at_start<'a>(bytes: &'a [u8]) -> Reader<'a>
     ensures { λ r. ⌜ (r .bytes ≡ bytes .entry) × (r .at ≡ 0) ⌝ }
 {
     Reader { bytes, at: 0 }
 }
 
-// The number in the next `width` payload bytes.
+// Reads the number in the next `width` payload bytes.
 pub fn number<'a>(r: Reader<'a>, width: usize) -> u64
     requires { ⌜ (width ≤ 8) × (r .at + width ≤ room (now (r .bytes))) ⌝ }
     ensures { λ n. ⌜ n ≡ le width (payload (now (r .entry .bytes))) (r .entry .at) ⌝ }
@@ -52,7 +52,7 @@ pub fn number<'a>(r: Reader<'a>, width: usize) -> u64
     number_at(r.bytes, r.at, width)
 }
 
-// The reader past them.
+// Moves the reader past the next `width` payload bytes.
 pub fn past<'a>(r: Reader<'a>, width: usize) -> Reader<'a>
     requires { ⌜ r .at + width < 2 ^ 64 ⌝ }
     ensures { λ q. ⌜ (q .bytes ≡ r .entry .bytes) × (q .at ≡ r .entry .at + width) ⌝ }
@@ -63,7 +63,7 @@ pub fn past<'a>(r: Reader<'a>, width: usize) -> Reader<'a>
     }
 }
 
-// The float of a bit pattern. Every pattern of a NaN is the one NaN.
+// Gives the float of a bit pattern. Every pattern of a NaN is the one NaN.
 pub fn float_of(n: u64) -> f64
     ensures { λ r. ⌜ r ≡ ofBits binary64 n ⌝ }
 {
@@ -74,7 +74,7 @@ pub fn float_of(n: u64) -> f64
     }
 }
 
-// The bit pattern of a float, 7FF8000000000000 for the NaN.
+// Gives the bit pattern of a float, 7FF8000000000000 for the NaN.
 pub fn bits_of(x: f64) -> u64
     ensures { λ r. ⌜ r ≡ toBits binary64 x ⌝ }
 {
@@ -85,7 +85,7 @@ pub fn bits_of(x: f64) -> u64
     }
 }
 
-// Fills `out` with the numbers of 2 bytes from `at` on, and answers where they end. So do the next two, with 4 and 8.
+// Fills `out` with the numbers of 2 bytes from `at` on, and answers where they end.
 pub fn read_indices(file: &[u8], at: usize, out: &mut [Index]) -> usize
     requires { ⌜ at + 2 * length (now out) ≤ room (now file) ⌝ }
     ensures { λ r. ⌜ (r ≡ at + 2 * length (now (out .entry))) × (now (out .exit) ≡ fieldsAt 2 (now (file .entry)) at (length (now (out .entry)))) ⌝ }
@@ -99,6 +99,7 @@ pub fn read_indices(file: &[u8], at: usize, out: &mut [Index]) -> usize
     at + 2 * n
 }
 
+// Fills `out` with the numbers of 4 bytes from `at` on, and answers where they end.
 pub fn read_u32s(file: &[u8], at: usize, out: &mut [u32]) -> usize
     requires { ⌜ at + 4 * length (now out) ≤ room (now file) ⌝ }
     ensures { λ r. ⌜ (r ≡ at + 4 * length (now (out .entry))) × (now (out .exit) ≡ fieldsAt 4 (now (file .entry)) at (length (now (out .entry)))) ⌝ }
@@ -112,6 +113,7 @@ pub fn read_u32s(file: &[u8], at: usize, out: &mut [u32]) -> usize
     at + 4 * n
 }
 
+// Fills `out` with the floats of 8 bytes from `at` on, and answers where they end.
 pub fn read_f64s(file: &[u8], at: usize, out: &mut [f64]) -> usize
     requires { ⌜ at + 8 * length (now out) ≤ room (now file) ⌝ }
     ensures { λ r. ⌜ (r ≡ at + 8 * length (now (out .entry))) × (now (out .exit) ≡ floatsAt (now (file .entry)) at (length (now (out .entry)))) ⌝ }
@@ -125,7 +127,7 @@ pub fn read_f64s(file: &[u8], at: usize, out: &mut [f64]) -> usize
     at + 8 * n
 }
 
-// Whether every payload byte from `from` on is zero.
+// Tells whether every payload byte from `from` on is zero.
 pub fn zero_from(file: &[u8], from: usize) -> bool
     requires { ⌜ from ≤ room (now file) ⌝ }
     ensures { λ r. ⌜ r ≡ zeroFrom (now (file .entry)) from ⌝ }
@@ -157,7 +159,7 @@ pub fn put_number(file: &mut [u8], at: usize, width: usize, v: u64) -> usize
     at + width
 }
 
-// Lays numbers of 2 bytes down from `at` on, and answers where they end. So do the next two, with 4 and 8.
+// Lays numbers of 2 bytes down from `at` on, and answers where they end.
 pub fn write_indices(file: &mut [u8], at: usize, src: &[Index]) -> usize
     requires { ⌜ at + 2 * length (now src) ≤ room (now file) ⌝ }
     ensures { λ r. ⌜ (r ≡ at + 2 * length (now (src .entry))) × (payloads (now (file .exit)) r ≡ payloads (now (file .entry)) at ++ fields 2 (now (src .entry))) ⌝ }
@@ -171,6 +173,7 @@ pub fn write_indices(file: &mut [u8], at: usize, src: &[Index]) -> usize
     p
 }
 
+// Lays numbers of 4 bytes down from `at` on, and answers where they end.
 pub fn write_u32s(file: &mut [u8], at: usize, src: &[u32]) -> usize
     requires { ⌜ at + 4 * length (now src) ≤ room (now file) ⌝ }
     ensures { λ r. ⌜ (r ≡ at + 4 * length (now (src .entry))) × (payloads (now (file .exit)) r ≡ payloads (now (file .entry)) at ++ fields 4 (now (src .entry))) ⌝ }
@@ -184,6 +187,7 @@ pub fn write_u32s(file: &mut [u8], at: usize, src: &[u32]) -> usize
     p
 }
 
+// Lays floats of 8 bytes down from `at` on, and answers where they end.
 pub fn write_f64s(file: &mut [u8], at: usize, src: &[f64]) -> usize
     requires { ⌜ at + 8 * length (now src) ≤ room (now file) ⌝ }
     ensures { λ r. ⌜ (r ≡ at + 8 * length (now (src .entry))) × (payloads (now (file .exit)) r ≡ payloads (now (file .entry)) at ++ fields 8 (bitsOf (now (src .entry)))) ⌝ }
@@ -197,7 +201,7 @@ pub fn write_f64s(file: &mut [u8], at: usize, src: &[f64]) -> usize
     p
 }
 
-// Zeros from payload byte `from` to the last block's end.
+// Writes zeros from payload byte `from` to the last block's end.
 pub fn put_zeros(file: &mut [u8], from: usize)
     requires { ⌜ from ≤ room (now file) ⌝ }
     ensures { λ _. ⌜ payloads (now (file .exit)) (room (now (file .entry))) ≡ padded 0 (room (now (file .entry))) (payloads (now (file .entry)) from) ⌝ }

@@ -3,4 +3,3 @@ pub mod Walks
 pub mod RowRule
 pub mod ListLaws
 pub mod Prune
-pub mod Chain

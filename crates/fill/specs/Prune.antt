@@ -1,6 +1,6 @@
--- Symmetric pruning: a row k merges T(i) only as far as the first place p below k with (i, p) and (p, i) filled.
-use mathlib.Core.Path.{_≡_, refl, sym, _∙_}
-use mathlib.Core.Bool.{Bool, true, false, _&&_, _||_, false≢true}
+-- Symmetric pruning: a row k merges T(i) only as far as some place p below k with (i, p) and (p, i) filled.
+use mathlib.Core.Path.{_≡_}
+use mathlib.Core.Bool.{Bool, true, _&&_, _||_}
 use mathlib.Core.Logic.{_⊎_, inl, inr}
 use Prim.Native.Nat.{ℕ, zero, suc, _+_, _-_, _≤_, _<_, min}
 use native.Mathlib.Omega.{arith}
@@ -8,8 +8,8 @@ use native.Mathlib.Decide.{decLt}
 use lib.Dec.{ltb}
 use borrow.Author.Tests.{lt-ltb, ltb-true}
 use Rattle.fill.specs.Fill.{Pattern, filled, upper}
-use Rattle.base.specs.Tests.{or-cases, or-right, and-cases, true-ext, by-test}
-use Rattle.fill.specs.RowRule.{someBelow, some→, →some, merged, merged-filled, filled-cases, filled-stored, filled-through}
+use Rattle.base.specs.Tests.{or-cases, or-right, and-cases, true-ext}
+use Rattle.fill.specs.RowRule.{filled-cases, filled-stored, filled-through}
 
 module _ (stored : Pattern) where
   -- (i, p) and (p, i) are filled, and i < p
@@ -96,55 +96,3 @@ module _ (stored : Pattern) where
       -- The pruned merge gives row k of the fill.
       pub pruned-filled : (j : ℕ) → pruned k k j ≡ filled stored k j
       pruned-filled j = true-ext _ _ (pruned-sub k k j (omega arith)) (λ h. pruned-more k (min k j) k j (omega arith) (pruned-all (suc j) j (omega arith) h))
-
-      -- Before row i's turn the set already agrees with the fill at i: the members met are those of the lower row.
-      pub pruned-member : (i : ℕ) → i < k → pruned k i i ≡ filled stored k i
-      pruned-member i l = let e : min k i ≡ i = omega arith in
-          true-ext _ _ (pruned-sub k i i (omega arith)) (λ h. rw e at (pruned-all (suc i) i (omega arith) h))
-
-      pub pruned-merged : (j : ℕ) → pruned k k j ≡ merged stored k k j
-      pruned-merged j = pruned-filled j ∙ sym (merged-filled stored k j)
-
-  -- ---- the cut at the first such place
-
-  unfoldable pub pair : ℕ → ℕ → Bool
-  pair i p = upper stored i p && filled stored p i
-
-  -- At row k, j is past the first place p of T(i) with i < p < k and (i, p), (p, i) filled.
-  unfoldable pub past : ℕ → ℕ → ℕ → Bool
-  past k i j = someBelow (min k j) (pair i)
-
-  abbrev nots : Bool → Bool
-  nots true = false
-  nots false = true
-
-  unfoldable pub firstPart : ℕ → ℕ → ℕ → Bool
-  firstPart k i j = nots (past k i j)
-
-  pair→ : (i p : ℕ) → pair i p ≡ true → Pair i p
-  unfolding pair upper
-  pair→ i p h =
-      let a = and-cases (ltb i p && filled stored i p) (filled stored p i) h in
-      let b = and-cases (ltb i p) (filled stored i p) (a .0) in
-      record { after = ltb-true i p (b .0); right = b .1; left = a .1 }
-
-  -- The least place below m that passes, or none.
-  first : (test : ℕ → Bool) (m : ℕ) → (someBelow m test ≡ false) ⊎ ((p : ℕ) × (p < m) × (test p ≡ true) × (someBelow p test ≡ false))
-  unfolding someBelow
-  first test zero = inl refl
-  first test (suc m) = elim (first test m) [
-    | inr r ↦ inr (r .0, omega arith, r .2, r .3)
-    | inl a ↦ by-test (test m) (λ h. inr (m, omega arith, h, a)) (λ h. inl (rw (a, h)))
-  ]
-
-  some-less : (test : ℕ → Bool) (m m′ : ℕ) → m ≤ m′ → someBelow m′ test ≡ false → someBelow m test ≡ false
-  some-less test m m′ l h = by-test (someBelow m test)
-      (λ a. let r = some→ m test a in absurd (false≢true (sym h ∙ →some m′ test (r .0) (omega arith) (r .2))))
-      (λ a. a)
-
-  first-cut : (k i : ℕ) → Cut k i (firstPart k i)
-  unfolding firstPart past
-  first-cut k i = elim (first (pair i) k) [
-    | inl a ↦ entire (λ j h. rw (some-less (pair i) (min k j) k (omega arith) a))
-    | inr r ↦ short (r .0) (r .1) (pair→ i (r .0) (r .2)) (λ j l h. rw (some-less (pair i) (min k j) (r .0) (omega arith) (r .3)))
-  ]

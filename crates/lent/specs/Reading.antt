@@ -20,6 +20,10 @@ pub record ListIn (starts runs : List ℕ) (slots i : ℕ) : Type 0 where
 abbrev pub Below : ℕ → List ℕ → Type 0
 Below n l = (p : ℕ) → p < length l → getD l p 0 < n
 
+-- no number stands twice in the list
+pub record Distinct (l : List ℕ) : Type 0 where
+  pub apart : (p q : ℕ) → p < q → q < length l → getD l p 0 ≡ getD l q 0 → ⊥
+
 -- ---- orders
 
 -- "Row order r: place k takes own row r(k)": an own number from a place, by an order

@@ -1,16 +1,16 @@
 -- Laws of the parts that are read, and of frames.
 use mathlib.Core.Path.{_≡_, refl, sym, _∙_}
-use mathlib.Core.List.{List, [], _∷_}
+use mathlib.Core.List.{List, [], _∷_, map}
 use Prim.Native.Nat.{ℕ, zero, suc, _+_, _-_, _<_, _≤_}
 use native.Mathlib.Omega.{arith}
 use native.Mathlib.Decide.{ℕ-discrete}
 use lib.ListN.{length, getD, take, drop, set, length-set, length-map, length-take, length-drop}
-use lib.Seq.{getD-set-other, getD-set-same, getD-take, getD-drop, ext-getD, length-take-le}
+use lib.Seq.{getD-set-other, getD-set-same, getD-take, getD-drop, ext-getD, length-take-le, take-all}
 use Rattle.base.specs.Lists.{listAt}
 use Rattle.base.specs.Scratch.{blocksFrom}
 use Rattle.base.specs.declared.OwnNumber.{OwnNumber}
 use Rattle.base.specs.declared.Place.{Place}
-use Rattle.lent.specs.Reading.{ListIn, placeAt, orderOf, placed, Outside}
+use Rattle.lent.specs.Reading.{ListIn, Below, placeAt, orderOf, placed, Outside}
 
 -- ---- lists and orders
 
@@ -24,6 +24,17 @@ pub list-length : {A : Type 0} (starts runs : List ℕ) (store : List A) (i : �
     → length (listAt starts runs store i) ≡ getD starts (i + 1) 0 - getD starts i 0
 unfolding listAt
 list-length starts runs store i h = length-take-le _ (drop (getD runs i 0) store) (omega (arith, length-drop (getD runs i 0) store, h .inside))
+
+-- a part from a on is the rest
+pub take-rest : {A : Type 0} (a : ℕ) (l : List A) → take (length l - a) (drop a l) ≡ drop a l
+take-rest a l = take-all (length l - a) (drop a l) (simp length-drop (omega arith))
+
+-- a list's numbers are below n where all of the store are
+pub list-below : (n : ℕ) (starts runs store : List ℕ) (i : ℕ) → Below n store → Below n (listAt starts runs store i)
+unfolding listAt
+list-below n starts runs store i h p l =
+    let c = rw (length-take, length-drop) at l in
+    rw (getD-take (getD starts (i + 1) 0 - getD starts i 0) (drop (getD runs i 0) store) p 0 (omega arith), getD-drop) (h (getD runs i 0 + p) (omega arith))
 
 -- the list of the own row that the order gives
 pub own-in : {starts : List ℕ} {slots j : ℕ} {i : OwnNumber} → _≡_ {A = OwnNumber} i (record { 0 = j }) → ListIn starts starts slots j → ListIn starts starts slots (i .0)
@@ -45,6 +56,12 @@ unfolding placed
 placed-at ic [] q h = absurd (omega arith)
 placed-at ic (c ∷ l) zero h = refl
 placed-at ic (c ∷ l) (suc q) h = placed-at ic l q (omega arith)
+
+-- by an inverse that is f, whatever stands from n on
+pub placed-is : (ic l : List ℕ) (n : ℕ) (f : ℕ → ℕ) → ((j : ℕ) → j < n → getD ic j 0 ≡ f j) → Below n l → placed ic l ≡ map f l
+unfolding placed
+placed-is ic [] n f e b = refl
+placed-is ic (c ∷ l) n f e b = rw (e c (b 0 (omega arith)), placed-is ic l n f e (λ p h. b (suc p) (omega arith)))
 
 -- ---- frames
 

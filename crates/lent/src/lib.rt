@@ -14,7 +14,7 @@ use base::scratch;
 
 // ---- lists
 
-// List i of an index store.
+// Hands back list i of an index store.
 pub fn list_at<'a>(starts: &[u32], runs: &[u32], index: &'a [Index], i: usize) -> &'a [Index]
     requires { ⌜ ListIn (now starts) (now runs) (length (now index)) i ⌝ }
     ensures { λ list. ⌜ now list ≡ listAt (now (starts .entry)) (now (runs .entry)) (now (index .entry)) i ⌝ }
@@ -26,7 +26,7 @@ pub fn list_at<'a>(starts: &[u32], runs: &[u32], index: &'a [Index], i: usize) -
     &index[a..e]
 }
 
-// The values along list i, which stand one list after another.
+// Hands back the values along list i, which stand one list after another.
 pub fn values_at<'a>(starts: &[u32], values: &'a [f64], i: usize) -> &'a [f64]
     requires { ⌜ ListIn (now starts) (now starts) (length (now values)) i ⌝ }
     ensures { λ list. ⌜ now list ≡ rowOf (now (starts .entry)) (now (values .entry)) i ⌝ }
@@ -38,7 +38,7 @@ pub fn values_at<'a>(starts: &[u32], values: &'a [f64], i: usize) -> &'a [f64]
 
 // ---- orders
 
-// The own row at a place, by the row order.
+// Gives the own row at a place, by the row order.
 pub fn own_row(r: &[Index], k: Place) -> OwnNumber
     requires { ⌜ k .0 < length (now r) ⌝ }
     ensures { λ i. ⌜ i ≡ ownAt (now (r .entry)) k ⌝ }
@@ -47,7 +47,7 @@ pub fn own_row(r: &[Index], k: Place) -> OwnNumber
     OwnNumber(base::number(r[at]))
 }
 
-// The place of an own column, by the inverse column order in scratch.
+// Gives the place of an own column, by the inverse column order in scratch.
 pub fn place_of(n: usize, marks: &[u32], j: OwnNumber) -> Place
     requires { ⌜ (j .0 < n) × (n ≤ maxRows) × (blocksFrom n ≤ length (now marks)) ⌝ }
     ensures { λ k. ⌜ k ≡ placeAt (orderOf n (now (marks .entry))) j ⌝ }
@@ -58,7 +58,7 @@ pub fn place_of(n: usize, marks: &[u32], j: OwnNumber) -> Place
 
 // ---- own rows
 
-// The own columns of an own row, as stored.
+// Hands back the own columns of an own row, as stored.
 pub fn row_columns<'a>(starts: &[u32], columns: &'a [Index], i: OwnNumber) -> &'a [Index]
     requires { ⌜ ListIn (now starts) (now starts) (length (now columns)) (i .0) ⌝ }
     ensures { λ row. ⌜ now row ≡ rowOf (now (starts .entry)) (now (columns .entry)) (i .0) ⌝ }
@@ -66,7 +66,7 @@ pub fn row_columns<'a>(starts: &[u32], columns: &'a [Index], i: OwnNumber) -> &'
     list_at(starts, starts, columns, i.0 as usize)
 }
 
-// The values of an own row, as stored.
+// Hands back the values of an own row, as stored.
 pub fn row_values<'a>(starts: &[u32], values: &'a [f64], i: OwnNumber) -> &'a [f64]
     requires { ⌜ ListIn (now starts) (now starts) (length (now values)) (i .0) ⌝ }
     ensures { λ row. ⌜ now row ≡ rowOf (now (starts .entry)) (now (values .entry)) (i .0) ⌝ }
@@ -74,7 +74,7 @@ pub fn row_values<'a>(starts: &[u32], values: &'a [f64], i: OwnNumber) -> &'a [f
     values_at(starts, values, i.0 as usize)
 }
 
-// The right side's value in an own row.
+// Gives the right side's value in an own row.
 pub fn row_right(b: &[f64], i: OwnNumber) -> f64
     requires { ⌜ i .0 < length (now b) ⌝ }
     ensures { λ v. ⌜ v ≡ getD (now (b .entry)) (i .0) nan ⌝ }

@@ -40,7 +40,8 @@ use Rattle.outcome.specs.Structure.{fits, askPlaces, sidePlaced, structured, st
 use Rattle.outcome.specs.Solve.{listed, faultOf, valuesKept, kept, concluded, shape, solve}
 use Rattle.outcome.specs.Placed.{RunsAre, PlacedSide, lists-kept, starts-long, size-at, run-inside, list-at}
 use Rattle.outcome.specs.Resolve.{runsOf}
-use Rattle.outcome.proofs.Asking.{then-pass, holds-pass, number-some}
+use Rattle.base.specs.FirstLaws.{both-pass, holds-pass}
+use Rattle.outcome.proofs.Asking.{number-some}
 use Rattle.outcome.proofs.Places.{places-pass}
 use Rattle.lookup.specs.Lookup.{runStarts, sized, bothFit, spanOf, within, spanIn, lookup}
 use Rattle.lookup.specs.LookupLaws.{part-is}
@@ -138,7 +139,7 @@ module _ (f : Form) (v : leaves f ≡ true) (i : Input) (z : Sizes) (t : Buffers
       → (lv uv : List Float) → t .lower ≡ sidePlaced f Lower (stored i) (i .n) (z .lower) lv → t .upper ≡ sidePlaced f Upper (stored i) (i .n) (z .upper) uv → Handed f i t
   unfolding askShape
   settled before own more o a b lv uv el eu =
-      let p = then-pass (holds (rowsWithin (i .n)) Rows) (holds (all (before ++ own)) Lengths) a in
+      let p = both-pass (holds (rowsWithin (i .n)) Rows) (holds (all (before ++ own)) Lengths) a in
       let rows = holds-pass (rowsWithin (i .n)) Rows (p .0) in
       let few = index-few f v (i .n) z more (rw o at (past before own (all-true (before ++ own) (holds-pass (all (before ++ own)) Lengths (p .1))))) in
       let some = leb-true 1 (i .n) (and-cases (leb 1 (i .n)) _ rows .0) in

@@ -11,6 +11,7 @@ use Rattle.base.specs.declared.Form.the-variants.{Plain, Shared, ByRow}
 use Rattle.base.specs.declared.Place.{Place}
 use Rattle.base.specs.declared.Side.{Side}
 use Rattle.base.specs.declared.Side.the-variants.{Lower, Upper}
+use Rattle.base.specs.Index.{indexBytes}
 use Rattle.base.specs.Limits.{rowsWithin, maxSlots}
 use Rattle.lookup.specs.declared.Span.{Span}
 
@@ -68,10 +69,6 @@ lookup f side k n l u = within (ofSide side l u .index) (spanIn f side k n l u)
 pub record Inside (s : Span) (slots : ℕ) : Type 0 where
   pub up : s .from ≤ s .to
   pub end : s .to ≤ slots
-
--- the bytes of an index number
-abbrev pub indexBytes : ℕ
-indexBytes = 2
 
 -- the part of a lent store from one slot to before another: what it holds, and where it stands in the store's memory
 pub record PartOf (store : RefT (List ℕ)) (s : Span) (l : RefT (List ℕ)) : Type 0 where

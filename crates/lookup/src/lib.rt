@@ -30,11 +30,11 @@ fn run_starts(form: Form, n: usize) -> usize
     }
 }
 
-// Whether n is within its limits and the lengths of one side are as stated.
+// Tells whether n is within its limits and the lengths of one side are as stated.
 fn side_fits(form: Form, n: usize, starts: &[u32], runs: &[u32], index: &[Index]) -> bool
     ensures { λ b. ⌜ b ≡ sized form n (sideLists (now (starts .entry)) (now (runs .entry)) (now (index .entry))) ⌝ }
 {
-    if (1 <= n) & (n <= Matrix::MAX_ROWS) {
+    if Matrix::rows_within(n) {
         return (starts.len() == n + 1)
             & (runs.len() == run_starts(form, n))
             & (index.len() <= Matrix::MAX_SLOTS);
@@ -113,7 +113,7 @@ fn part<'a>(side: Side, s: Span, lower: &'a [Index], upper: &'a [Index]) -> &'a 
     }
 }
 
-// Where the list of a side at a place stands in that side's index store, in the plain form: the runs start where the lists do.
+// Tells where the list of a side at a place stands in that side's index store, in the plain form: the runs start where the lists do.
 pub fn span_plain(
     side: Side,
     k: Place,
@@ -139,7 +139,7 @@ pub fn span_plain(
     )
 }
 
-// The same in the shared form.
+// Tells the same in the shared form.
 pub fn span_shared(
     side: Side,
     k: Place,
@@ -167,7 +167,7 @@ pub fn span_shared(
     )
 }
 
-// The list of a side at a place in the plain form: what it holds, and where it stands in its store.
+// Hands back the list of a side at a place in the plain form, as the part of its store that holds it.
 pub fn list_plain<'a>(
     side: Side,
     k: Place,
@@ -192,7 +192,7 @@ pub fn list_plain<'a>(
     part(side, s, lower_index, upper_index)
 }
 
-// The same in the shared form.
+// Hands back the same in the shared form.
 pub fn list_shared<'a>(
     side: Side,
     k: Place,

@@ -113,7 +113,7 @@ fn gather(marks: &mut [u32], n: usize, stamp: u32, from: usize, end: usize, at: 
     count
 }
 
-// The place of entry q of a row.
+// Gives the place of entry q of a row.
 pub fn entry_place(marks: &[u32], n: usize, cols: &[Index], q: usize) -> usize
     requires { ⌜ (q < length (now cols)) × (getD (now cols) q 0 < n) × Room n (now marks) ⌝ }
     ensures { λ j. ⌜ j ≡ getD (placed (orderOf n (now (marks .entry))) (now (cols .entry))) q 0 ⌝ }
@@ -342,7 +342,7 @@ pub fn close_place(
     merge_lower(marks, n, stamp, end, cuts, runs, index)
 }
 
-// Whether (k, k) is filled, by the marks of place k.
+// Tells whether (k, k) is filled, by the marks of place k.
 pub fn has_diagonal(marks: &[u32], stamp: u32, k: Place) -> bool
     requires { ⌜ k .0 < length (now marks) ⌝ }
     ensures { λ r. ⌜ r ≡ marked stamp (now (marks .entry)) (k .0) ⌝ }
@@ -362,7 +362,7 @@ pub fn list_upper(marks: &mut [u32], n: usize, stamp: u32, k: Place, below: usiz
     gather(marks, n, stamp, i + 1, n, scratch::LIST * n + below)
 }
 
-// The cuts for place k + 1, once T(k) is in the store. The members below k, `below` of them, stand in the list region.
+// Makes the cuts for place k + 1, once T(k) is in the store. The members below k, `below` of them, stand in the list region.
 pub fn renew_cuts(
     marks: &mut [u32],
     n: usize,
@@ -394,7 +394,7 @@ fn entries_of(starts: &[u32], i: usize) -> u64
     (hi - lo) as u64
 }
 
-// The products of row k: the entries of T(i) for each i of its lower row, taken together.
+// Counts the products of row k: the entries of T(i) for each i of its lower row, taken together.
 pub fn row_products(list: &[u32], starts: &[u32]) -> u64
     requires { ⌜ Countable (now list) (now starts) ⌝ }
     ensures { λ r. ⌜ r ≡ total (map (lengthIn (now (starts .entry))) (now (list .entry))) ⌝ }

@@ -1,6 +1,6 @@
 -- Orders: their entries are below n, no number stands twice, every number below n stands at its place.
 use mathlib.Core.Path.{_≡_, refl, ap}
-use mathlib.Core.Bool.{true, false, cond, true≢false}
+use mathlib.Core.Bool.{false, cond}
 use mathlib.Core.List.{List}
 use Prim.Native.Nat.{ℕ, zero, suc, _-_, _≤_, _<_}
 use native.Mathlib.Omega.{arith}
@@ -11,7 +11,7 @@ use lib.Dec.{leb, ltb}
 use mathlib.Core.Logic.{_≢_}
 use borrow.Author.Tests.{leb-false, lt-ltb, le-ltb, eq-eqb, eqb-true, eqb-false}
 use Rattle.base.specs.First.{first, isAt}
-use Rattle.base.specs.FirstLaws.{first-at, first-found, first-none}
+use Rattle.base.specs.FirstLaws.{first-at, first-found, first-none, isAt-none}
 use Rattle.base.specs.Tests.{or-false}
 use Rattle.matrix.specs.Input.{isOf, indexOf, ic}
 use Rattle.matrix.specs.Questions.{badIndex, IsOrder}
@@ -27,10 +27,6 @@ order-below o n h k l = leb-false n (getD o k 0) (or-false _ _ (first-none (badI
 pub order-fresh : (o : List ℕ) (n : ℕ) → IsOrder o n → (k : ℕ) → k < n → isAt (first (isOf o (getD o k 0)) k) ≡ false
 unfolding IsOrder badIndex
 order-fresh o n h k l = or-false (leb n (getD o k 0)) _ (first-none (badIndex o n) n h k l) .1
-
-isAt-none : (f : Found) → isAt f ≡ false → f ≡ Nothing
-isAt-none (At k) e = absurd (true≢false e)
-isAt-none Nothing e = refl
 
 module _ (o : List ℕ) (n : ℕ) (order : IsOrder o n) where
   before : (k : ℕ) → k < n → first (isOf o (getD o k 0)) k ≡ Nothing

@@ -29,14 +29,14 @@ impl Matrix {
     // The greatest number of slots of a store.
     pub const MAX_SLOTS: usize = 1048576;
 
-    // Question 1: whether n is within its limits.
+    // Asks 1: tells whether n is within its limits.
     pub fn rows_within(n: usize) -> bool
         ensures { λ b. ⌜ b ≡ rowsWithin n ⌝ }
     {
         (1 <= n) & (n <= Self::MAX_ROWS)
     }
 
-    // The shape of n rows and e entries: refusal 1 for n, 2 for e.
+    // Makes the shape of n rows and e entries: refusal 1 for n, 2 for e.
     pub fn new(n: usize, e: usize) -> Shaped
         ensures { λ r. ⌜ r ≡ shapeOf n e ⌝ }
     {
@@ -52,7 +52,7 @@ impl Matrix {
         Shaped::Unshaped(Refusal::Rows)
     }
 
-    // The constants are those that the definitions name.
+    // Gives the constants, which are those that the definitions name.
     pub fn limits() -> Limits
         ensures { λ r. ⌜ (r .0 ≡ maxRows) × (r .1 ≡ maxEntries) × (r .2 ≡ maxSlots) ⌝ }
     {

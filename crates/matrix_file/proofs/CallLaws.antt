@@ -4,12 +4,13 @@ use mathlib.Core.Bool.{Bool, true, false, not, _&&_}
 use mathlib.Core.List.{List, [], _∷_, _++_, append-nil, append-assoc}
 use Prim.Native.Nat.{ℕ, _+_, _*_, _/_, _<_, _≤_}
 use native.Mathlib.Omega.{arith}
-use borrow.Author.Tests.{eqb-true, leb-true, le-leb, lt-leb}
+use borrow.Author.Tests.{eqb-true, leb-true, le-leb, lt-leb, not-true, not-false}
 use lib.Dec.{eqb, leb}
 use lib.ListN.{length}
 use lib.Ieee.{Float}
 use Rattle.base.specs.Lists.{table}
-use Rattle.base.specs.Tests.{and-cases, not-true, not-false}
+use Rattle.base.specs.Tests.{and-cases}
+use Rattle.base.specs.FirstLaws.{both-pass, holds-pass}
 use Rattle.base.specs.Answers.{holds, andThen}
 use Rattle.base.specs.declared.Asked.{Asked}
 use Rattle.base.specs.declared.Asked.the-variants.{Pass, Stop}
@@ -26,14 +27,14 @@ use Rattle.fields.specs.Payload.{room, payloads, fieldsAt, floatsAt}
 use Rattle.fields.proofs.PartLaws.{stream-append}
 use Rattle.blocks.specs.Blocks.{blocksFor, fileOf, endsAt, askBlocks}
 use Rattle.blocks.proofs.FileLaws.{asked-whole}
-use Rattle.blocks.proofs.AskLaws.{then-no, then-first, then-second, holds-true}
+use Rattle.blocks.proofs.AskLaws.{then-no}
 use Rattle.matrix_file.specs.MatrixFile.{matrixParts, orderParts, written, sizeOf, fileLength, nOf, eOf, shapeIn, MatrixLists, matrixLists, listsAt, matrixAt, fitsShape, askHead, askFile, shaped, opened, lengthsRight, listsRight, askRead, askLengths, askWrite, left, readOutcome, writeOutcome}
 
 pub rows-range : (n : ℕ) → rowsWithin n ≡ true → (1 ≤ n) × (n ≤ maxRows)
 rows-range n t = let a = and-cases (leb 1 n) (leb n maxRows) t in (leb-true 1 n (a .0), leb-true n maxRows (a .1))
 
 pub range-of : (n : ℕ) (r : Bool) → r ≡ rowsWithin n → not r ≡ false → n ≤ maxRows
-range-of n r e f = rows-range n (sym e ∙ not-true r f) .1
+range-of n r e f = rows-range n (sym e ∙ not-false r f) .1
 
 -- 512 bytes hold n and e
 pub head-room : (file : List ℕ) (a : Asked) → a ≡ askBlocks file → a ≡ Pass → 8 ≤ room file
@@ -110,12 +111,12 @@ unfolding askFile askHead
 fitting file p =
     let n = nOf file in
     let e = eOf file in
-    let head = then-second (askBlocks file) (askHead file (nOf file) (eOf file)) p in
-    let rows = rows-range (nOf file) (holds-true (rowsWithin (nOf file)) Rows (then-first (holds (rowsWithin (nOf file)) Rows) (holds (fitsShape file (nOf file) (eOf file)) FileShape) head)) in
+    let head = both-pass (askBlocks file) (askHead file (nOf file) (eOf file)) p .1 in
+    let rows = rows-range (nOf file) (holds-pass (rowsWithin (nOf file)) Rows (both-pass (holds (rowsWithin (nOf file)) Rows) (holds (fitsShape file (nOf file) (eOf file)) FileShape) head .0)) in
     let fits = and-cases (leb (eOf file) maxEntries) (endsAt file (sizeOf (nOf file) (eOf file)))
-    (holds-true (fitsShape file (nOf file) (eOf file)) FileShape (then-second (holds (rowsWithin (nOf file)) Rows) (holds (fitsShape file (nOf file) (eOf file)) FileShape) head)) in
+    (holds-pass (fitsShape file (nOf file) (eOf file)) FileShape (both-pass (holds (rowsWithin (nOf file)) Rows) (holds (fitsShape file (nOf file) (eOf file)) FileShape) head .1)) in
     record {
-      asked = then-first (askBlocks file) (askHead file (nOf file) (eOf file)) p;
+      asked = both-pass (askBlocks file) (askHead file (nOf file) (eOf file)) p .0;
       n-some = rows .0;
       n-most = rows .1;
       e-most = leb-true (eOf file) maxEntries (fits .0);
@@ -143,10 +144,10 @@ module _ (file : List ℕ) (l : MatrixLists) (f : Shaped) (o : f ≡ opened file
 
     pub read-lengths : not x ≡ true → left (Refused Lengths) l ≡ readOutcome file l
     unfolding readOutcome askRead
-    read-lengths n = rw (passed .0, right-is, not-false x n)
+    read-lengths n = rw (passed .0, right-is, not-true x n)
 
     long-are : not x ≡ false → Long (nOf file) (eOf file) (length (l .starts)) (length (l .columns)) (length (l .values)) (length (l .r)) (length (l .c)) (length (l .b))
-    long-are n = long-lists (nOf file) (eOf file) _ _ _ _ _ _ (right-is ∙ not-true x n)
+    long-are n = long-lists (nOf file) (eOf file) _ _ _ _ _ _ (right-is ∙ not-false x n)
 
     pub read-room : not x ≡ false → 8 + 4 * length (l .starts) + 2 * length (l .columns) + 8 * length (l .values) + 2 * length (l .r) + 2 * length (l .c) + 8 * length (l .b) ≤ room file
     read-room n = let g = long-are n in let h = fitting file (passed .0) in omega arith
@@ -157,7 +158,7 @@ module _ (file : List ℕ) (l : MatrixLists) (f : Shaped) (o : f ≡ opened file
     unfolding readOutcome askRead matrixAt
     read-done l′ n e =
         let g = long-are n in
-        rw (passed .0, right-is, not-true x n)
+        rw (passed .0, right-is, not-false x n)
         (ap (λ (y : MatrixLists). left Done y) (e ∙ rw (g .starts-long, g .columns-long, g .values-long, g .r-long, g .c-long, g .b-long)))
 
 -- ---- writing
@@ -170,16 +171,16 @@ module _ (n e s v r c b len : ℕ) (x : Bool) (ex : x ≡ rowsWithin n) where
   module _ (p : not x ≡ false) where
     pub ask-18 : maxEntries < e → Stop FileShape ≡ askLengths n e s v r c b len
     unfolding askLengths
-    ask-18 l = rw (← ex, not-true x p, lt-leb e maxEntries l)
+    ask-18 l = rw (← ex, not-false x p, lt-leb e maxEntries l)
 
     module _ (l : e ≤ maxEntries) (y : Bool) (ey : y ≡ lengthsRight n e s e v r c b) where
       pub ask-2 : not (y && eqb len (fileLength n e)) ≡ true → Stop Lengths ≡ askLengths n e s v r c b len
       unfolding askLengths
-      ask-2 q = rw (← ex, not-true x p, le-leb e maxEntries l, ← ey, not-false (y && eqb len (fileLength n e)) q)
+      ask-2 q = rw (← ex, not-false x p, le-leb e maxEntries l, ← ey, not-true (y && eqb len (fileLength n e)) q)
 
       pub ask-pass : not (y && eqb len (fileLength n e)) ≡ false → Pass ≡ askLengths n e s v r c b len
       unfolding askLengths
-      ask-pass q = rw (← ex, not-true x p, le-leb e maxEntries l, ← ey, not-true (y && eqb len (fileLength n e)) q)
+      ask-pass q = rw (← ex, not-false x p, le-leb e maxEntries l, ← ey, not-false (y && eqb len (fileLength n e)) q)
 
 module _ (i : Input) (len : ℕ) (p : askWrite i len ≡ Pass) where
   abbrev e : ℕ
@@ -190,18 +191,18 @@ module _ (i : Input) (len : ℕ) (p : askWrite i len ≡ Pass) where
 
   rest : andThen (holds (leb e maxEntries) FileShape) (holds test Lengths) ≡ Pass
   unfolding askWrite askLengths
-  rest = then-second (holds (rowsWithin (i .n)) Rows) (andThen (holds (leb e maxEntries) FileShape) (holds test Lengths)) p
+  rest = both-pass (holds (rowsWithin (i .n)) Rows) (andThen (holds (leb e maxEntries) FileShape) (holds test Lengths)) p .1
 
   pub n-range : (1 ≤ i .n) × (i .n ≤ maxRows)
   unfolding askWrite askLengths
-  n-range = rows-range (i .n) (holds-true (rowsWithin (i .n)) Rows (then-first (holds (rowsWithin (i .n)) Rows) (andThen (holds (leb e maxEntries) FileShape) (holds test Lengths)) p))
+  n-range = rows-range (i .n) (holds-pass (rowsWithin (i .n)) Rows (both-pass (holds (rowsWithin (i .n)) Rows) (andThen (holds (leb e maxEntries) FileShape) (holds test Lengths)) p .0))
 
   pub e-most : e ≤ maxEntries
-  e-most = leb-true e maxEntries (holds-true (leb e maxEntries) FileShape (then-first (holds (leb e maxEntries) FileShape) (holds test Lengths) rest))
+  e-most = leb-true e maxEntries (holds-pass (leb e maxEntries) FileShape (both-pass (holds (leb e maxEntries) FileShape) (holds test Lengths) rest .0))
 
   both : (lengthsRight (i .n) e (length (i .starts)) e (length (i .values)) (length (i .r)) (length (i .c)) (length (i .b)) ≡ true) × (eqb len (fileLength (i .n) e) ≡ true)
   both = and-cases (lengthsRight (i .n) e (length (i .starts)) e (length (i .values)) (length (i .r)) (length (i .c)) (length (i .b))) (eqb len (fileLength (i .n) e))
-      (holds-true test Lengths (then-second (holds (leb e maxEntries) FileShape) (holds test Lengths) rest))
+      (holds-pass test Lengths (both-pass (holds (leb e maxEntries) FileShape) (holds test Lengths) rest .1))
 
   pub written-long : Long (i .n) e (length (i .starts)) e (length (i .values)) (length (i .r)) (length (i .c)) (length (i .b))
   written-long = long-lists (i .n) e _ _ _ _ _ _ (both .0)

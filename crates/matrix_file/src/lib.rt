@@ -22,6 +22,7 @@ pub struct Sizes {
     pub e: u64,
 }
 
+// Reads the two numbers that the file begins with.
 pub fn sizes_of(file: &[u8]) -> Sizes
     requires { ⌜ 8 ≤ room (now file) ⌝ }
     ensures { λ s. ⌜ (s .n ≡ nOf (now (file .entry))) × (s .e ≡ eOf (now (file .entry))) ⌝ }
@@ -75,7 +76,7 @@ fn head_shape(file: &[u8]) -> Shaped
     }
 }
 
-// The shape of the matrix in a file: questions 16, 17, 1 and 18.
+// Gives the shape of the matrix in a file: questions 16, 17, 1 and 18.
 pub fn matrix_file_shape(file: &[u8]) -> Shaped
     ensures { λ r. ⌜ r ≡ opened (now (file .entry)) ⌝ }
 {

@@ -7,19 +7,20 @@ use native.Mathlib.Nat.{add-assoc}
 use native.Mathlib.Numerals.{add-one}
 use native.Mathlib.Omega.{arith}
 use lib.ListN.{length, getD, set, take, drop, drop-of-length-le, length-drop, length-set}
-use lib.Seq.{sets, drop-cons, length-take-le, drop-at, take-at, take-all, getD-take, getD-drop, getD-set-other, drop-set-add}
+use lib.Seq.{sets, drop-cons, length-take-le, drop-at, take-at, getD-take, getD-drop, getD-set-other, drop-set-add}
 use lib.Ieee.{Float, nan, binary64, sub, mul}
 use lib.Ieee.Scale.{finite}
 use Rattle.base.specs.Lists.{listAt, rowOf, pairs, nought}
 use Rattle.base.specs.declared.RowSums.{RowSums}
 use Rattle.base.specs.declared.Place.{Place}
-use Rattle.lent.specs.Reading.{Below, placeAt}
+use Rattle.lent.specs.Reading.{Below, placeAt, placed}
+use Rattle.lent.specs.ReadingLaws.{take-rest}
 use Rattle.arithmetic.specs.Arith.{ok, met, overflow, Given, Work}
 use Rattle.arithmetic.specs.Stopping.{any, load, subtract, steps, rest, back}
 use Rattle.arithmetic.specs.RowEnd.{finiteOn, finiteAll, products}
 use Rattle.arithmetic.specs.Sticky.{step-any, rest-at}
 use Rattle.numeric.specs.Rows.{Shut}
-use Rattle.numeric.specs.Stores.{Ascending, storeGiven, placesOf, work, Stepped, gathered, zeroed, Columns, columns, keepColumns}
+use Rattle.numeric.specs.Stores.{Ascending, storeGiven, work, Stepped, gathered, zeroed, Columns, columns, keepColumns}
 use Rattle.base.specs.Scratch.{zFrom}
 
 -- ---- step 1
@@ -29,13 +30,13 @@ place-is k order x y e h = rw (e, h)
 
 module _ (ic columns : List ℕ) (vs w : List Float) (p : ℕ) where
   pub load-turn : (j : ℕ) → j ≡ getD ic (getD columns p 0) 0 → p < length columns → p < length vs
-      → load any (pairs (placesOf ic (drop (p + 1) columns)) (drop (p + 1) vs)) (set w j (getD vs p nan))
-      ≡ load any (pairs (placesOf ic (drop p columns)) (drop p vs)) w
-  unfolding load pairs placesOf
+      → load any (pairs (placed ic (drop (p + 1) columns)) (drop (p + 1) vs)) (set w j (getD vs p nan))
+      ≡ load any (pairs (placed ic (drop p columns)) (drop p vs)) w
+  unfolding load pairs placed
   load-turn j e h g = rw (e, add-one, drop-cons columns p 0, drop-cons vs p nan)
 
-  pub load-end : length columns ≤ p → load any (pairs (placesOf ic (drop p columns)) (drop p vs)) w ≡ ok w
-  unfolding load pairs placesOf
+  pub load-end : length columns ≤ p → load any (pairs (placed ic (drop p columns)) (drop p vs)) w ≡ ok w
+  unfolding load pairs placed
   load-end h = rw (drop-of-length-le columns h)
 
 -- ---- step 2
@@ -187,12 +188,8 @@ module _ (js : List ℕ) (us z : List Float) where
   unfolding rest
   rest-end t p h = rw (drop-of-length-le js h)
 
--- what is left of a slice past m slots, as a part of it
-pub tail-is : (f : List Float) (m : ℕ) → take (length f - m) (drop m f) ≡ drop m f
-tail-is f m = take-all (length f - m) (drop m f) (simp length-drop (omega arith))
-
 pub tail-length : (f : List Float) (n : ℕ) → length f ≡ 3 * n → length (take (length f - (zFrom n)) (drop (zFrom n) f)) ≡ n
-tail-length f n h = rw (tail-is f (zFrom n)) (simp length-drop (omega arith))
+tail-length f n h = rw (take-rest (zFrom n) f) (simp length-drop (omega arith))
 
 pub rest-is : (t r : Float) (js ks : List ℕ) (us vs z x : List Float) → js ≡ ks → us ≡ vs → z ≡ x → rest any t js us z ≡ ok r → rest any t ks vs x ≡ ok r
 rest-is t r js ks us vs z x ej eu ez e = rw (← ej, ← eu, ← ez) e

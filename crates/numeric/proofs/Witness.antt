@@ -12,9 +12,9 @@ use lib.Ieee.{Float, binary64, ofBits}
 use borrow.Author.Tests.{eqb-true}
 use Rattle.base.specs.Lists.{listAt, has, pairs, nought}
 use Rattle.base.specs.Tests.{or-cases}
-use Rattle.lent.specs.Reading.{orderOf}
+use Rattle.lent.specs.Reading.{orderOf, placed}
 use Rattle.arithmetic.specs.Arith.{System}
-use Rattle.numeric.specs.Stores.{StoreShape, Reducible, Closable, placesOf}
+use Rattle.numeric.specs.Stores.{StoreShape, Reducible, Closable}
 use Rattle.numeric.specs.Rows.{Closed, RowLent, RowsHeld}
 use Rattle.numeric.specs.PassLaws.{held-start}
 
@@ -103,8 +103,8 @@ closed = two _
     second : (i j : ℕ) → 0 ≡ i → has (S .upper i) j ≡ true → has (0 ∷ 1 ∷ []) j ≡ true
     second i j e u = rw (← one-of 1 j (rw (← e) at u)) refl
 
-pub lent : (k : ℕ) → k < 2 → RowLent S k (lower k) (placesOf both both) (values k) (right k)
-unfolding has listAt placesOf ofBits
+pub lent : (k : ℕ) → k < 2 → RowLent S k (lower k) (placed both both) (values k) (right k)
+unfolding has listAt placed ofBits
 lent = two _
     (record { entries = refl; right = refl; below = refl; filled = two _ refl refl; sum = refl; fine = two _ refl refl })
     (record { entries = refl; right = refl; below = refl; filled = two _ refl refl; sum = refl; fine = two _ refl refl })

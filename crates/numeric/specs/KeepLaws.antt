@@ -14,10 +14,11 @@ use borrow.Author.Tests.{eqb-true, eq-eqb, ne-eqb}
 use Rattle.base.specs.Lists.{has, count, bit, nought, listAt}
 use Rattle.base.specs.Tests.{by-test, or-right}
 use Rattle.base.specs.AscLaws.{count-suc, count-zero, count-mono}
+use Rattle.base.specs.ZerosLaws.{drop-replicate}
 use Rattle.arithmetic.specs.Arith.{System, Row, none}
 use Rattle.numeric.specs.Stores.{Ascending, gathered, columns, keepColumns}
 use Rattle.numeric.specs.Rows.{Closed, Stacked, lOf, only, beside, columnOf, InColumns, Fitting}
-use Rattle.numeric.specs.StoreLaws.{Rising, rises-to, stacked-more, drop-replicate}
+use Rattle.numeric.specs.StoreLaws.{Rising, rises-to, stacked-more}
 use Rattle.numeric.specs.RowLaws.{asc-head, asc-tail, mem-has}
 
 -- one more row's list of a kind: u, or L by rows
@@ -128,7 +129,7 @@ module _ (S : System) (starts : List ℕ) (r : Rising starts (S .n)) (fit : Fitt
   pub columns-start : (rows : List Row) (cursors : List ℕ) (l : List Float) → ((i : ℕ) → i < S .n → getD cursors i 0 ≡ 0) → l ≡ replicate (length l) nought
       → InColumns (S .n) starts cursors l (columnOf (S .lower) rows 0)
   unfolding columnOf
-  columns-start rows cursors l unused e = record { used = unused; held = λ i g. refl; behind = ap (λ (x : List Float). drop (getD starts (S .n) 0) x) e ∙ drop-replicate (length l) (getD starts (S .n) 0) nought }
+  columns-start rows cursors l unused e = record { used = unused; held = λ i g. refl; behind = ap (λ (x : List Float). drop (getD starts (S .n) 0) x) e ∙ drop-replicate nought (length l) (getD starts (S .n) 0) }
 
   module _ (rows : List Row) (k : ℕ) (lower cursors : List ℕ) (l : List Float) (h : k < S .n) (C : Closed S k) (el : S .lower k ≡ lower) (whole : getD starts (S .n) 0 ≤ length l)
       (lc : S .n ≤ length cursors) (I : InColumns (S .n) starts cursors l (columnOf (S .lower) rows k)) where

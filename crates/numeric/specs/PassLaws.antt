@@ -15,27 +15,25 @@ use Rattle.base.specs.Tests.{by-test}
 use Rattle.base.specs.TableLaws.{getD-map-lt}
 use Rattle.base.specs.declared.RowSums.{RowSums}
 use Rattle.lent.specs.Reading.{Below}
+use Rattle.lent.specs.ReadingLaws.{list-length}
 use Rattle.arithmetic.specs.Arith.{Fault, Out, ok, met, overflow, zeroPivot, one, System, Row, none, Given, given, Work}
 use Rattle.arithmetic.specs.Stopping.{_>>=_, any, at, pivot, load, start, steps, scaled, finish, row, forward, rest, back, solved}
 use Rattle.arithmetic.specs.RowEnd.{products}
-use Rattle.arithmetic.specs.Factors.{bind-ok, ok-inj}
+use Rattle.arithmetic.specs.Factors.{bind-ok}
+use Rattle.arithmetic.specs.Sticky.{ok-inj}
 use Rattle.numeric.specs.declared.Pivot.{Pivot}
 use Rattle.numeric.specs.declared.Pivot.the-variants.{Usable, Zero, Overflow}
 use Rattle.numeric.specs.Stores.{StoreShape, storeGiven, work, Eliminated, Finished, numberedBack, gathered, zeroed}
 use Rattle.numeric.specs.declared.Back.{Back}
 use Rattle.numeric.specs.declared.Back.the-variants.{Complete, Stopped}
 use Rattle.numeric.specs.Rows.{filledRow, Closed, RowLent, Stacked, uOf, RowsHeld, Reduced, Shut, keptRow}
-use Rattle.numeric.specs.StoreLaws.{list-length, sets-part, products-length, stacked-none, zeroed-drop, zeroed-length, zeroed-stays, zeroed-has}
+use Rattle.numeric.specs.StoreLaws.{sets-part, products-length, stacked-none, zeroed-drop, zeroed-length, zeroed-stays, zeroed-has}
 use Rattle.numeric.specs.KeepLaws.{stacked-row}
 use Rattle.numeric.specs.RowLaws.{Same, bind-same, has-at, filled-cases, row-is, row-outside}
 use Rattle.base.specs.Scratch.{zFrom}
 use Rattle.base.specs.ScratchLaws.{drop-twice}
 
 -- ---- the rows of places 0 to k - 1
-
-bind-assoc : {A B C : Type 0} (o : Out A) (f : A → Out C) (g : A → Out B) (next : B → Out C) → ((a : A) → f a ≡ (g a >>= next)) → (o >>= f) ≡ ((o >>= g) >>= next)
-bind-assoc (met q) f g next e = refl
-bind-assoc (ok a) f g next e = e a
 
 bind-met : {A B : Type 0} (o : Out A) (f g : A → Out B) (q : Fault) → ((a : A) → f a ≡ met q → g a ≡ met q) → (o >>= f) ≡ met q → (o >>= g) ≡ met q
 bind-met (met p) f g q e h = cc
@@ -68,11 +66,11 @@ forward-met S n k rows q l e h =
 
 pub forward-length : (S : System) (k : ℕ) (rows : List Row) → forward S k 0 [] ≡ ok rows → length rows ≡ k
 unfolding forward
-forward-length S zero rows e = ap length (sym (ok-inj [] rows e))
+forward-length S zero rows e = ap length (sym (ok-inj e))
 forward-length S (suc k) rows e =
     let a = bind-ok (forward S k 0 []) (λ out. row S out (0 + k) >>= (λ r. ok (out ++ (r ∷ [])))) rows (sym (forward-add S k 0 []) ∙ e) in
     let b = bind-ok (row S (a .0) (0 + k)) (λ r. ok (a .0 ++ (r ∷ []))) rows (a .2) in
-    ap length (sym (ok-inj _ _ (b .2))) ∙ length-append (a .0) (b .0 ∷ []) ∙ rw (forward-length S k (a .0) (a .1), add-one)
+    ap length (sym (ok-inj (b .2))) ∙ length-append (a .0) (b .0 ∷ []) ∙ rw (forward-length S k (a .0) (a .1), add-one)
 
 -- ---- row k, from what its steps leave
 
@@ -226,7 +224,7 @@ module _ {S : System} {rows : List Row} {n k : ℕ} {f : List Float} {starts run
 -- each y is finite
 at-ok : (k : ℕ) (x y : Float) → at k x ≡ ok y → finite y ≡ true
 at-ok k x y e = by-test (finite x)
-    (λ f. rw (← ok-inj x y (rw f at e)) f)
+    (λ f. rw (← ok-inj (rw f at e)) f)
     (λ f. let z : met (overflow k) ≡ ok y = rw f at e in absurd (let w : _≡_ {A = ℕ} 0 1 = cc in omega arith))
 
 finish-y : (k : ℕ) (above : List ℕ) (a : Work) (r : Row) → finish (at k) k above a ≡ ok r → finite (r .y) ≡ true
@@ -236,7 +234,7 @@ finish-y k above a r e =
     let d = bind-ok (at k (div binary64 one (p .0))) _ r (p .2) in
     let y = bind-ok (at k (mul binary64 (a .s) (d .0))) _ r (d .2) in
     let u = bind-ok (scaled (at k) (d .0) (a .w) above) _ r (y .2) in
-    rw (← ok-inj _ r (u .2)) (at-ok k (mul binary64 (a .s) (d .0)) (y .0) (y .1))
+    rw (← ok-inj (u .2)) (at-ok k (mul binary64 (a .s) (d .0)) (y .0) (y .1))
 
 row-y : (S : System) (rows : List Row) (k : ℕ) (r : Row) → row S rows k ≡ ok r → finite (r .y) ≡ true
 unfolding row
@@ -251,7 +249,7 @@ forward-y S (suc k) rows e i h =
     let a = bind-ok (forward S k 0 []) (λ out. row S out (0 + k) >>= (λ r. ok (out ++ (r ∷ [])))) rows (sym (forward-add S k 0 []) ∙ e) in
     let b = bind-ok (row S (a .0) (0 + k)) (λ r. ok (a .0 ++ (r ∷ []))) rows (a .2) in
     let l = forward-length S k (a .0) (a .1) in
-    rw (← ok-inj (a .0 ++ (b .0 ∷ [])) rows (b .2))
+    rw (← ok-inj (b .2))
     (elim (decLt i k) [
       | yes q ↦ rw (List·getD-append (a .0) (b .0 ∷ []) none i (rw l q)) (forward-y S k (a .0) (a .1) i q)
       | no q ↦ (let z : i ≡ k = omega arith in rw (z, getD-at (a .0) (b .0) [] none k l) (row-y S (a .0) (0 + k) (b .0) (b .1)))

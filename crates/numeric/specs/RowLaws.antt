@@ -3,8 +3,7 @@ use mathlib.Core.Path.{_≡_, refl, sym, _∙_}
 use mathlib.Core.Bool.{Bool, true, false, true≢false}
 use mathlib.Core.Logic.{⊎-elim}
 use mathlib.Core.List.{List, [], _∷_, _++_, append-nil, append-assoc, List·Memᴰ, List·Memᴰ·head, List·Memᴰ·tail, List·Memᴰ·not-nil, List·Memᴰ·cases-cons}
-use Prim.Native.Nat.{ℕ, zero, suc, _<_}
-use native.Mathlib.Nat.{not-suc-le-zero, le-of-suc-le-suc}
+use Prim.Native.Nat.{ℕ, suc, _<_}
 use native.Mathlib.Omega.{arith}
 use native.Mathlib.Decide.{ℕ-discrete}
 use lib.ListN.{length, getD, set, replicate, length-set, length-replicate, getD-replicate}
@@ -15,11 +14,11 @@ use lib.Ieee.Scale.{finite}
 use borrow.Author.Tests.{eqb-true, eq-eqb}
 use Rattle.base.specs.Lists.{has, pairs, nought}
 use Rattle.base.specs.Tests.{by-test, or-cases, or-right}
-use Rattle.base.specs.AscLaws.{has-append}
+use Rattle.base.specs.AscLaws.{has-append, mem-at}
 use Rattle.arithmetic.specs.Arith.{Out, ok, met, System, Row, Given, given, Work}
 use Rattle.arithmetic.specs.Stopping.{_>>=_, Check, any, at, load, start, row, subtract, stepAt, steps}
 use Rattle.arithmetic.specs.RowEnd.{finiteOn, rowEnd}
-use Rattle.arithmetic.specs.Sticky.{ok-inj, subtract-any, after, step-any, row-at, sub-left, sub-right, mul-left}
+use Rattle.arithmetic.specs.Sticky.{ok-inj, subtract-any, after, step-any, row-at, sub-left, sub-right, mul-left, on-all}
 use Rattle.numeric.specs.Stores.{Ascending, gathered, work}
 use Rattle.numeric.specs.Rows.{filledRow, Closed, RowLent}
 
@@ -34,11 +33,6 @@ pub mem-has : (l : List ℕ) (j : ℕ) → has l j ≡ true → List·Memᴰ j l
 unfolding has
 mem-has [] j h = absurd (true≢false (sym h))
 mem-has (x ∷ l) j h = ⊎-elim (λ e. List·Memᴰ·head (sym (eqb-true x j e))) (λ t. List·Memᴰ·tail (mem-has l j t)) (or-cases (eqb x j) (has l j) h)
-
-pub mem-at : (l : List ℕ) (p : ℕ) → p < length l → List·Memᴰ (getD l p 0) l
-mem-at [] p h = absurd (not-suc-le-zero h)
-mem-at (x ∷ l) zero h = List·Memᴰ·head refl
-mem-at (x ∷ l) (suc p) h = List·Memᴰ·tail (mem-at l p (le-of-suc-le-suc h))
 
 pub has-at : (l : List ℕ) (p : ℕ) → p < length l → has l (getD l p 0) ≡ true
 has-at l p h = has-mem l (getD l p 0) (mem-at l p h)
@@ -162,10 +156,6 @@ load-cases (i ∷ js) (v ∷ vs) w W P hp hv e j =
       | no l ↦ rw (set-out w i v (omega arith)) f
     ]
 
-finiteOn-all : (P : List ℕ) (w : List Float) → ((j : ℕ) → List·Memᴰ j P → finite (getD w j nan) ≡ true) → finiteOn P w ≡ true
-finiteOn-all [] w h = refl
-finiteOn-all (j ∷ P) w h = rw (h j (List·Memᴰ·head refl)) (finiteOn-all P w (λ i m. h i (List·Memᴰ·tail m)))
-
 -- ---- row k
 
 -- a filled place is in the lower row, k, or in T(k)
@@ -213,7 +203,7 @@ module _ (S : System) (k : ℕ) (C : Closed S k) where
         (sym (end-same k (S .lower k) (S .upper k) (work l w s) (ms .1))
         ∙ sym (row-at S rows k (filledRow S k) (work [] W b) (work l w s) began run within
         (λ j m. omega (arith, each j .2, length-replicate (S .n) nought, inside j m)) (L .sum)
-        (finiteOn-all (filledRow S k) W (λ j m. each j .0 (rw (getD-replicate (S .n) j nought nan (inside j m)))))))
+        (on-all (filledRow S k) W (λ j m. each j .0 (rw (getD-replicate (S .n) j nought nan (inside j m)))))))
 
     -- elsewhere the working row is +0
     pub row-outside : (j : ℕ) → j < S .n → has (filledRow S k) j ≡ false → getD w j nan ≡ nought

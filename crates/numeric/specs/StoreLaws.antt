@@ -8,24 +8,21 @@ use native.Mathlib.Nat.{add-zero, le-refl, le-trans}
 use native.Mathlib.Numerals.{add-one}
 use native.Mathlib.Omega.{arith}
 use native.Mathlib.Decide.{decLt, ℕ-discrete}
-use lib.ListN.{length, getD, set, take, drop, replicate, length-take, length-drop, length-set, length-append, take-append-drop}
+use lib.ListN.{length, getD, set, take, drop, replicate, length-drop, length-set, length-append, take-append-drop}
 use lib.Seq.{sets, sets-eq, length-sets, length-take-le, take-at, drop-at, take-append-le, drop-append-le, take-add, drop-drop, drop-set-lt, getD-set-same, getD-set-other, set-out}
 use lib.Dec.{eqb}
 use lib.Ieee.{Float, nan}
 use borrow.Author.Tests.{eqb-true}
 use Rattle.base.specs.Lists.{listAt, rowOf, has, joined, padded, nought}
 use Rattle.base.specs.Tests.{or-cases}
+use Rattle.base.specs.ZerosLaws.{drop-replicate}
 use Rattle.lent.specs.Reading.{ListIn, Below}
+use Rattle.lent.specs.ReadingLaws.{list-length}
 use Rattle.arithmetic.specs.RowEnd.{products}
 use Rattle.numeric.specs.Stores.{StoreShape, zeroed, gathered}
 use Rattle.numeric.specs.Rows.{Stacked}
 
 -- ---- lists in their stores
-
-pub list-length : {A : Type 0} (starts runs : List ℕ) (store : List A) (i : ℕ) → ListIn starts runs (length store) i
-    → length (listAt starts runs store i) ≡ getD starts (i + 1) 0 - getD starts i 0
-unfolding listAt
-list-length starts runs store i L = simp (length-take, length-drop) (omega arith)
 
 -- what axpy and the sums of products ask of list i and its values
 pub ready : (n i : ℕ) (starts runs upper : List ℕ) (u : List Float) (js : List ℕ) (us : List Float) → StoreShape n starts runs upper (length u) → i < n
@@ -85,15 +82,10 @@ module _ {A : Type 0} where
       rw (sets-eq us v from g)
       (drop-at (take from v ++ us) (drop (from + length us) v) (from + length us) (simp length-append (omega (arith, length-take-le from v (omega arith)))))
 
-  pub drop-replicate : (m j : ℕ) (z : A) → drop j (replicate m z) ≡ replicate (m - j) z
-  drop-replicate m zero z = let e : m - zero ≡ m = omega arith in rw e
-  drop-replicate zero (suc j) z = let e : zero - suc j ≡ zero = omega arith in rw e
-  drop-replicate (suc m) (suc j) z = let e : suc m - suc j ≡ m - j = omega arith in rw e (drop-replicate m j z)
-
   -- no list yet, in a store of zeros
   pub stacked-none : (z : A) (lists : ℕ → List A) (starts : List ℕ) (v : List A) → v ≡ replicate (length v) z → Stacked z lists 0 starts v
   stacked-none z lists starts v e =
-      record { each = λ i h. absurd (omega arith); rest = ap (λ (l : List A). drop (getD starts 0 0) l) e ∙ drop-replicate (length v) (getD starts 0 0) z }
+      record { each = λ i h. absurd (omega arith); rest = ap (λ (l : List A). drop (getD starts 0 0) l) e ∙ drop-replicate z (length v) (getD starts 0 0) }
 
   -- one more
   pub stacked-more : (z : A) (old new : ℕ → List A) (k : ℕ) (starts : List ℕ) (v us : List A) → Rising starts (k + 1) → getD starts (k + 1) 0 ≤ length v
@@ -114,7 +106,7 @@ module _ {A : Type 0} where
             (part-behind (getD starts k 0) v us room
             ∙ sym (drop-drop (length us) (getD starts k 0) v)
             ∙ ap (λ (l : List A). drop (length us) l) (T .rest)
-            ∙ drop-replicate (length v - getD starts k 0) (length us) z
+            ∙ drop-replicate z (length v - getD starts k 0) (length us)
             ∙ (let e : length v - getD starts k 0 - length us ≡ length v - (getD starts k 0 + length us) = omega arith in rw e));
       }
 

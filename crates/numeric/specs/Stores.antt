@@ -1,6 +1,6 @@
 -- What the steps' contracts say of slices: where lists stand, and what each step leaves. Definitions only.
 use mathlib.Core.Path.{_≡_}
-use mathlib.Core.List.{List, [], _∷_, map}
+use mathlib.Core.List.{List, [], _∷_}
 use Prim.Native.Nat.{ℕ, _+_, _*_, _<_, _≤_}
 use lib.ListN.{length, getD, take, drop, set}
 use lib.Seq.{sets}
@@ -31,10 +31,6 @@ abbrev pub storeGiven : ℕ → List Float → List ℕ → List ℕ → List �
 storeGiven n f starts runs upper u = record { upper = listAt starts runs upper; u = rowOf starts u; y = λ i. getD f (n + i) nan }
 
 -- ---- step 1
-
--- the places of own columns, by the inverse order
-unfoldable pub placesOf : List ℕ → List ℕ → List ℕ
-placesOf ic columns = map (λ j. getD ic j 0) columns
 
 -- own columns with their values, whose places are below n by the inverse order in scratch
 pub record Loadable (n : ℕ) (marks columns : List ℕ) (values : List Float) : Type 0 where

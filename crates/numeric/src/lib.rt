@@ -18,15 +18,15 @@ ghost use Rattle.base.specs.Lists.{listAt, rowOf, pairs};
 ghost use Rattle.arithmetic.specs.Arith.{ok, System, Row};
 ghost use Rattle.arithmetic.specs.Stopping.{any, load, subtract, rest, back};
 ghost use Rattle.arithmetic.specs.RowEnd.{finiteOn, finiteAll, products};
-ghost use Rattle.numeric.specs.Stores.{StoreShape, Loadable, Reducible, Closable, Stepped, Eliminated, Finished, storeGiven, placesOf, gathered, zeroed, numberedBack};
+ghost use Rattle.numeric.specs.Stores.{StoreShape, Loadable, Reducible, Closable, Stepped, Eliminated, Finished, storeGiven, gathered, zeroed, numberedBack};
 ghost use Rattle.numeric.specs.Rows.{RowsHeld, RowLent, Closed, Reduced, Shut};
 ghost use Rattle.base.specs.Scratch.{zFrom};
-ghost use Rattle.lent.specs.Reading.{Below, orderOf};
+ghost use Rattle.lent.specs.Reading.{Below, orderOf, placed};
 
-// Step 1: the entries of a row, own columns and values, over w at their places.
+// Does step 1: writes the entries of a row, own columns and values, over w at their places.
 pub fn load_row(w: &mut [f64], n: usize, marks: &[u32], columns: &[Index], values: &[f64])
     requires { ⌜ (length (now w) ≡ n) × Loadable n (now marks) (now columns) (now values) ⌝ }
-    ensures { λ _. ⌜ load any (pairs (placesOf (orderOf n (now (marks .entry))) (now (columns .entry))) (now (values .entry))) (now (w .entry)) ≡ ok (now (w .exit)) ⌝ }
+    ensures { λ _. ⌜ load any (pairs (placed (orderOf n (now (marks .entry))) (now (columns .entry))) (now (values .entry))) (now (w .entry)) ≡ ok (now (w .exit)) ⌝ }
 {
     let mut p = 0;
     while p < columns.len() {
@@ -38,7 +38,7 @@ pub fn load_row(w: &mut [f64], n: usize, marks: &[u32], columns: &[Index], value
     }
 }
 
-// w[j] = w[j] - m * u for the listed j: a product and a difference, each rounded once.
+// Does w[j] = w[j] - m * u for the listed j: a product and a difference, each rounded once.
 pub fn axpy(w: &mut [f64], columns: &[Index], u: &[f64], m: f64)
     requires { ⌜ (length (now columns) ≡ length (now u)) × Below (length (now w)) (now columns) ⌝ }
     ensures { λ _. ⌜ subtract any m (now (columns .entry)) (now (u .entry)) (now (w .entry)) ≡ ok (now (w .exit)) ⌝ }
@@ -79,7 +79,7 @@ fn subtract_row(
     }
 }
 
-// Step 2: every i of the lower row, ascending. The multipliers stay in the working row, at the places of the lower row.
+// Does step 2 for every i of the lower row, ascending. The multipliers stay in the working row, at the places of the lower row.
 pub fn eliminate(
     f: &mut [f64],
     n: usize,
@@ -161,7 +161,7 @@ pub enum Pivot {
     Overflow,
 }
 
-// Step 3: one test of the row, the pivot, its reciprocal, y, and u into its slots.
+// Does step 3: one test of the row, the pivot, its reciprocal, y, and u into its slots.
 pub fn finish_row(
     w: &[f64],
     k: usize,
@@ -196,7 +196,7 @@ pub fn finish_row(
     Pivot::Overflow
 }
 
-// Steps 1 to 3 of row k: its own columns and values, its right side, its lower row. A kept row's multipliers stand in the working row until
+// Does steps 1 to 3 of row k: its own columns and values, its right side, its lower row. A kept row's multipliers stand in the working row until
 // `close_row`, so that the caller keeps them where its form does.
 pub fn reduce_row(
     f: &mut [f64],
@@ -215,7 +215,7 @@ pub fn reduce_row(
     requires { ⌜ Reducible n k (length (now f)) (now marks) (now columns) (now values) (now lower) (now starts) (now runs) (now upper) (length (now u)) ⌝ }
     ensures { λ r. ⌜ ((S : System) (rows : List Row)
         → RowsHeld S rows n k (now (f .entry)) (now (starts .entry)) (now (runs .entry)) (now (upper .entry)) (now (u .entry))
-        → RowLent S k (now (lower .entry)) (placesOf (orderOf n (now (marks .entry))) (now (columns .entry))) (now (values .entry)) b
+        → RowLent S k (now (lower .entry)) (placed (orderOf n (now (marks .entry))) (now (columns .entry))) (now (values .entry)) b
         → Closed S k
         → Reduced S rows n k (now (starts .entry)) (now (f .entry)) (now (f .exit)) (now (u .entry)) (now (u .exit)) r) ⌝ }
 {
@@ -254,7 +254,7 @@ fn clear_upper(w: &mut [f64], places: &[Index])
     }
 }
 
-// y(k) and d(k) into their slots, and +0 at the filled places of row k, so that the working row is +0 again.
+// Writes y(k) and d(k) into their slots, and +0 at the filled places of row k, so that the working row is +0 again.
 pub fn close_row(
     f: &mut [f64],
     n: usize,
@@ -278,7 +278,7 @@ pub fn close_row(
     d[k] = row.reciprocal;
 }
 
-// Row k's multipliers, from slot `from` on.
+// Writes row k's multipliers from slot `from` on.
 pub fn keep_by_rows(w: &[f64], lower: &[u32], l: &mut [f64], from: usize)
     requires { ⌜ (from + length (now lower) ≤ length (now l)) × Below (length (now w)) (now lower) ⌝ }
     ensures { λ _. ⌜ now (l .exit) ≡ sets (now (l .entry)) from (gathered (now (lower .entry)) (now (w .entry))) ⌝ }
@@ -290,7 +290,7 @@ pub fn keep_by_rows(w: &[f64], lower: &[u32], l: &mut [f64], from: usize)
     }
 }
 
-// t less the products of the factors and z at the listed places, one after the other: the back steps take u and z so, another right side L and y.
+// Gives t less the products of the factors and z at the listed places, one after the other: the back steps take u and z so, another right side L and y.
 pub fn subtract_products(t: f64, places: &[Index], factors: &[f64], z: &[f64]) -> f64
     requires { ⌜ (length (now places) ≡ length (now factors)) × Below (length (now z)) (now places) ⌝ }
     ensures { λ r. ⌜ rest any t (now (places .entry)) (now (factors .entry)) (now (z .entry)) ≡ ok r ⌝ }
@@ -332,7 +332,7 @@ pub enum Back {
     Stopped(usize),
 }
 
-// The back steps, from n - 1 down to 0: z(k) into its slot.
+// Does the back steps, from n - 1 down to 0, and writes z(k) into its slot.
 pub fn back_steps(
     f: &mut [f64],
     n: usize,

@@ -1,10 +1,11 @@
--- Laws of questions: what a pass and a stop tell, and the numbers that a run of questions can give.
+-- Laws of questions: what a stop tells, and the numbers that a run of questions can give.
 use mathlib.Core.Path.{_≡_, refl, sym, _∙_}
 use mathlib.Core.Bool.{Bool, true, false, _&&_}
 use mathlib.Core.List.{List, [], _∷_, _++_}
 use Prim.Native.Nat.{ℕ, _+_, _≤_}
 use native.Mathlib.Omega.{arith}
 use Rattle.base.specs.Answers.{numberOf, holds, absent, andThen}
+use Rattle.base.specs.FirstLaws.{stop-pass}
 use Rattle.base.specs.All.{all, allWith}
 use Rattle.base.specs.declared.Found.{Found}
 use Rattle.base.specs.declared.Found.the-variants.{At, Nothing}
@@ -13,19 +14,8 @@ use Rattle.base.specs.declared.Refusal.the-variants.{Rows, Lengths, Starts, Col
 use Rattle.base.specs.declared.Asked.{Asked}
 use Rattle.base.specs.declared.Asked.the-variants.{Pass, Stop}
 
-pub stop-pass : (q : Refusal) → Stop q ≡ Pass → ⊥
-stop-pass q e = let z : _≡_ {A = ℕ} 0 1 = cc in omega arith
-
 pub stop-inj : (q r : Refusal) → Stop q ≡ Stop r → q ≡ r
 stop-inj q r e = cc
-
-pub holds-pass : (b : Bool) (q : Refusal) → holds b q ≡ Pass → b ≡ true
-holds-pass true q e = refl
-holds-pass false q e = absurd (stop-pass q e)
-
-pub then-pass : (a b : Asked) → andThen a b ≡ Pass → (a ≡ Pass) × (b ≡ Pass)
-then-pass (Stop q) b e = absurd (stop-pass q e)
-then-pass Pass b e = (refl, e)
 
 -- no refusal has the number 0
 pub number-some : (q : Refusal) → numberOf q ≡ 0 → ⊥

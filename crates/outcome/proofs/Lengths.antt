@@ -1,6 +1,6 @@
 -- Every buffer is as long at exit as at entry: what the definition says of them can be held.
 use mathlib.Core.Path.{_≡_, refl, sym, ap, ap₂, _∙_}
-use mathlib.Core.Bool.{Bool, true, false, _&&_, false≢true}
+use mathlib.Core.Bool.{Bool, true, _&&_}
 use mathlib.Core.List.{List, [], _∷_, _++_, map}
 use Prim.Native.Nat.{ℕ, zero, suc, _+_, _-_, _*_, _≤_, _<_}
 use native.Mathlib.Omega.{arith}
@@ -11,7 +11,8 @@ use Rattle.base.specs.declared.Side.the-variants.{Lower, Upper}
 use Rattle.base.specs.declared.Answer.the-variants.{Refused}
 use Rattle.outcome.specs.Structure.{sidePlaced, fits, askPlaces, runsKept}
 use Rattle.outcome.specs.Solve.{valuesKept, pivotsKept, system, listed, shape, multiplier, valuesOf, kept, left, concluded, solve}
-use Rattle.outcome.proofs.Asking.{then-pass, holds-pass, stop-pass}
+use Rattle.base.specs.FirstLaws.{both-pass, holds-pass}
+use Rattle.base.specs.Tests.{and-cases}
 use Rattle.base.specs.Answers.{holds}
 use Rattle.base.specs.All.{all}
 use Rattle.base.specs.AllLaws.{all-true}
@@ -90,24 +91,20 @@ values-fit : (f : Form) (side : Side) (P : Pattern) (n : ℕ) (rows : List Row) 
 unfolding valuesKept valueNeed
 values-fit f side P n rows z h g = omega (arith, joined-length (valuesOf f side P n rows) (listsOf f side P n) n g, h .values)
 
-and-both : (a b : Bool) → (a && b) ≡ true → (a ≡ true) × (b ≡ true)
-and-both true b e = (refl, e)
-and-both false b e = absurd (false≢true e)
-
 -- places 0 to k - 1 fit
 pub room-at : (f : Form) (P : Pattern) (n : ℕ) (z : Sizes) (k : ℕ) (side : Side) → askPlaces f P n z k ≡ Pass
     → (indexNeed f side P n k ≤ sideOf side z .index) × (valueNeed f side P n k ≤ sideOf side z .values)
 unfolding fits indexNeed valueNeed placedTo placed startOf
 room-at f P n z zero side e = (omega arith, omega arith)
 room-at f P n z (suc k) side e =
-    let a = and-both (leb (indexNeed f side P n (suc k)) (sideOf side z .index)) (leb (valueNeed f side P n (suc k)) (sideOf side z .values)) (places-pass f P n z (suc k) e k (omega arith) .fit side) in
+    let a = and-cases (leb (indexNeed f side P n (suc k)) (sideOf side z .index)) (leb (valueNeed f side P n (suc k)) (sideOf side z .values)) (places-pass f P n z (suc k) e k (omega arith) .fit side) in
     (leb-true _ _ (a .0), leb-true _ _ (a .1))
 
 -- the tests of question 2, by their index
 tests : (f : Form) (i : Input) (z : Sizes) → shape f i z ≡ Pass → (k : ℕ) → getD (matrixTests i ++ bufferTests f (i .n) z) k true ≡ true
 unfolding shape askShape
 tests f i z e =
-    let a = then-pass (holds (rowsWithin (i .n)) Rows) (holds (all (matrixTests i ++ bufferTests f (i .n) z)) Lengths) e in
+    let a = both-pass (holds (rowsWithin (i .n)) Rows) (holds (all (matrixTests i ++ bufferTests f (i .n) z)) Lengths) e in
     all-true (matrixTests i ++ bufferTests f (i .n) z) (holds-pass (all (matrixTests i ++ bufferTests f (i .n) z)) Lengths (a .1))
 
 module _ (i : Input) (z : Sizes) where

@@ -12,7 +12,7 @@ use Rattle.base.specs.declared.Side.{Side}
 use Rattle.base.specs.declared.Side.the-variants.{Lower, Upper}
 use Rattle.fill.specs.Fill.{Pattern, filled}
 use Rattle.base.specs.First.{first}
-use Rattle.base.specs.FirstLaws.{first-at, first-all}
+use Rattle.base.specs.FirstLaws.{first-at, first-all, stop-pass}
 use Rattle.base.specs.declared.Found.the-variants.{Nothing}
 use Rattle.base.specs.declared.Refusal.{Refusal}
 use Rattle.base.specs.declared.Refusal.the-variants.{NullPivot, LowerSlots, UpperSlots}
@@ -22,7 +22,7 @@ use Rattle.outcome.specs.Buffers.{sideOf}
 use Rattle.base.specs.declared.Sizes.{Sizes}
 use Rattle.outcome.specs.Forms.{indexNeed, valueNeed}
 use Rattle.base.specs.Answers.{holds, absent, andThen, spot, numberOf}
-use Rattle.outcome.proofs.Asking.{stop-pass, stop-inj}
+use Rattle.outcome.proofs.Asking.{stop-inj}
 use Rattle.base.specs.Tests.{and-split, and-left, and-right}
 use Rattle.outcome.specs.Structure.{fits, askPlace, askPlaces}
 use borrow.Author.Tests.{leb-false, lt-leb}

@@ -6,7 +6,7 @@ use mathlib.Core.Bool.{true, false, true≢false}
 use mathlib.Core.List.{List, [], _∷_, _++_, List·Memᴰ, List·Memᴰ·head, List·Memᴰ·tail, List·Memᴰ·cases-cons, List·Memᴰ·not-nil}
 use native.Mathlib.Omega.{arith}
 use native.Mathlib.Nat.{suc-sub-suc, sub-self, zero-add, suc-add}
-use lib.ListN.{length, take, drop, getD, length-drop}
+use lib.ListN.{length, take, drop, length-drop}
 use lib.Seq.{take-append-le, drop-append-le, take-length, take-nil}
 use lib.Dec.{ltb, eqb}
 use borrow.Author.Tests.{ltb-true, eqb-true, lt-ltb, eq-eqb}
@@ -102,11 +102,6 @@ agree-take (suc n) (x ∷ xs) (y ∷ ys) h k e =
     by-test (eqb x y)
     (λ t. ap₂ (λ u v. u ∷ v) (eqb-true x y t) (agree-take n xs ys (omega arith) (omega arith) (rw t at e)))
     (λ t. let z : false ≡ true = rw t at e in absurd (true≢false (sym z)))
-
-pub mem-at : (l : List ℕ) (j : ℕ) → j < length l → List·Memᴰ (getD l j 0) l
-mem-at [] j h = absurd (omega arith)
-mem-at (x ∷ l) zero h = List·Memᴰ·head refl
-mem-at (x ∷ l) (suc j) h = List·Memᴰ·tail (mem-at l j (omega arith))
 
 pub agree-is : (xs ys : List ℕ) → length xs ≡ length ys → agree xs ys ≡ true → xs ≡ ys
 agree-is xs ys l e = sym (take-length xs) ∙ agree-take (length xs) xs ys (omega arith) (omega arith) e ∙ rw l (take-length ys)

@@ -1,15 +1,15 @@
 -- Laws of the placing, for any way of placing whose plans are sound; the shared and the plain way are.
 use Prim.Native.Nat.{ℕ, zero, suc, _+_, _-_, _≤_, _<_, min}
 use mathlib.Core.Path.{_≡_, refl, sym, ap, _∙_}
-use mathlib.Core.Logic.{_⊎_, inl, inr, ⊎-elim}
-use mathlib.Core.Bool.{Bool, false, _&&_}
+use mathlib.Core.Logic.{_⊎_, ⊎-elim}
+use mathlib.Core.Bool.{Bool, _&&_}
 use mathlib.Core.List.{List, [], _∷_, _++_, append-nil, append-assoc, List·Memᴰ, List·Memᴰ·head, List·Memᴰ·tail, List·Memᴰ·cases-cons, List·Memᴰ·not-nil}
 use native.Mathlib.Omega.{arith}
 use native.Mathlib.Nat.{add-zero, add-suc}
 use lib.ListN.{length, take, drop, getD, length-append, length-drop, take-append-drop, List·getD-append}
 use lib.Seq.{drop-append-le, take-all, drop-drop, take-length, getD-at}
 use lib.Dec.{ltb, leb, eqb}
-use borrow.Author.Tests.{ltb-true, ltb-false, eqb-true, eqb-false, lt-ltb, leb-false}
+use borrow.Author.Tests.{ltb-true, ltb-false, eqb-true, eqb-false, lt-ltb}
 use Rattle.placement.specs.Placing.{countAbove, tails, Tail, bestFrom, best, agree, Plan, appendAll, fresh, meets, overlap, tailOr, shared, plain, Way, State, runOf, planAt, placed, startOf, after}
 use Rattle.placement.specs.ListLaws.{asc-least, Ascends, among-asc, among-drop, count-tail, take-drop, part-append, agree-take, count-le}
 use Rattle.base.specs.Tests.{by-test}
@@ -270,17 +270,6 @@ module _ (way : Way) (T R : ℕ → List ℕ) (cap vals : ℕ) where
   -- questions 10 and 11: the lists of places 0 to k, placed this way, fit the index and the value store
   abbrev pub room : ℕ → Bool
   room k = leb (length (placed way T R (suc k) .slots)) cap && leb (startOf T (suc k)) vals
-
-  -- short of slots on this side, n places, where `filled k` says that (k, k) is
-  abbrev pub Short : (ℕ → Type 0) → ℕ → Type 0
-  Short filled n =
-      (k : ℕ) × (k < n) × ((i : ℕ) → i ≤ k → filled i) × ((cap < length (placed way T R (suc k) .slots)) ⊎ (vals < startOf T (suc k)))
-
-  pub no-room : (k : ℕ) → room k ≡ false → (cap < length (placed way T R (suc k) .slots)) ⊎ (vals < startOf T (suc k))
-  no-room k e =
-      by-test (leb (length (placed way T R (suc k) .slots)) cap)
-      (λ t. inr (leb-false (startOf T (suc k)) vals (rw t at e)))
-      (λ t. inl (leb-false (length (placed way T R (suc k) .slots)) cap t))
 
 -- the plain way: a list's run starts where the entries of the lists before it end
 pub plain-starts : (T R : ℕ → List ℕ) (k : ℕ) →

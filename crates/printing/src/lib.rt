@@ -85,7 +85,7 @@ fn put_labelled(out: &mut [u8], at: usize, text: &[u8], x: u64) -> usize
     put_decimal(out, a, x)
 }
 
-// `n 2 lower 1 upper 1 products 1`
+// Writes a line such as `n 2 lower 1 upper 1 products 1`.
 pub fn put_counts(out: &mut [u8], at: usize, n: u64, counts: Counts) -> usize
     requires { ⌜ at ≤ 65536 ⌝ }
     ensures { λ r. ⌜ Written (countsLine n counts) (now (out .entry)) at (now (out .exit)) r × (r ≤ at + 121) ⌝ }
@@ -107,7 +107,7 @@ fn put_bits(out: &mut [u8], at: usize, bits: u64) -> usize
     put_text(out, b, b"\n")
 }
 
-// `x 0 3FF0000000000000`
+// Writes a line such as `x 0 3FF0000000000000`.
 pub fn put_value(out: &mut [u8], at: usize, column: u64, bits: u64) -> usize
     requires { ⌜ at ≤ 65536 ⌝ }
     ensures { λ r. ⌜ Written (valueLine column bits) (now (out .entry)) at (now (out .exit)) r × (r ≤ at + 48) ⌝ }
@@ -116,7 +116,7 @@ pub fn put_value(out: &mut [u8], at: usize, column: u64, bits: u64) -> usize
     put_bits(out, a, bits)
 }
 
-// `refused 12 0`
+// Writes a line such as `refused 12 0`.
 pub fn put_refused(out: &mut [u8], at: usize, number: u32, place: u32) -> usize
     requires { ⌜ at ≤ 65536 ⌝ }
     ensures { λ r. ⌜ Written (refusedLine number place) (now (out .entry)) at (now (out .exit)) r × (r ≤ at + 61) ⌝ }
@@ -126,7 +126,7 @@ pub fn put_refused(out: &mut [u8], at: usize, number: u32, place: u32) -> usize
     put_text(out, b, b"\n")
 }
 
-// `too large`
+// Writes the line `too large`.
 pub fn put_too_large(out: &mut [u8], at: usize) -> usize
     requires { ⌜ at ≤ 65536 ⌝ }
     ensures { λ r. ⌜ Written tooLargeLine (now (out .entry)) at (now (out .exit)) r × (r ≤ at + 10) ⌝ }

@@ -204,7 +204,7 @@ fn shaped_lines(file: &[u8], m: Matrix, out: &mut [u8]) -> usize
     )
 }
 
-// The lines that the program prints for a file. A buffer of 4,096 bytes holds them all.
+// Writes the lines that the program prints for a file. A buffer of 4,096 bytes holds them all.
 pub fn solve_file(file: &[u8], out: &mut [u8]) -> usize
     ensures { λ k. ⌜ Written (printed (now (file .entry))) (now (out .entry)) 0 (now (out .exit)) k × (k ≤ 4096) ⌝ }
 {

@@ -52,13 +52,13 @@ order = record { few = omega arith; added = omega arith; size = refl; slots = om
 pub rows : RowsLent 1 starts zeros zeros 1
 rows = record {
   places = record { few = lent .lent .orders .few; starts = lent .lent .starts; size = lent .lent .orders .row-order; order = unfolded-order };
-  rows = holds .structured .readable .rows;
+  rows = holds .structured .readable .rows refl;
   columns = holds .structured .readable .columns;
   slots = lent .lent .orders .slots;
 }
 
 pub row : RowLent 1 starts zeros 0
-row = record { starts = omega arith; row = rows .rows 0 (omega arith); columns = rows .columns }
+row = record { row = rows .rows 0 (omega arith); columns = rows .columns }
 
 pub unstamped : Unstamped 1 1 zeros
 unfolding blank

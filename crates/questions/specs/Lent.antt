@@ -9,9 +9,9 @@ use Rattle.base.specs.Answers.{absent}
 use Rattle.base.specs.declared.Asked.{Asked}
 use Rattle.base.specs.declared.Refusal.the-variants.{Order}
 use Rattle.base.specs.Limits.{maxRows, maxEntries}
+use Rattle.lent.specs.Reading.{ListIn, Below}
 use Rattle.matrix.specs.Input.{Input, ic}
 use Rattle.matrix.specs.Questions.{badIndex, IsOrder}
-use Rattle.questions.specs.Settled.{RowIn, Under}
 
 -- ---- lengths, with room for the slots of scratch
 
@@ -54,14 +54,13 @@ pub record PlacesLent (n : ℕ) (s r : List ℕ) : Type 0 where
 
 pub record RowsLent (n : ℕ) (s j r : List ℕ) (room : ℕ) : Type 0 where
   pub places : PlacesLent n s r
-  pub rows : (k : ℕ) → k < n → RowIn s (length j) k
-  pub columns : Under j n
+  pub rows : (k : ℕ) → k < n → ListIn s s (length j) k
+  pub columns : Below n j
   pub slots : n ≤ room
 
 pub record RowLent (n : ℕ) (s j : List ℕ) (i : ℕ) : Type 0 where
-  pub starts : i + 1 < length s
-  pub row : RowIn s (length j) i
-  pub columns : Under j n
+  pub row : ListIn s s (length j) i
+  pub columns : Below n j
 
 -- ---- stamps
 

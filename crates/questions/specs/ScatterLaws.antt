@@ -7,7 +7,7 @@ use native.Mathlib.Nat.{not-suc-le-zero}
 use native.Mathlib.Decide.{ℕ-discrete}
 use lib.ListN.{length, getD, set, take, drop, length-set, length-drop, drop-of-length-le, take-append-drop}
 use lib.Ieee.{Float, nan}
-use lib.Seq.{getD-set-same, getD-set-other, drop-set-lt, getD-take, getD-drop, ext-getD, take-at, drop-at, take-all, length-take-le}
+use lib.Seq.{getD-set-same, getD-set-other, drop-set-lt, getD-take, ext-getD, take-at, drop-at, take-all, length-take-le}
 use Rattle.base.specs.Lists.{table}
 use Rattle.base.specs.TableLaws.{length-table, getD-table}
 use Rattle.matrix.specs.Input.{ic, ownOrder}
@@ -78,10 +78,6 @@ module _ (o : List ℕ) (n : ℕ) (s : List ℕ) where
   pub inverse-rest : drop n (inverted o n s) ≡ drop n s
   unfolding inverted
   inverse-rest = drop-at (table (ic o n) n) (drop n s) n (length-table (ic o n) n)
-
-  pub placed-at : take n (drop n s) ≡ table (ic o n) n → (j : ℕ) → j < n → getD s (n + j) 0 ≡ ic o n j
-  placed-at e j l =
-      sym (getD-drop n s j 0) ∙ sym (getD-take n (drop n s) j 0 l) ∙ ap (λ (t : List ℕ). getD t j 0) e ∙ getD-table (ic o n) n 0 j l
 
 module _ (o : List ℕ) (n : ℕ) (s : List ℕ) (room : n ≤ length s) where
   long : length (take n s) ≡ n

@@ -1,50 +1,32 @@
 -- What the questions settle when they are passed, and M' by the inverse order.
-use mathlib.Core.Path.{_≡_, refl, sym, _∙_}
-use mathlib.Core.Bool.{true, false, not, _&&_, _||_}
+use mathlib.Core.Path.{_≡_, sym, _∙_}
+use mathlib.Core.Bool.{false, not, _&&_, _||_}
 use mathlib.Core.List.{List}
 use Prim.Native.Nat.{ℕ, zero, suc, _+_, _-_, _≤_, _<_}
 use native.Mathlib.Omega.{arith}
-use lib.ListN.{length, getD, take, drop, length-take, length-drop, length-map}
-use lib.Seq.{getD-take, getD-drop}
+use lib.ListN.{length, getD, length-map}
 use lib.Dec.{ltb, eqb}
 use lib.Ieee.{Float, nan}
 use lib.Ieee.Scale.{finite}
-use borrow.Author.Tests.{leb-false, ltb-false, eq-eqb, eqb-true, eqb-false}
-use Rattle.base.specs.Lists.{listAt, rowOf}
-use Rattle.base.specs.Tests.{or-false, not-true}
+use borrow.Author.Tests.{leb-false, ltb-false, eq-eqb, eqb-true, eqb-false, not-false}
+use Rattle.base.specs.Lists.{rowOf}
+use Rattle.base.specs.Tests.{or-false}
 use Rattle.base.specs.TableLaws.{getD-map-lt}
-use Rattle.base.specs.First.{first, isAt}
-use Rattle.base.specs.FirstLaws.{first-none}
+use Rattle.base.specs.First.{first}
+use Rattle.base.specs.FirstLaws.{first-none, isAt-none, absent-pass, both-pass}
+use Rattle.lent.specs.Reading.{ListIn, Below, Distinct}
+use Rattle.lent.specs.ReadingLaws.{list-below}
 use Rattle.base.specs.Answers.{own, absent, andThen}
 use Rattle.base.specs.declared.OwnNumber.{OwnNumber}
-use Rattle.base.specs.declared.Found.{Found}
-use Rattle.base.specs.declared.Found.the-variants.{At, Nothing}
-use Rattle.base.specs.declared.Refusal.{Refusal}
+use Rattle.base.specs.declared.Found.the-variants.{Nothing}
 use Rattle.base.specs.declared.Refusal.the-variants.{Starts, Column, Order, NotFinite, EmptyRow, Repeated}
 use Rattle.base.specs.declared.Asked.{Asked}
-use Rattle.base.specs.declared.Asked.the-variants.{Pass, Stop}
+use Rattle.base.specs.declared.Asked.the-variants.{Pass}
 use Rattle.matrix.specs.Input.{Input, inputOf, isOf, ic}
 use Rattle.matrix.specs.Questions.{badStart, badColumn, badIndex, notFinite, noEntry, emptyRow, seenAt, repeats, repeatRow, IsOrder, ask3, ask4, ask5, ask6, ask7, ask8, askFinite, askPattern, askRows, askStructure, askSolve, askRight}
 use Rattle.matrix.specs.OrderLaws.{order-below, place-hits}
-use Rattle.questions.specs.Settled.{RowIn, Under, Distinct, Finite, columnsAt, placesAt, Readable, Structured, Settled}
+use Rattle.questions.specs.Settled.{Finite, columnsAt, placesAt, Readable, Structured, Settled}
 use Rattle.questions.specs.Lent.{Lent, RowsLent, RowLent}
-
--- ---- a question passed, and two passed one after the other
-
-stop-pass : (q : Refusal) → Stop q ≡ Pass → ⊥
-stop-pass q e = let z : _≡_ {A = ℕ} 0 1 = cc in omega arith
-
-absent-pass : (f : Found) (g : ℕ → Refusal) → absent f g ≡ Pass → f ≡ Nothing
-absent-pass (At k) g e = absurd (stop-pass (g k) e)
-absent-pass Nothing g e = refl
-
-pub both-pass : (a b : Asked) → andThen a b ≡ Pass → (a ≡ Pass) × (b ≡ Pass)
-both-pass (Stop q) b e = absurd (stop-pass q e)
-both-pass Pass b e = (refl, e)
-
-isAt-none : (f : Found) → isAt f ≡ false → f ≡ Nothing
-isAt-none (At k) e = let z : true ≡ false = e in absurd (let y : _≡_ {A = ℕ} 0 1 = cc in omega arith)
-isAt-none Nothing e = refl
 
 -- ---- 3
 
@@ -59,23 +41,23 @@ module _ (s : List ℕ) (n e : ℕ) (good : first (badStart s n e) n ≡ Nothing
   up i l = ltb-false (getD s (i + 1) 0) (getD s i 0) (fine i l .0)
 
   last-end : (i : ℕ) → i < n → i + 1 ≡ n → getD s (i + 1) 0 ≡ e
-  last-end i l h = eqb-true _ _ (not-true (eqb (getD s (i + 1) 0) e) (rw (eq-eqb (i + 1) n h) at (fine i l .1)))
+  last-end i l h = eqb-true _ _ (not-false (eqb (getD s (i + 1) 0) e) (rw (eq-eqb (i + 1) n h) at (fine i l .1)))
 
   end-from : (d i : ℕ) → i + 1 + d ≡ n → getD s (i + 1) 0 ≤ e
   end-from zero i h = omega (arith, last-end i (omega arith) (omega arith))
   end-from (suc d) i h = omega (arith, end-from d (i + 1) (omega arith), up (i + 1) (omega arith))
 
-  rows-in : (i : ℕ) → i < n → RowIn s e i
-  rows-in i l = record { up = up i l; within = end-from (n - (i + 1)) i (omega arith) }
+  rows-in : length s ≡ n + 1 → (i : ℕ) → i < n → ListIn s s e i
+  rows-in h i l = record { has-run = omega arith; has-start = omega arith; rise = up i l; inside = omega (arith, up i l, end-from (n - (i + 1)) i (omega arith)) }
 
 -- ---- what each question settles
 
-settled3 : (n e : ℕ) (s : List ℕ) → ask3 n e s ≡ Pass → (i : ℕ) → i < n → RowIn s e i
+settled3 : (n e : ℕ) (s : List ℕ) → ask3 n e s ≡ Pass → length s ≡ n + 1 → (i : ℕ) → i < n → ListIn s s e i
 unfolding ask3
 settled3 n e s p = rows-in s n e (absent-pass (first (badStart s n e) n) (λ k. Starts (own k)) p)
 
-settled4 : (n : ℕ) (j : List ℕ) → ask4 n j ≡ Pass → Under j n
-unfolding ask4 badColumn Under
+settled4 : (n : ℕ) (j : List ℕ) → ask4 n j ≡ Pass → Below n j
+unfolding ask4 badColumn
 settled4 n j h p l = leb-false n (getD j p 0) (first-none (badColumn j n) (length j) (absent-pass (first (badColumn j n) (length j)) Column h) p l)
 
 pub settled5 : (n : ℕ) (r c : List ℕ) → ask5 n r c ≡ Pass → (IsOrder r n) × (IsOrder c n)
@@ -86,7 +68,7 @@ settled5 n r c h =
 
 pub settledFinite : (v : List Float) (from : ℕ) → askFinite v from ≡ Pass → Finite v
 unfolding askFinite notFinite Finite
-settledFinite v from h p l = not-true (finite (getD v p nan)) (first-none (notFinite v) (length v) (absent-pass (first (notFinite v) (length v)) (λ k. NotFinite (k + from)) h) p l)
+settledFinite v from h p l = not-false (finite (getD v p nan)) (first-none (notFinite v) (length v) (absent-pass (first (notFinite v) (length v)) (λ k. NotFinite (k + from)) h) p l)
 
 settled7 : (n : ℕ) (s r : List ℕ) → ask7 n s r ≡ Pass → (k : ℕ) → k < n → getD s (getD r k 0) 0 < getD s (getD r k 0 + 1) 0
 unfolding ask7 emptyRow noEntry
@@ -94,10 +76,12 @@ settled7 n s r h k l = leb-false _ _ (first-none (emptyRow s r) n (absent-pass (
 
 -- a list in which no number repeats an earlier one
 distinct-of : (l : List ℕ) → repeats l ≡ false → Distinct l
-unfolding repeats seenAt isOf Distinct
-distinct-of l h p q d b =
-    let a = first-none (seenAt l) (length l) (isAt-none (first (seenAt l) (length l)) h) q b in
-    eqb-false (getD l p 0) (getD l q 0) (first-none (isOf l (getD l q 0)) q (isAt-none (first (isOf l (getD l q 0)) q) a) p d)
+unfolding repeats seenAt isOf
+distinct-of l h = record {
+  apart = λ p q d b.
+      let a = first-none (seenAt l) (length l) (isAt-none (first (seenAt l) (length l)) h) q b in
+      eqb-false (getD l p 0) (getD l q 0) (first-none (isOf l (getD l q 0)) q (isAt-none (first (isOf l (getD l q 0)) q) a) p d);
+}
 
 settled8 : (n : ℕ) (s j r : List ℕ) → ask8 n s j r ≡ Pass → (k : ℕ) → k < n → Distinct (rowOf s j (getD r k 0))
 unfolding ask8 repeatRow
@@ -142,33 +126,16 @@ settledRight n r c b h =
 
 -- ---- rows of M'
 
--- a row's numbers are below n where all columns are
-pub row-under : (n : ℕ) (s j : List ℕ) (a : ℕ) → Under j n → Under (rowOf s j a) n
-unfolding Under listAt
-row-under n s j a h t l =
-    let b : t < length (take (getD s (a + 1) 0 - getD s a 0) (drop (getD s a 0) j)) = l in
-    let c = rw (length-take, length-drop) at b in
-    rw (getD-take (getD s (a + 1) 0 - getD s a 0) (drop (getD s a 0) j) t 0 (omega arith), getD-drop) (h (getD s a 0 + t) (omega arith))
-
--- the length of a row that stands within the entries
-pub row-length : {A : Type 0} (s : List ℕ) (v : List A) (a : ℕ) → RowIn s (length v) a → length (rowOf s v a) ≡ getD s (a + 1) 0 - getD s a 0
-unfolding listAt
-row-length s v a h = simp (length-take, length-drop) (omega (arith, h .up, h .within))
-
 module _ (i : Input) (g : Readable i) where
-  -- the row at place k stands within the entries
-  pub row-in : (k : ℕ) → k < i .n → RowIn (i .starts) (length (i .columns)) (getD (i .r) k 0)
-  row-in k l = g .rows (getD (i .r) k 0) (order-below (i .r) (i .n) (g .row-order) k l)
-
-  columns-under : (k : ℕ) → Under (columnsAt i k) (i .n)
-  columns-under k = row-under (i .n) (i .starts) (i .columns) (getD (i .r) k 0) (g .columns)
+  -- a row's columns are below n
+  pub columns-under : (k : ℕ) → Below (i .n) (columnsAt i k)
+  columns-under k = list-below (i .n) (i .starts) (i .starts) (i .columns) (getD (i .r) k 0) (g .columns)
 
   place-at : (k t : ℕ) → t < length (columnsAt i k) → getD (placesAt i k) t 0 ≡ ic (i .c) (i .n) (getD (columnsAt i k) t 0)
   place-at k t b = sym (getD-map-lt (ic (i .c) (i .n)) (columnsAt i k) t 0 0 b)
 
-  -- the places of a row's columns are below n
-  pub places-under : (k : ℕ) → Under (placesAt i k) (i .n)
-  unfolding Under
+  -- and their places
+  pub places-under : (k : ℕ) → Below (i .n) (placesAt i k)
   places-under k t b =
       let d : t < length (columnsAt i k) = rw length-map at b in
       rw (place-at k t d) (place-hits (i .c) (i .n) (g .column-order) (getD (columnsAt i k) t 0) (columns-under k t d) .0)
@@ -182,7 +149,7 @@ rows-lent n s j r c v b room slots o h l e p =
     let g = readable (inputOf n s j v r c b) (sym e ∙ p) in
     record {
       places = record { few = h .orders .few; starts = h .starts; size = h .orders .row-order; order = g .row-order };
-      rows = g .rows;
+      rows = g .rows (h .starts);
       columns = g .columns;
       slots = l;
     }
@@ -191,4 +158,4 @@ rows-lent n s j r c v b room slots o h l e p =
 pub row-lent : (n : ℕ) (s j r : List ℕ) (room : ℕ) → RowsLent n s j r room → (k : ℕ) (i : OwnNumber) → k < n → i ≡ own (getD r k 0) → RowLent n s j (i .0)
 row-lent n s j r room h k i l e =
     let b = order-below r n (h .places .order) k l in
-    rw e (record { starts = omega (arith, h .places .starts); row = h .rows (getD r k 0) b; columns = h .columns })
+    rw e (record { row = h .rows (getD r k 0) b; columns = h .columns })

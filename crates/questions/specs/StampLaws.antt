@@ -17,7 +17,7 @@ use Rattle.base.specs.declared.Found.{Found}
 use Rattle.base.specs.declared.Found.the-variants.{At, Nothing}
 use Rattle.matrix.specs.Input.{isOf}
 use Rattle.matrix.specs.Questions.{badIndex, seenAt, repeats}
-use Rattle.questions.specs.Settled.{Under}
+use Rattle.lent.specs.Reading.{Below}
 use Rattle.questions.specs.Lent.{AtMost, Unstamped}
 
 isAt-more : (f : Found) (i : ℕ) → isAt (orElse f (atIf true i)) ≡ true
@@ -113,6 +113,6 @@ unfolding first
 first-ext t u zero h = refl
 first-ext t u (suc n) h = rw (first-ext t u n (λ i l. h i (omega arith)), h n (omega arith))
 
-pub repeats-is : (n : ℕ) (row : List ℕ) (f : Found) → Under row n → f ≡ first (badIndex row n) (length row) → isAt f ≡ repeats row
-unfolding Under badIndex repeats seenAt
-repeats-is n row f h e = ap isAt (e ∙ first-ext (badIndex row n) (seenAt row) (length row) (λ i l. rw (lt-leb n (getD row i 0) (h i l))))
+pub repeats-is : (n : ℕ) (l row : List ℕ) (f : Found) → l ≡ row → Below n row → f ≡ first (badIndex l n) (length l) → isAt f ≡ repeats row
+unfolding badIndex repeats seenAt
+repeats-is n l row f q h e = ap isAt (rw q at e ∙ first-ext (badIndex row n) (seenAt row) (length row) (λ i l. rw (lt-leb n (getD row i 0) (h i l))))

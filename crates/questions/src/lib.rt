@@ -225,10 +225,8 @@ fn row_repeats(
     requires { ⌜ RowLent n (now starts) (now columns) (i .0) × Unstamped n stamp (now marks) ⌝ }
     ensures { λ b. ⌜ (b ≡ repeats (rowOf (now (starts .entry)) (now (columns .entry)) (i .0))) × AtMost (now (marks .exit)) stamp ⌝ }
 {
-    let at = i.0 as usize;
-    let from = starts[at] as usize;
-    let to = starts[at + 1] as usize;
-    let f = first_fault(n, &columns[from..to], stamp, marks);
+    let row = lent::row_columns(starts, columns, i);
+    let f = first_fault(n, row, stamp, marks);
     found(f)
 }
 

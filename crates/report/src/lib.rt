@@ -41,7 +41,7 @@ fn put_all(report: &mut [u64], values: &[u64])
     }
 }
 
-// Place and counts of a structure call or a solve; its number is returned.
+// Writes place and counts of a structure call or a solve, and returns its number.
 pub fn put_answer(report: &mut [u64], a: Answer) -> u32
     ensures { λ r. ⌜ r ≡ numberOfAnswer a ⌝ }
     ensures { λ _. ⌜ now (report .exit) ≡ sets (now (report .entry)) 0 (answerSlots a) ⌝ }
@@ -97,7 +97,7 @@ fn place_of(place: usize) -> Place
     Place(Matrix::MAX_ROWS as u32)
 }
 
-// The list of a side at a place in the plain form, as an offset in its store and a length.
+// Writes the list of a side at a place in the plain form, as an offset in its store and a length.
 pub fn list_plain(
     side: u32,
     place: usize,
@@ -123,7 +123,7 @@ pub fn list_plain(
     put_span(report, s)
 }
 
-// The same in the shared form.
+// Writes the same in the shared form.
 pub fn list_shared(
     side: u32,
     place: usize,
@@ -155,7 +155,7 @@ pub fn list_shared(
 
 // ---- files
 
-// n and e of a file.
+// Writes n and e of a file.
 pub fn file_shape(file: &[u8], report: &mut [u64]) -> u32
     ensures { λ q. ⌜ q ≡ numberOfShape (opened (now (file .entry))) ⌝ }
     ensures { λ _. ⌜ now (report .exit) ≡ sets (now (report .entry)) 0 (shapeSlots (opened (now (file .entry)))) ⌝ }
@@ -173,7 +173,7 @@ pub fn file_shape(file: &[u8], report: &mut [u64]) -> u32
     }
 }
 
-// A file read into lent buffers.
+// Reads a file into lent buffers.
 pub fn read_matrix(
     file: &[u8],
     starts: &mut [u32],
@@ -191,7 +191,7 @@ pub fn read_matrix(
     put_end(report, a)
 }
 
-// A matrix written as a file.
+// Writes a matrix as a file.
 pub fn write_matrix(
     n: usize,
     starts: &[u32],

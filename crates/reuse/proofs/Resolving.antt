@@ -42,7 +42,8 @@ use Rattle.outcome.specs.Structure.{counts}
 use Rattle.outcome.specs.Solve.{system, listed, faultOf, multiplier, valuesOf, valuesKept, pivotsKept, kept, left, concluded, shape, solve}
 use Rattle.outcome.specs.Refactor.{askPresented, refilled, refactor}
 use Rattle.outcome.specs.Resolve.{factorsOf, withSolution, resolved, resolve}
-use Rattle.outcome.proofs.Asking.{number-some, holds-pass, then-pass, all-append}
+use Rattle.base.specs.FirstLaws.{holds-pass, then-pass}
+use Rattle.outcome.proofs.Asking.{number-some, all-append}
 use Rattle.outcome.proofs.Answers.{left-x, solve-left}
 use Rattle.outcome.proofs.Meaning.{listed-stops}
 use Rattle.reuse.specs.Reuse.{Keeps, withNumbers, Factored, by-solve, by-refactor, FiniteRight, ResolvesAs, Resolving, ResolvesOn, ResolvingOn, ResolvingSame, Alike, ResolvingAlike}

@@ -36,7 +36,7 @@ use Rattle.outcome.specs.Structure.{fits, askPlace, askPlaces, runsKept, sidePl
 use Rattle.outcome.specs.Placed.{lists-kept}
 use Rattle.outcome.specs.Refactor.{same, sameRun, sameAt, passes, differs, askPresented, revalued}
 use Rattle.outcome.specs.Resolve.{runsOf}
-use Rattle.outcome.proofs.Asking.{stop-pass}
+use Rattle.base.specs.FirstLaws.{stop-pass}
 use Rattle.outcome.proofs.Places.{Passes}
 use Rattle.reuse.specs.Reuse.{Keeps}
 

@@ -13,7 +13,7 @@ use Rattle.outcome.specs.Buffers.{SideBuffers, Buffers, allBuffers, sizes, scra
 use Rattle.base.specs.declared.Sizes.{Sizes}
 use Rattle.outcome.specs.Structure.{structure}
 use Rattle.outcome.specs.Solve.{shape, solve}
-use Rattle.outcome.proofs.Asking.{stop-pass}
+use Rattle.base.specs.FirstLaws.{stop-pass}
 use Rattle.symbolic.specs.Pass.{foundAnswer}
 use Rattle.base.specs.declared.Form.{Form}
 use Rattle.base.specs.declared.Asked.{Asked}

@@ -19,7 +19,7 @@ use Rattle.base.specs.declared.SideSizes.{SideSizes}
 use Rattle.base.specs.declared.Sizes.{Sizes}
 use Rattle.outcome.specs.Structure.{fits, askPlace, askPlaces, counts}
 use Rattle.outcome.specs.Solve.{shape}
-use Rattle.outcome.proofs.Asking.{then-pass, holds-pass}
+use Rattle.base.specs.FirstLaws.{both-pass, holds-pass}
 use Rattle.outcome.specs.Placed.{PlacedSide}
 use Rattle.questions.specs.Lent.{Lent}
 use Rattle.questions.specs.Settled.{Structured}
@@ -61,7 +61,7 @@ sides-fit ByRow n z e =
 
 passed : (n : ℕ) (tests : List Bool) → askShape n tests ≡ Pass → (rowsWithin n ≡ true) × (all tests ≡ true)
 unfolding askShape
-passed n tests e = let a = then-pass (holds (rowsWithin n) Rows) (holds (all tests) Lengths) e in (holds-pass _ Rows (a .0), holds-pass _ Lengths (a .1))
+passed n tests e = let a = both-pass (holds (rowsWithin n) Rows) (holds (all tests) Lengths) e in (holds-pass _ Rows (a .0), holds-pass _ Lengths (a .1))
 
 shaped-by : (f : Form) (i : Input) (z : Sizes) → rowsWithin (i .n) ≡ true → all (patternTests i) ≡ true → all (listTests f (i .n) z) ≡ true → all (scratchTests (i .n) z) ≡ true → StructureShaped f i z
 shaped-by f i z w a b c =

@@ -27,7 +27,7 @@ tailed : Tailed starts runs (take 2 index) 1 1 0
 unfolding listAt tails countAbove starts runs index
 tailed =
     record {
-      readable = record { run-in = omega arith; start-in = omega arith; rises = omega arith; inside = omega arith };
+      readable = record { has-run = omega arith; has-start = omega arith; rise = omega arith; inside = omega arith };
       ascends = (omega arith, (omega arith, tt));
       most = omega arith;
     }

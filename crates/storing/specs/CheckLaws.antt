@@ -18,7 +18,7 @@ use Rattle.placement.specs.ListLaws.{take-drop, agree-is, agree-self, same-is, 
 use Rattle.storing.specs.Ways.{wayOf}
 use Rattle.storing.specs.FillNested.{kept, way-sound}
 use Rattle.storing.specs.Slices.{Ready, asPlan, planOf, fitsOf, extentOf, sameAt, matchOf}
-use Rattle.storing.specs.LoopLaws.{take-rest}
+use Rattle.lent.specs.ReadingLaws.{take-rest}
 use Rattle.storing.specs.LookLaws.{Looked, fits-room}
 use Rattle.storing.specs.Held.{Holding, Turn, presented, Checked, CheckEnds}
 use Rattle.storing.specs.HeldLaws.{slots-same, run-same, start-same, list-held}

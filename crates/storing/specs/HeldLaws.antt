@@ -1,20 +1,21 @@
 -- Laws of stores that hold the lists placed so far: what is read from them, how they begin and how they end.
-use Prim.Native.Nat.{ℕ, zero, suc, _+_, _-_, _≤_, _<_}
+use Prim.Native.Nat.{ℕ, suc, _+_, _-_, _≤_, _<_}
 use mathlib.Core.Path.{_≡_, refl, sym, ap, _∙_}
 use mathlib.Core.List.{List}
 use native.Mathlib.Omega.{arith}
 use native.Mathlib.Numerals.{add-one}
-use native.Mathlib.Nat.{add-sub-cancel-left, suc-sub-suc, sub-zero}
-use lib.ListN.{length, take, drop, getD, replicate, length-drop, length-take, length-append}
+use native.Mathlib.Nat.{add-sub-cancel-left}
+use lib.ListN.{length, take, drop, getD, length-drop, length-take, length-append}
 use lib.Seq.{getD-take, take-all, take-suc, take-at}
 use Rattle.base.specs.Lists.{listAt, table, blank, padded}
 use Rattle.base.specs.TableLaws.{length-table, getD-table}
+use Rattle.base.specs.ZerosLaws.{drop-replicate}
+use Rattle.lent.specs.Reading.{ListIn}
 use Rattle.placement.specs.Placing.{placed, runOf, startOf}
 use Rattle.placement.specs.PlacingLaws.{Kept}
 use Rattle.placement.specs.ListLaws.{part-append}
 use Rattle.storing.specs.Ways.{wayOf, Suited}
 use Rattle.storing.specs.FillNested.{kept}
-use Rattle.storing.specs.Slices.{Readable}
 use Rattle.storing.specs.Held.{Holding}
 use Rattle.storing.specs.declared.Way.{Way}
 use Rattle.storing.specs.declared.Extent.{Extent}
@@ -64,13 +65,13 @@ module _ {way : Way} {T R : ℕ → List ℕ} {values k : ℕ} {index₀ starts 
         (part-append (runOf (placed (wayOf way) T R k) i) (length (T i)) (placed (wayOf way) T R k .slots) (drop (s .used) index₀) (here .all i h .inside)
         ∙ here .all i h .reads)
 
-    pub list-readable : (i : ℕ) → i < k → Readable starts runs (take (s .used) index) i
+    pub list-readable : (i : ℕ) → i < k → ListIn starts runs (length (take (s .used) index)) i
     unfolding startOf
     list-readable i h =
         record {
-          run-in = omega (arith, ap length (held .runs-are), length-take k runs, here .count);
-          start-in = omega (arith, starts-long);
-          rises = rw (add-one, start-same (suc i) h, start-same i (omega arith)) (omega arith);
+          has-run = omega (arith, ap length (held .runs-are), length-take k runs, here .count);
+          has-start = omega (arith, starts-long);
+          rise = rw (add-one, start-same (suc i) h, start-same i (omega arith)) (omega arith);
           inside = rw (size-same i h, run-same i h, slots-same) (here .all i h .inside);
         }
 
@@ -90,13 +91,8 @@ holding-none way T R values starts runs index h z =
       starts-are = take-suc starts 0 0 h ∙ rw z;
     }
 
-drop-replicate : (v u n : ℕ) → drop u (replicate n v) ≡ replicate (n - u) v
-drop-replicate v zero n = rw sub-zero
-drop-replicate v (suc u) zero = let e : 0 - suc u ≡ 0 = omega arith in rw e
-drop-replicate v (suc u) (suc n) = rw suc-sub-suc (drop-replicate v u n)
-
 -- a store that was cleared before the first list holds the placed slots and zeros
 pub padded-held : {way : Way} {T R : ℕ → List ℕ} {values k : ℕ} (store : List ℕ) {starts runs index : List ℕ} {s : Extent}
     → Holding way T R values k (blank 0 store) starts runs index s → index ≡ padded 0 (length store) (placed (wayOf way) T R k .slots)
 unfolding blank padded
-padded-held store {s = s} held = held .slots-are ∙ rw (drop-replicate 0 (s .used) (length store), held .used-is)
+padded-held store {s = s} held = held .slots-are ∙ rw (drop-replicate {A = ℕ} 0 (length store) (s .used), held .used-is)

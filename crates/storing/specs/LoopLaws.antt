@@ -7,9 +7,10 @@ use native.Mathlib.Omega.{arith}
 use native.Mathlib.Numerals.{add-one}
 use native.Mathlib.Decide.{decLt}
 use lib.ListN.{set, length-drop, length, take, drop, getD, drop-of-length-le}
-use lib.Seq.{paste, paste-suc, drop-cons, take-all}
+use lib.Seq.{paste, paste-suc, drop-cons}
 use lib.Dec.{ltb, eqb}
 use borrow.Author.Tests.{lt-ltb, le-ltb, eq-eqb, ne-eqb}
+use Rattle.lent.specs.ReadingLaws.{take-rest}
 use Rattle.placement.specs.Placing.{firstAt, agree, fresh, appendAll, meets, overlap}
 use Rattle.storing.specs.Slices.{asPlan, held}
 use Rattle.base.specs.Tests.{by-test}
@@ -61,9 +62,6 @@ module _ (s t : List ℕ) (j : ℕ) where
   pub agree-miss : j < length s → j < length t → (getD s j 0 ≡ getD t j 0 → ⊥) → agree (drop j s) (drop j t) ≡ false
   unfolding agree
   agree-miss h g e = rw (drop-at-one s j 0 h, drop-at-one t j 0 g, ne-eqb (getD s j 0) (getD t j 0) e)
-
-pub take-rest : {A : Type 0} (a : ℕ) (l : List A) → take (length l - a) (drop a l) ≡ drop a l
-take-rest a l = take-all (length l - a) (drop a l) (simp length-drop (omega arith))
 
 -- what the code appends, from the part of the list that it lends
 pub paste-rest : (index : List ℕ) (u a : ℕ) (l : List ℕ)

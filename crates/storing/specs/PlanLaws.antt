@@ -8,21 +8,18 @@ use lib.Dec.{eqb}
 use borrow.Author.Tests.{eq-eqb, ne-eqb, eqb-true, eqb-false}
 use Rattle.base.specs.Lists.{listAt}
 use Rattle.base.specs.Tests.{by-test}
+use Rattle.lent.specs.ReadingLaws.{list-length}
 use Rattle.placement.specs.Placing.{countAbove, tails, best, meets, overlap, tailOr, shared, plain, appendAll}
 use Rattle.placement.specs.ListLaws.{count-le}
 use Rattle.placement.specs.PlacingLaws.{best-at}
-use Rattle.storing.specs.Slices.{Readable, AllTailed, fullAt, IsTail, TailIn, asPlan, held, planOver, Planning, Planned}
+use Rattle.storing.specs.Slices.{AllTailed, fullAt, IsTail, TailIn, asPlan, held, planOver, Planning, Planned}
 use Rattle.storing.specs.LoopLaws.{overlap-within}
-use Rattle.storing.specs.TailLaws.{list-length, found-tail, found-none}
+use Rattle.storing.specs.TailLaws.{found-tail, found-none}
 use Rattle.base.specs.First.{first}
 use Rattle.base.specs.declared.Found.the-variants.{At, Nothing}
 use Rattle.storing.specs.declared.Way.{Way}
 use Rattle.storing.specs.declared.Way.the-variants.{OneAfterAnother, Sharing}
 use Rattle.storing.specs.declared.Plan.{Plan}
-
-pub tail-start-is : (starts runs : List ℕ) (i p most m z : ℕ) → p ≡ i → m ≡ getD starts (i + 1) 0 - getD starts i 0 → z ≡ getD runs p 0
-    → z + (m - most) ≡ getD runs i 0 + (getD starts (i + 1) 0 - getD starts i 0 - most)
-tail-start-is starts runs i p most m z e f h = rw (f, h, e)
 
 module _ (starts runs slots : List ℕ) (last k : ℕ) (row list : List ℕ) where
   pub plan-empty : length list ≡ 0 → record { start = length slots; have = 0 } ≡ asPlan (planOver Sharing starts runs slots last k row list)
@@ -35,35 +32,33 @@ module _ (starts runs slots : List ℕ) (last k : ℕ) (row list : List ℕ) whe
     plan-over h = rw (ne-eqb (length list) 0 ne, ← is .most-is, ne-eqb most (length list) h)
 
     -- the best place is one of the row, and its list has that many entries
-    tail-at : most ≡ length list → AllTailed starts runs slots k (length list) row → Readable starts runs slots at × TailIn starts runs at most
+    tail-at : most ≡ length list → AllTailed starts runs slots k (length list) row → TailIn starts runs slots at most
     unfolding tails
     tail-at h all =
         let b = best (tails (listAt starts runs slots) k) row in
         let pos : 0 < b .most = omega (arith, ne, is .most-is) in
         let m = best-at (tails (listAt starts runs slots) k) row pos in
-        let r : Readable starts runs slots at = rw (is .at-is) (all (b .at) (m .0) .readable) in
         let e : countAbove k (listAt starts runs slots at) ≡ most = rw (is .at-is, is .most-is) (m .1) in
-        (r, record { run-in = r .run-in; start-in = r .start-in; fits = omega (arith, count-le k (listAt starts runs slots at), list-length starts runs slots at r, r .rises) })
+        record { readable = rw (is .at-is) (all (b .at) (m .0) .readable); fits = omega (arith, count-le k (listAt starts runs slots at)) }
 
-    plan-tail : most ≡ length list → Readable starts runs slots at → (start : ℕ) → start ≡ getD runs at 0 + (getD starts (at + 1) 0 - getD starts at 0 - most)
+    plan-tail : most ≡ length list → (start : ℕ) → start ≡ getD runs at 0 + (length (listAt starts runs slots at) - most)
         → record { start = start; have = most } ≡ asPlan (planOver Sharing starts runs slots last k row list)
     unfolding planOver shared tailOr
-    plan-tail h r start e =
-        rw (ne-eqb (length list) 0 ne, ← is .most-is, ← is .at-is, eq-eqb most (length list) h, list-length starts runs slots at r, e, h)
+    plan-tail h start e = rw (ne-eqb (length list) 0 ne, ← is .most-is, ← is .at-is, eq-eqb most (length list) h, e, h)
 
   module _ (ne : length list ≡ 0 → ⊥) (all : AllTailed starts runs slots k (length list) row) where
     -- step 2, by the index of the first place whose list is long enough
-    pub tail-found : (j : ℕ) → first (fullAt starts runs slots k (length list) row) (length row) ≡ At j → (j < length row) × TailIn starts runs (getD row j 0) (length list)
+    pub tail-found : (j : ℕ) → first (fullAt starts runs slots k (length list) row) (length row) ≡ At j → (j < length row) × TailIn starts runs slots (getD row j 0) (length list)
     tail-found j e =
         let q = found-tail starts runs slots k (length list) row all (omega (arith, ne)) j e in
-        (q .0, tail-at ne (getD row j 0) (length list) (q .1) refl all .1)
+        (q .0, tail-at ne (getD row j 0) (length list) (q .1) refl all)
 
     pub plan-found : (j : ℕ) → first (fullAt starts runs slots k (length list) row) (length row) ≡ At j
-        → (start : ℕ) → start ≡ getD runs (getD row j 0) 0 + (getD starts (getD row j 0 + 1) 0 - getD starts (getD row j 0) 0 - length list)
+        → (start : ℕ) → start ≡ getD runs (getD row j 0) 0 + (length (listAt starts runs slots (getD row j 0)) - length list)
         → record { start = start; have = length list } ≡ asPlan (planOver Sharing starts runs slots last k row list)
     plan-found j e start h =
         let q = found-tail starts runs slots k (length list) row all (omega (arith, ne)) j e in
-        plan-tail ne (getD row j 0) (length list) (q .1) refl (tail-at ne (getD row j 0) (length list) (q .1) refl all .0) start h
+        plan-tail ne (getD row j 0) (length list) (q .1) refl start h
 
     pub plan-none : first (fullAt starts runs slots k (length list) row) (length row) ≡ Nothing → planOver Sharing starts runs slots last k row list ≡ overlap (held slots [] last) list
     plan-none e =
@@ -82,9 +77,9 @@ module _ (starts runs slots : List ℕ) (last k : ℕ) (row list : List ℕ) whe
       by-test (eqb (b .most) (length list))
       (λ t.
       let h = eqb-true (b .most) (length list) t in
-      let r = tail-at ne (b .at) (b .most) is h (p .readable) .0 in
-      let q = plan-tail ne (b .at) (b .most) is h r _ refl in
-      (omega (arith, ap (λ x. x .start) q, r .inside), omega (arith, ap (λ x. x .have) q)))
+      let r = tail-at ne (b .at) (b .most) is h (p .readable) .readable in
+      let q = plan-tail ne (b .at) (b .most) is h _ refl in
+      (omega (arith, ap (λ x. x .start) q, r .inside, list-length starts runs slots (b .at) r), omega (arith, ap (λ x. x .have) q)))
       (λ t. rw (plan-over ne (b .at) (b .most) is (eqb-false (b .most) (length list) t)) (overlap-within slots last list (p .last-in))))
 
   pub plan-within : (way : Way) → Planning way starts runs slots last k row list

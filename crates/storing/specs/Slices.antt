@@ -7,6 +7,7 @@ use lib.ListN.{length, take, drop, getD, set}
 use lib.Seq.{paste}
 use lib.Dec.{ltb, leb, eqb}
 use Rattle.base.specs.Lists.{listAt}
+use Rattle.lent.specs.Reading.{ListIn}
 use Rattle.placement.specs.Placing.{tails, agree, State}
 use Rattle.placement.specs.Placing as placement
 use Rattle.placement.specs.ListLaws.{Ascends}
@@ -23,16 +24,9 @@ use Rattle.storing.specs.declared.Match.{Match}
 use Rattle.storing.specs.declared.Match.the-variants.{Same, Differs}
 use Rattle.base.specs.Index.{indexBound}
 
--- place i's starts are in their slices, and its run is in the store
-pub record Readable (starts runs slots : List ℕ) (i : ℕ) : Type 0 where
-  pub run-in : i < length runs
-  pub start-in : i + 1 < length starts
-  pub rises : getD starts i 0 ≤ getD starts (i + 1) 0
-  pub inside : getD runs i 0 + (getD starts (i + 1) 0 - getD starts i 0) ≤ length slots
-
 -- place i's list ascends, and has at most count entries above k
 pub record Tailed (starts runs slots : List ℕ) (k count i : ℕ) : Type 0 where
-  pub readable : Readable starts runs slots i
+  pub readable : ListIn starts runs (length slots) i
   pub ascends : Ascends 0 (listAt starts runs slots i)
   pub most : tails (listAt starts runs slots) k i ≤ count
 
@@ -57,11 +51,10 @@ abbrev pub Reads : Way → List ℕ → List ℕ → List ℕ → ℕ → List �
 Reads OneAfterAnother starts runs slots k row list = Unit {0}
 Reads Sharing starts runs slots k row list = AllTailed starts runs slots k (length list) row
 
--- place i's starts are in their slices, and its list has that many entries or more
-pub record TailIn (starts runs : List ℕ) (i most : ℕ) : Type 0 where
-  pub run-in : i < length runs
-  pub start-in : i + 1 < length starts
-  pub fits : getD starts i 0 + most ≤ getD starts (i + 1) 0
+-- place i's list can be read, and has that many entries or more
+pub record TailIn (starts runs slots : List ℕ) (i most : ℕ) : Type 0 where
+  pub readable : ListIn starts runs (length slots) i
+  pub fits : most ≤ length (listAt starts runs slots i)
 
 -- what the code asks before it plans
 pub record Planning (way : Way) (starts runs slots : List ℕ) (last k : ℕ) (row list : List ℕ) : Type 0 where

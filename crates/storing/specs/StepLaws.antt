@@ -16,8 +16,9 @@ use Rattle.placement.specs.PlacingLaws.{best-at, best-same, Nested, Kept, after
 use Rattle.placement.specs.ListLaws.{asc-least, asc-weaken, among-asc, among-drop, count-tail, count-le}
 use Rattle.storing.specs.Ways.{wayOf, Suited}
 use Rattle.storing.specs.FillNested.{kept}
-use Rattle.storing.specs.Slices.{Readable, Reads, Small, Ready, held, planOver, planOf, fitsOf, extentOf, Writes, WrittenBy}
-use Rattle.storing.specs.LoopLaws.{take-rest}
+use Rattle.storing.specs.Slices.{Reads, Small, Ready, held, planOver, planOf, fitsOf, extentOf, Writes, WrittenBy}
+use Rattle.lent.specs.Reading.{ListIn}
+use Rattle.lent.specs.ReadingLaws.{take-rest}
 use Rattle.storing.specs.LookLaws.{Looked, fits-room}
 use Rattle.storing.specs.Held.{Holding, RowIs, Turn, Stepped, PlaceEnds, PlainEnds}
 use Rattle.storing.specs.HeldLaws.{starts-long, slots-same, index-long, run-same, start-same, list-used, list-readable}
@@ -76,7 +77,7 @@ tail-most T R n k i h l d =
     )
 
 reads-way : (way : Way) (T R : ℕ → List ℕ) (n k : ℕ) → Suited way T R n → k < n → (row list : List ℕ) → RowIs way (R k) row → list ≡ T k
-    → (starts runs slots : List ℕ) → ((i : ℕ) → i < k → Readable starts runs slots i) → ((i : ℕ) → i < k → listAt starts runs slots i ≡ T i)
+    → (starts runs slots : List ℕ) → ((i : ℕ) → i < k → ListIn starts runs (length slots) i) → ((i : ℕ) → i < k → listAt starts runs slots i ≡ T i)
     → Reads way starts runs slots k row list
 unfolding tails
 reads-way OneAfterAnother T R n k h l row list e q starts runs slots f g = tt

@@ -1,11 +1,11 @@
 -- Step 2: the first place of the row whose list has as many entries above k as k's list, by one entry of each list.
 use Prim.Native.Nat.{ℕ, zero, suc, _+_, _-_, _≤_, _<_}
-use mathlib.Core.Path.{_≡_, refl, sym, ap, _∙_}
+use mathlib.Core.Path.{_≡_, refl, sym, ap}
 use mathlib.Core.Bool.{false}
 use mathlib.Core.List.{List, [], _∷_, _++_}
 use native.Mathlib.Omega.{arith}
 use lib.ListN.{length, take, drop, getD, length-drop, take-append-drop}
-use lib.Seq.{drop-cons, getD-take, getD-drop, length-take-le}
+use lib.Seq.{drop-cons}
 use lib.Dec.{ltb, eqb}
 use borrow.Author.Tests.{ltb-true, lt-ltb, le-ltb, eqb-true, eqb-false, eq-eqb, ne-eqb}
 use Rattle.base.specs.Lists.{listAt}
@@ -14,8 +14,9 @@ use Rattle.base.specs.FirstLaws.{first-found, first-none}
 use Rattle.base.specs.Tests.{by-test, true-ext}
 use Rattle.base.specs.declared.Found.the-variants.{At, Nothing}
 use Rattle.placement.specs.Placing.{countAbove, tails, bestFrom, best}
-use Rattle.placement.specs.ListLaws.{Ascends, count-all, count-tail, count-le, mem-at}
-use Rattle.storing.specs.Slices.{TailIn, Readable, Tailed, AllTailed, fullAt, IsTail}
+use Rattle.placement.specs.ListLaws.{Ascends, count-all, count-tail, count-le}
+use Rattle.base.specs.AscLaws.{mem-at}
+use Rattle.storing.specs.Slices.{Tailed, AllTailed, fullAt, IsTail}
 
 count-append : (k : ℕ) (xs ys : List ℕ) → countAbove k (xs ++ ys) ≡ countAbove k xs + countAbove k ys
 unfolding countAbove
@@ -41,47 +42,18 @@ above-test k c m xs a pos h le =
     let b : Ascends (suc k) (getD xs d 0 ∷ drop (suc d) xs) = rw (e, drop-cons xs d 0 in-list) at (count-tail k m xs a) in
     lt-ltb k (getD xs d 0) (b .0))
 
-pub list-length : (starts runs slots : List ℕ) (i : ℕ) → Readable starts runs slots i → length (listAt starts runs slots i) ≡ getD starts (i + 1) 0 - getD starts i 0
-unfolding listAt
-list-length starts runs slots i h =
-    length-take-le (getD starts (i + 1) 0 - getD starts i 0) (drop (getD runs i 0) slots) (simp length-drop (omega (arith, h .inside)))
+-- ---- by the list that the code reads
 
--- ---- by what the code reads
-
--- the starts of place i, read at p
-pub rise-at : (s : List ℕ) (p i : ℕ) → p ≡ i → getD s i 0 ≤ getD s (i + 1) 0 → getD s p 0 ≤ getD s (p + 1) 0
-rise-at s p i e h = rw e h
-
-pub length-at : (s : List ℕ) (p i x y : ℕ) → p ≡ i → x ≡ getD s (p + 1) 0 → y ≡ getD s p 0 → x - y ≡ getD s (i + 1) 0 - getD s i 0
-length-at s p i x y e f g = rw (f, g, e)
-
-module _ (starts runs slots : List ℕ) (k count i m : ℕ) (r : Tailed starts runs slots k count i) (e : m ≡ getD starts (i + 1) 0 - getD starts i 0) where
-  size-is : m ≡ length (listAt starts runs slots i)
-  size-is = e ∙ sym (list-length starts runs slots i (r .readable))
-
-  pub tail-short : m < count → false ≡ eqb (tails (listAt starts runs slots) k i) count
+module _ (starts runs slots : List ℕ) (k count i : ℕ) (list : List ℕ) (e : list ≡ listAt starts runs slots i) where
+  pub tail-short : length list < count → false ≡ eqb (tails (listAt starts runs slots) k i) count
   unfolding tails
   tail-short h =
-      sym (ne-eqb (countAbove k (listAt starts runs slots i)) count (λ q. absurd (omega (arith, count-le k (listAt starts runs slots i), size-is))))
+      sym (ne-eqb (countAbove k (listAt starts runs slots i)) count (λ q. absurd (omega (arith, count-le k (listAt starts runs slots i), ap length e))))
 
-  pub tail-in : count ≤ m → TailIn starts runs i count
-  tail-in h = record { run-in = r .readable .run-in; start-in = r .readable .start-in; fits = omega (arith, r .readable .rises) }
-
-  module _ (z : ℕ) (f : z ≡ getD runs i 0 + (getD starts (i + 1) 0 - getD starts i 0 - count)) (pos : 0 < count) (l : count ≤ m) where
-    pub tail-slot : z < length slots
-    tail-slot = omega (arith, r .readable .inside)
-
-    entry-at : getD (listAt starts runs slots i) (length (listAt starts runs slots i) - count) 0 ≡ getD slots z 0
-    unfolding listAt
-    entry-at =
-        ap (λ n. getD (listAt starts runs slots i) (n - count) 0) (sym size-is ∙ e)
-        ∙ getD-take (getD starts (i + 1) 0 - getD starts i 0) (drop (getD runs i 0) slots) (getD starts (i + 1) 0 - getD starts i 0 - count) 0 (omega arith)
-        ∙ getD-drop (getD runs i 0) slots (getD starts (i + 1) 0 - getD starts i 0 - count) 0 ∙ rw f
-
-    pub tail-told : (v : ℕ) → v ≡ getD slots z 0 → ltb k v ≡ eqb (tails (listAt starts runs slots) k i) count
-    unfolding tails
-    tail-told v q =
-        rw (q, ← entry-at) (above-test k count 0 (listAt starts runs slots i) (r .ascends) pos (omega (arith, size-is)) (r .most))
+  pub tail-told : Tailed starts runs slots k count i → 0 < count → count ≤ length list → (v : ℕ) → v ≡ getD list (length list - count) 0
+      → ltb k v ≡ eqb (tails (listAt starts runs slots) k i) count
+  unfolding tails
+  tail-told r pos l v q = rw (q, e) (above-test k count 0 (listAt starts runs slots i) (r .ascends) pos (omega (arith, ap length e)) (r .most))
 
 -- ---- the best of a row in which no place has more than c
 

@@ -5,7 +5,7 @@ ghost use Prim.Native.Nat.{ℕ, _+_, _-_, _≤_, _<_, min};
 ghost use mathlib.Core.Bool.{cond};
 ghost use mathlib.Core.List.{[]};
 ghost use lib.Dec.{ltb, eqb};
-ghost use lib.ListN.{length, take, drop, getD, set};
+ghost use lib.ListN.{length, getD};
 ghost use lib.Seq.{paste};
 ghost use Rattle.base.specs.Lists.{listAt};
 ghost use Rattle.base.specs.First.{first};
@@ -13,7 +13,6 @@ ghost use Rattle.placement.specs.Placing.{tails, firstAt, agree, fresh, overlap
 ghost use Rattle.storing.specs.Slices.{Tailed, AllTailed, fullAt, asPlan, TailIn, held, Planning, planOver, Planned, Small, Ready, lookOf, Writable, WrittenBy, Standing, sameAt};
 ghost use Rattle.storing.specs.Held.{PlaceEnds, PlainEnds, CheckEnds};
 ghost use Rattle.storing.specs.declared.Way.{Way};
-ghost use Rattle.base.specs.Index.{indexBound};
 use base::Found;
 use base::Index;
 use base::Place;
@@ -24,35 +23,28 @@ pub enum Way {
     Sharing,
 }
 
-// How long place i's list is.
-fn list_length(starts: &[u32], i: Place) -> usize
-    requires { ⌜ (i .0 + 1 < length (now starts)) × (getD (now starts) (i .0) 0 ≤ getD (now starts) (i .0 + 1) 0) ⌝ }
-    ensures { λ r. ⌜ (r ≡ getD (now (starts .entry)) (i .0 + 1) 0 - getD (now (starts .entry)) (i .0) 0) × (r < 4294967296) ⌝ }
+// Gives where the last most entries of place i's list start.
+fn tail_start(starts: &[u32], runs: &[u32], slots: &[Index], i: Place, most: usize) -> usize
+    requires { ⌜ TailIn (now starts) (now runs) (now slots) (i .0) most ⌝ }
+    ensures { λ r. ⌜ r ≡ getD (now (runs .entry)) (i .0) 0 + (length (listAt (now (starts .entry)) (now (runs .entry)) (now (slots .entry)) (i .0)) - most) ⌝ }
 {
-    let p = base::slot(i.0);
-    base::slot(starts[p + 1]) - base::slot(starts[p])
+    let p = i.0 as usize;
+    let list = lent::list_at(starts, runs, slots, p);
+    base::slot(runs[p]) + (list.len() - most)
 }
 
-// Where the last most entries of place i's list start.
-fn tail_start(starts: &[u32], runs: &[u32], i: Place, most: usize) -> usize
-    requires { ⌜ TailIn (now starts) (now runs) (i .0) most ⌝ }
-    ensures { λ r. ⌜ r ≡ getD (now (runs .entry)) (i .0) 0 + (getD (now (starts .entry)) (i .0 + 1) 0 - getD (now (starts .entry)) (i .0) 0 - most) ⌝ }
-{
-    let p = base::slot(i.0);
-    base::slot(runs[p]) + (list_length(starts, i) - most)
-}
-
-// Has place i's list count entries above k? It ascends and has no more of them, so one entry tells.
+// Tells whether place i's list has count entries above k. It ascends and has no more of them, so one entry tells.
 fn has_tail(starts: &[u32], runs: &[u32], slots: &[Index], i: Place, k: Place, count: usize) -> bool
     requires { ⌜ Tailed (now starts) (now runs) (now slots) (k .0) count (i .0) ⌝ }
     requires { ⌜ 0 < count ⌝ }
     ensures { λ r. ⌜ r ≡ eqb (tails (listAt (now (starts .entry)) (now (runs .entry)) (now (slots .entry))) (k .0) (i .0)) count ⌝ }
 {
-    if list_length(starts, i) < count {
+    let list = lent::list_at(starts, runs, slots, i.0 as usize);
+    if list.len() < count {
         return false;
     }
-    let first = tail_start(starts, runs, i, count);
-    k.0 < base::number(slots[first])
+    let first = list.len() - count;
+    k.0 < base::number(list[first])
 }
 
 // "the first whose T(i) has the most entries above k", where that number is count: its index in the row.
@@ -176,7 +168,7 @@ fn shared_plan(
         Found::At(j) => {
             let i = Place(row[j]);
             Plan {
-                start: tail_start(starts, runs, i, list.len()),
+                start: tail_start(starts, runs, slots, i, list.len()),
                 have: list.len(),
             }
         }
@@ -311,7 +303,7 @@ pub enum Put {
     Full,
 }
 
-// Place k's list into the stores, if it fits the index store and the value store.
+// Puts place k's list into the stores, if it fits the index store and the value store.
 pub fn place_list(
     way: Way,
     starts: &mut [u32],
@@ -339,7 +331,7 @@ pub fn place_list(
     }
 }
 
-// The same in the plain form, which has no run starts: the list starts are the run starts.
+// Puts the list there in the plain form, which has no run starts: the list starts are the run starts.
 pub fn append_list(
     starts: &mut [u32],
     index: &mut [Index],
@@ -401,7 +393,7 @@ fn stands(
         & agrees(&index[used..end], &list[have..])
 }
 
-// Do the stores hold place k's list where placing would put it? Nothing is written.
+// Tells whether the stores hold place k's list where placing would put it. Nothing is written.
 pub fn check_list(
     way: Way,
     starts: &[u32],

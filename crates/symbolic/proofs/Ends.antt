@@ -26,7 +26,7 @@ use Rattle.marks.specs.ListLaws.{products-rows}
 use Rattle.outcome.specs.Forms.{wayOf, listsOf, rowsOf, placedTo, indexNeed, valueNeed}
 use Rattle.outcome.specs.Structure.{askPlaces, counts}
 use Rattle.outcome.specs.Placed.{RunsAre, PlacedSide, WrittenSide}
-use Rattle.outcome.proofs.Asking.{stop-pass}
+use Rattle.base.specs.FirstLaws.{stop-pass}
 use Rattle.storing.specs.Ways as ways
 use Rattle.storing.specs.Held.{Holding}
 use Rattle.storing.specs.HeldLaws.{slots-same, index-long, starts-whole, runs-whole, padded-held}

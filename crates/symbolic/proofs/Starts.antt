@@ -17,7 +17,6 @@ use Rattle.marks.specs.Marks.{Fresh}
 use Rattle.lent.specs.Reading.{orderOf}
 use Rattle.columns.specs.Columns.{Started}
 use Rattle.columns.specs.Sides.{Sound, rowsIn}
-use Rattle.questions.specs.Settled.{Under, Distinct}
 use Rattle.questions.specs.Lent.{inverted, invertedAt, InverseLent}
 use Rattle.questions.specs.ScatterLaws.{placed-front, placed-inverse}
 use Rattle.outcome.proofs.Places.{places-none}
@@ -33,19 +32,7 @@ use Rattle.base.specs.Scratch.{blocksFrom, upperCuts, lowerCuts, regionsEnd}
 
 -- what the questions settle, as the columns ask for it
 sound-of : (i : Input) (m : ℕ) → MatrixLent i m → Sound i
-unfolding Under Distinct
-sound-of i m l =
-    let q = l .structured .readable in
-    record {
-      starts-long = l .starts-size;
-      order-long = l .rows-size;
-      rise = λ j h. q .rows j h .up;
-      within = λ j h. q .rows j h .within;
-      columns-below = q .columns;
-      row-order = q .row-order;
-      column-order = q .column-order;
-      distinct = λ k h. record { apart = λ a b x y e. l .structured .distinct k h a b x y e };
-    }
+sound-of i m l = record { starts-long = l .starts-size; order-long = l .rows-size; structured = l .structured }
 
 pub inverse-lent : (i : Input) (m : ℕ) → MatrixLent i m → InverseLent (i .n) (i .c) (m - i .n)
 inverse-lent i m l = record { few = l .few; size = l .columns-size; slots = omega (arith, l .scratch); order = l .structured .readable .column-order }

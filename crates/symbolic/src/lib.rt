@@ -402,7 +402,7 @@ fn analyze_place_plain(
     })
 }
 
-// The plain form's structure: lower rows and T(k) one after another, and the counts.
+// Finds the plain form's structure: lower rows and T(k) one after another, and the counts.
 pub fn analyze_plain(
     n: usize,
     starts: &[u32],
@@ -514,7 +514,7 @@ fn analyze_place_by_row(
     }
 }
 
-// The row form's structure: T(k) sharing runs, and the counts.
+// Finds the row form's structure: T(k) sharing runs, and the counts.
 pub fn analyze_by_row(
     n: usize,
     starts: &[u32],
@@ -642,7 +642,7 @@ fn analyze_place_shared(
     }
 }
 
-// The shared form's structure: columns of L and T(k), each side's sharing runs, and the counts.
+// Finds the shared form's structure: columns of L and T(k), each side's sharing runs, and the counts.
 pub fn analyze_shared(
     n: usize,
     starts: &[u32],

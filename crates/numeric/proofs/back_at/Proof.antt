@@ -1,4 +1,5 @@
-use Rattle.numeric.proofs.Turns.{tail-is, tail-length, rest-is}
+use Rattle.lent.specs.ReadingLaws.{take-rest}
+use Rattle.numeric.proofs.Turns.{tail-length, rest-is}
 use Rattle.numeric.specs.StoreLaws.{ready}
 use denote.Ref.{now}
 use borrow.Author.Needs.{needs}
@@ -22,7 +23,7 @@ subtract-products-requires c κs =
 returns : tie.Need-returns
 returns c =
     let a = c .before .before .before .before .before .before .before .before .before .before .args in
-    rest-is _ _ _ _ _ _ _ _ (c .before .before .before .list-at .ensures) (c .before .before .values-at .ensures) (tail-is (now (a .f)) (zFrom (a .n))) (c .subtract-products .ensures)
+    rest-is _ _ _ _ _ _ _ _ (c .before .before .before .list-at .ensures) (c .before .before .values-at .ensures) (take-rest (zFrom (a .n)) (now (a .f))) (c .subtract-products .ensures)
 
 pub back-at-spec : {M : Type 1} → statement M
 back-at-spec =

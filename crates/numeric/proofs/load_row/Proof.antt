@@ -1,6 +1,5 @@
 use Rattle.numeric.proofs.Turns.{place-is, load-turn, load-end}
-use Rattle.numeric.specs.Stores.{placesOf}
-use Rattle.lent.specs.Reading.{orderOf}
+use Rattle.lent.specs.Reading.{orderOf, placed}
 use Rattle.arithmetic.specs.Stopping.{any, load}
 use Rattle.base.specs.Lists.{pairs}
 use denote.Ref.{now}
@@ -15,7 +14,7 @@ use Rattle.numeric.proofs.load_row.Tie as tie
 abbrev Inv-loop : tie.InvT-loop
 Inv-loop w₀ n marks columns values p₀ w p =
     (p ≤ length columns) × (length w ≡ length w₀)
-    × (load any (pairs (placesOf (orderOf n marks) (drop p columns)) (drop p values)) w ≡ load any (pairs (placesOf (orderOf n marks) columns) values) w₀)
+    × (load any (pairs (placed (orderOf n marks) (drop p columns)) (drop p values)) w ≡ load any (pairs (placed (orderOf n marks) columns) values) w₀)
 
 abbrev μ-loop : tie.MeasureT-loop
 μ-loop w₀ n marks columns values p₀ w p = length columns - p

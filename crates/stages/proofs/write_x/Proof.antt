@@ -1,6 +1,6 @@
 use mathlib.Core.Path.{ap, _∙_}
 use Rattle.matrix.specs.Input.{ownOrder}
-use Rattle.storing.specs.LoopLaws.{take-rest}
+use Rattle.lent.specs.ReadingLaws.{take-rest}
 use borrow.Author.Needs.{needs}
 use Rattle.stages.proofs.write_x.Statement.{statement}
 use Rattle.stages.proofs.write_x.Tie as tie

@@ -6,7 +6,7 @@ use borrow.Author.Needs.{needs}
 use Rattle.base.specs.First.{first}
 use Rattle.base.specs.FirstLaws.{first-zero, first-end, scan-hit, scan-more}
 use Rattle.base.specs.declared.Found.the-variants.{Nothing}
-use Rattle.placement.specs.ListLaws.{mem-at}
+use Rattle.base.specs.AscLaws.{mem-at}
 use Rattle.storing.specs.Slices.{fullAt}
 use Rattle.storing.proofs.full_tail.Statement.{statement}
 use Rattle.storing.proofs.full_tail.Tie as tie

@@ -5,7 +5,8 @@ use lib.ListN.{length}
 use borrow.Author.Needs.{needs}
 use lib.ListN.{length-drop}
 use lib.Seq.{getD-drop}
-use Rattle.storing.specs.LoopLaws.{take-rest, paste-rest, set-same}
+use Rattle.lent.specs.ReadingLaws.{take-rest}
+use Rattle.storing.specs.LoopLaws.{paste-rest, set-same}
 use Rattle.storing.proofs.write_list.Statement.{statement}
 use Rattle.storing.proofs.write_list.Tie as tie
 
