@@ -56,6 +56,10 @@ abbrev pub sideOf : Side → Sizes → SideSizes
 sideOf Lower z = z .lower
 sideOf Upper z = z .upper
 
+abbrev pub buffersOf : Side → Buffers → SideBuffers
+buffersOf Lower s = s .lower
+buffersOf Upper s = s .upper
+
 -- ---- the buffers as each call is lent them
 
 abbrev pub sideBuffers : List ℕ → List ℕ → List ℕ → List Float → SideBuffers

@@ -14,9 +14,9 @@ use Rattle.base.specs.Tests.{by-test}
 use Rattle.arithmetic.specs.Arith.{Fault, overflow, Out, ok, met, one, System, Row, none, Given, given, Work, Result}
 use Rattle.arithmetic.specs.Again.{Factors, givenBy}
 use Rattle.arithmetic.specs.Stopping.{_>>=_, at, pivot, less, load, start, subtract, stepAt, steps, scaled, finish, row, forward, rest, back, solved, sumLess, yAt, again, solvedAgain}
-use Rattle.arithmetic.specs.Factors.{bind-ok, ok-inj}
+use Rattle.arithmetic.specs.Factors.{bind-ok}
 use Rattle.arithmetic.specs.RowEnd.{finiteAll, products}
-use Rattle.arithmetic.specs.Sticky.{mul-left, sub-right, less-at, scaled-at}
+use Rattle.arithmetic.specs.Sticky.{ok-inj, mul-left, sub-right, less-at, scaled-at}
 
 -- ---- a row, and rows, with another y
 
@@ -51,7 +51,7 @@ withYs-more (q ∷ rows) (z ∷ ys) r y e = ap (λ l. withY q z ∷ l) (withYs-m
 -- ---- what passes a check is finite
 
 at-ok : (k : ℕ) (x v : Float) → at k x ≡ ok v → (x ≡ v) × (finite x ≡ true)
-at-ok k x v e = by-test (finite x) (λ f. (ok-inj x v (rw f at e), f)) (λ f. absurd (let g : met (overflow k) ≡ ok v = rw f at e in let z : _≡_ {A = ℕ} 0 1 = cc in omega arith))
+at-ok k x v e = by-test (finite x) (λ f. (ok-inj (rw f at e), f)) (λ f. absurd (let g : met (overflow k) ≡ ok v = rw f at e in let z : _≡_ {A = ℕ} 0 1 = cc in omega arith))
 
 factor-finite : (k : ℕ) (s m y v : Float) → less (at k) s m y ≡ ok v → finite m ≡ true
 factor-finite k s m y v e =
@@ -62,7 +62,7 @@ scaled-finite : (k : ℕ) (d : Float) (w : List Float) (js : List ℕ) (us : Lis
 scaled-finite k d w js us e = go (finiteAll (products d w js)) refl (sym (scaled-at k d w js) ∙ e)
   where
     go : (t : Bool) → finiteAll (products d w js) ≡ t → cond t (ok (products d w js)) (met (overflow k)) ≡ ok us → finiteAll us ≡ true
-    go true f g = rw (← ok-inj (products d w js) us g) f
+    go true f g = rw (← ok-inj g) f
     go false f g = absurd (let z : _≡_ {A = ℕ} 0 1 = cc in omega arith)
 
 -- ---- step 2
@@ -90,7 +90,7 @@ unfolding stepAt
 step-right k G H ys i a A h e =
     let p = bind-ok (less (at k) (a .s) (getD (a .w) i nan) (G .y i)) _ A e in
     let q = bind-ok (subtract (at k) (getD (a .w) i nan) (G .upper i) (G .u i) (a .w)) _ A (p .2) in
-    let r : worked (a .l ++ (getD (a .w) i nan ∷ [])) (q .0) (p .0) ≡ A = ok-inj _ A (q .2) in (
+    let r : worked (a .l ++ (getD (a .w) i nan ∷ [])) (q .0) (p .0) ≡ A = ok-inj (q .2) in (
       ap (λ (b : Work). b .l) (sym r),
       factor-finite k (a .s) (getD (a .w) i nan) (G .y i) (p .0) (p .1),
       λ s. rw (h .upper, h .u, h .y, ← r) (go (less (at k) s (getD (a .w) i nan) (getD ys i nan)) (q .0) (q .1)),
@@ -105,7 +105,7 @@ step-right k G H ys i a A h e =
 steps-right : (k : ℕ) (G H : Given) (ys : List Float) (is : List ℕ) (a A : Work) → ((i : ℕ) → List·Memᴰ i is → ReadsSame G H ys i) → steps (at k) G is a ≡ ok A → SteppedWith k H ys is a A
 unfolding steps sumLess pairs
 steps-right k G H ys [] a A h e =
-    let q = ok-inj a A e in
+    let q = ok-inj e in
     record { ms = []; l-is = ap (λ (b : Work). b .l) (sym q) ∙ sym (append-nil (a .l)); tame = refl; same = λ s. rw (← q) }
 steps-right k G H ys (i ∷ is) a A h e =
     let p = bind-ok (stepAt (at k) G i a) _ A e in
@@ -150,7 +150,7 @@ finish-right k above a r e =
     let d = bind-ok (at k (div binary64 one (p .0))) _ r (p .2) in
     let y = bind-ok (at k (mul binary64 (a .s) (d .0))) _ r (d .2) in
     let u = bind-ok (scaled (at k) (d .0) (a .w) above) _ r (y .2) in
-    let q : rowMade (a .l) (d .0) (y .0) (u .0) ≡ r = ok-inj _ r (u .2) in
+    let q : rowMade (a .l) (d .0) (y .0) (u .0) ≡ r = ok-inj (u .2) in
     let f = at-ok k (div binary64 one (p .0)) (d .0) (d .1) in
     subst (λ r. FinishedWith k above a r) q (record {
       l-is = refl;
@@ -233,7 +233,7 @@ row-right S b rows ys k r m n low e =
 -- the rows made stay
 forward-keeps : (S : System) (f k : ℕ) (rows R : List Row) → length rows ≡ k → forward S f k rows ≡ ok R → (length R ≡ k + f) × ((j : ℕ) → j < k → getD R j none ≡ getD rows j none)
 unfolding forward
-forward-keeps S zero k rows R m e = let q = ok-inj rows R e in (rw (← q) (omega arith), λ j l. rw q)
+forward-keeps S zero k rows R m e = let q = ok-inj e in (rw (← q) (omega arith), λ j l. rw q)
 forward-keeps S (suc f) k rows R m e =
     let r = bind-ok (row S rows k) (λ r. forward S f (suc k) (rows ++ (r ∷ []))) R e in
     let h = forward-keeps S f (suc k) (rows ++ (r .0 ∷ [])) R (omega (arith, length-append rows (r .0 ∷ []))) (r .2) in
@@ -258,7 +258,7 @@ forward-right : (S : System) (b : ℕ → Float) (F : Factors) (R : List Row) �
     → (f k : ℕ) (rows : List Row) (ys : List Float) → k + f ≤ S .n → length rows ≡ k → length ys ≡ k → forward S f k rows ≡ ok R
     → forward (other S b) f k (withYs rows ys) ≡ (again F f k ys >>= λ zs. ok (withYs R zs))
 unfolding forward again
-forward-right S b F R low h zero k rows ys l m n e = rw (← ok-inj rows R e)
+forward-right S b F R low h zero k rows ys l m n e = rw (← ok-inj e)
 forward-right S b F R low h (suc f) k rows ys l m n e =
     let r = bind-ok (row S rows k) (λ r. forward S f (suc k) (rows ++ (r ∷ []))) R e in
     let g : getD R k none ≡ r .0 = forward-keeps S f (suc k) (rows ++ (r .0 ∷ [])) R (omega (arith, length-append rows (r .0 ∷ []))) (r .2) .1 k (omega arith) ∙ getD-at rows (r .0) [] none k m in
@@ -272,7 +272,7 @@ forward-right S b F R low h (suc f) k rows ys l m n e =
 
 again-length : (F : Factors) (f k : ℕ) (ys zs : List Float) → again F f k ys ≡ ok zs → length zs ≡ length ys + f
 unfolding again
-again-length F zero k ys zs e = rw (← ok-inj ys zs e) (omega arith)
+again-length F zero k ys zs e = rw (← ok-inj e) (omega arith)
 again-length F (suc f) k ys zs e =
     let y = bind-ok (yAt F ys k) (λ y. again F f (suc k) (ys ++ (y ∷ []))) zs e in
     omega (arith, again-length F f (suc k) (ys ++ (y .0 ∷ [])) zs (y .2), length-append ys (y .0 ∷ []))
@@ -313,7 +313,7 @@ unfolding solved
 solved-rows S a e =
     let r = bind-ok (forward S (S .n) 0 []) _ a e in
     let z = bind-ok (back (given S (r .0)) (S .n) (replicate (S .n) nought)) _ a (r .2) in
-    r .1 ∙ ap (λ (a : Result). ok (a .rows)) (ok-inj _ a (z .2))
+    r .1 ∙ ap (λ (a : Result). ok (a .rows)) (ok-inj (z .2))
 
 pub solved-tame : (S : System) (a : Result) → ((k : ℕ) → k < S .n → LowerBelow S k) → solved S ≡ ok a → (k : ℕ) → k < S .n → Tame (getD (a .rows) k none)
 solved-tame S a low e k l =
@@ -367,7 +367,7 @@ solved-factors S b F a c low e h g =
     let f = solved-rows S a e in
     let long : length (a .rows) ≡ S .n = omega (arith, forward-keeps S (S .n) 0 [] (a .rows) refl f .0) in
     let q = bind-ok (again F (S .n) 0 []) (λ zs. ok (withYs (a .rows) zs)) (c .rows) (sym (forward-right S b F (a .rows) low (h .rows) (S .n) 0 [] [] (omega arith) refl refl f) ∙ solved-rows (other S b) c g) in
-    rw (← ok-inj (withYs (a .rows) (q .0)) (c .rows) (q .2)) (withYs-same (a .rows) (q .0) (omega (arith, again-length F (S .n) 0 [] (q .0) (q .1))))
+    rw (← ok-inj (q .2)) (withYs-same (a .rows) (q .0) (omega (arith, again-length F (S .n) 0 [] (q .0) (q .1))))
 
 -- ---- the s, y and back steps ask for no pivot
 

@@ -24,7 +24,7 @@ use Rattle.fill.specs.Fill.{Pattern}
 use Rattle.matrix.specs.Input.{Input, stored, ownOrder}
 use Rattle.matrix.specs.Questions.{askStructure, askSolve}
 use Rattle.arithmetic.specs.Arith.{Fault, zeroPivot, overflow, Out, ok, met, Result}
-use Rattle.arithmetic.specs.Factors.{ok-inj}
+use Rattle.arithmetic.specs.Sticky.{ok-inj}
 use Rattle.outcome.specs.Forms.{placedTo}
 use Rattle.outcome.specs.Buffers.{SideBuffers, Buffers, buffersOf, sizes, sideOf, askShape, scratchCleared, cleared, Outcome, ended, stop}
 use Rattle.outcome.specs.Structure.{counts, askPlaces, askPlace, sidePlaced, structured, structure}
@@ -218,5 +218,5 @@ refactoring-alike f g v w i n b s t h k p q =
       x = λ e.
           let l = refactor-x f v i n b s h e in
           let r = refactor-x g w i n b t k (ap numberOfEnd (sym same) ∙ e) in
-          l .2 ∙ ap (λ (a : Result). ownOrder (i .c) (i .n) (a .z)) (ok-inj (l .0) (r .0) (sym (l .1) ∙ r .1)) ∙ sym (r .2);
+          l .2 ∙ ap (λ (a : Result). ownOrder (i .c) (i .n) (a .z)) (ok-inj (sym (l .1) ∙ r .1)) ∙ sym (r .2);
     }

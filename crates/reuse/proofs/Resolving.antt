@@ -6,7 +6,7 @@ use Prim.Native.Nat.{ℕ, _+_}
 use native.Mathlib.Omega.{arith}
 use lib.ListN.{length, getD, length-replicate}
 use lib.Ieee.{Float, nan}
-use borrow.Author.Tests.{eq-eqb, eqb-true}
+use borrow.Author.Tests.{eq-eqb, eqb-true, not-false}
 use lib.Ieee.Scale.{finite}
 use Rattle.base.specs.Lists.{nought}
 use Rattle.base.specs.First.{first}
@@ -14,7 +14,7 @@ use Rattle.base.specs.FirstLaws.{first-all, first-none}
 use Rattle.base.specs.TableLaws.{table-ext}
 use Rattle.base.specs.All.{all, allWith}
 use Rattle.base.specs.AllLaws.{all-true}
-use Rattle.base.specs.Tests.{and-cases, not-true}
+use Rattle.base.specs.Tests.{and-cases}
 use Rattle.base.specs.Limits.{rowsWithin}
 use Rattle.base.specs.Answers.{numberOf, numberOfAnswer, numberOfEnd, holds, andThen}
 use Rattle.base.specs.declared.Form.{Form}
@@ -34,7 +34,7 @@ use Rattle.placement.specs.Placing.{firstAt}
 use Rattle.matrix.specs.Input.{Input, stored, rightAt, ownOrder}
 use Rattle.matrix.specs.Questions.{notFinite, ask3, ask4, ask5, ask6, askFinite, askPattern, askRows, askSolve, askRight}
 use Rattle.arithmetic.specs.Arith.{Fault, Out, ok, met, none, Result, Row}
-use Rattle.arithmetic.specs.Factors.{ok-inj}
+use Rattle.arithmetic.specs.Sticky.{ok-inj}
 use Rattle.arithmetic.specs.Stopping.{solved}
 use Rattle.arithmetic.specs.StoppingLaws.{solvedAgain-is}
 use Rattle.outcome.specs.Buffers.{Buffers, allBuffers, sizes, matrixTests, rightTests, bufferTests, askShape, scratchCleared, Outcome, ended, stop}
@@ -42,7 +42,7 @@ use Rattle.outcome.specs.Structure.{counts}
 use Rattle.outcome.specs.Solve.{system, listed, faultOf, multiplier, valuesOf, valuesKept, pivotsKept, kept, left, concluded, shape, solve}
 use Rattle.outcome.specs.Refactor.{askPresented, refilled, refactor}
 use Rattle.outcome.specs.Resolve.{factorsOf, withSolution, resolved, resolve}
-use Rattle.base.specs.FirstLaws.{holds-pass, then-pass}
+use Rattle.base.specs.FirstLaws.{holds-pass, both-pass}
 use Rattle.outcome.proofs.Asking.{number-some, all-append}
 use Rattle.outcome.proofs.Answers.{left-x, solve-left}
 use Rattle.outcome.proofs.Meaning.{listed-stops}
@@ -70,7 +70,7 @@ all-and a b = go true a ∙ with-and (all a) b
 shape-all : (f : Form) (i : Input) (z : Sizes) → shape f i z ≡ Pass → (rowsWithin (i .n) ≡ true) × (all (matrixTests i) ≡ true) × (all (bufferTests f (i .n) z) ≡ true)
 unfolding shape askShape
 shape-all f i z e =
-    let p = then-pass (holds (rowsWithin (i .n)) Rows) (holds (all (matrixTests i ++ bufferTests f (i .n) z)) Lengths) e in
+    let p = both-pass (holds (rowsWithin (i .n)) Rows) (holds (all (matrixTests i ++ bufferTests f (i .n) z)) Lengths) e in
     let q = and-cases (all (matrixTests i)) (all (bufferTests f (i .n) z)) (sym (all-and (matrixTests i) (bufferTests f (i .n) z)) ∙ holds-pass (all (matrixTests i ++ bufferTests f (i .n) z)) Lengths (p .1)) in
     (holds-pass (rowsWithin (i .n)) Rows (p .0), q .0, q .1)
 
@@ -92,17 +92,17 @@ module _ (i : Input) (b : List Float) (g : FiniteRight (i .n) b) where
   solve-asks : askSolve i ≡ Pass → askSolve (withNumbers i (i .values) b) ≡ Pass
   unfolding askSolve askPattern askRows ask6
   solve-asks e =
-      let p = then-pass (askPattern i) (andThen (ask6 (i .values) (i .b)) (askRows i)) e in
-      let q = then-pass (ask6 (i .values) (i .b)) (askRows i) (p .1) in
-      let r = then-pass (askFinite (i .values) 0) (askFinite (i .b) (length (i .values))) (q .0) in
+      let p = both-pass (askPattern i) (andThen (ask6 (i .values) (i .b)) (askRows i)) e in
+      let q = both-pass (ask6 (i .values) (i .b)) (askRows i) (p .1) in
+      let r = both-pass (askFinite (i .values) 0) (askFinite (i .b) (length (i .values))) (q .0) in
       rw (p .0, r .0, finite-pass (i .n) b (length (i .values)) g) (q .1)
 
   right-asks : askSolve i ≡ Pass → askRight (i .n) (i .r) (i .c) b ≡ Pass
   unfolding askSolve askPattern askRight
   right-asks e =
-      let p = then-pass (askPattern i) (andThen (ask6 (i .values) (i .b)) (askRows i)) e in
-      let q = then-pass (ask3 (i .n) (length (i .columns)) (i .starts)) (andThen (ask4 (i .n) (i .columns)) (ask5 (i .n) (i .r) (i .c))) (p .0) in
-      let r = then-pass (ask4 (i .n) (i .columns)) (ask5 (i .n) (i .r) (i .c)) (q .1) in
+      let p = both-pass (askPattern i) (andThen (ask6 (i .values) (i .b)) (askRows i)) e in
+      let q = both-pass (ask3 (i .n) (length (i .columns)) (i .starts)) (andThen (ask4 (i .n) (i .columns)) (ask5 (i .n) (i .r) (i .c))) (p .0) in
+      let r = both-pass (ask4 (i .n) (i .columns)) (ask5 (i .n) (i .r) (i .c)) (q .1) in
       rw (r .1) (finite-pass (i .n) b 0 g)
 
 -- ---- the answers
@@ -200,13 +200,13 @@ module _ (f : Form) (v : Keeps f) (i : Input) (s t : Buffers) (a : Result) (h : 
   factored-on (by-solve n m) =
       let j = withNumbers i (i .values) b in
       let q = solve-left f i s (ap (λ (o : Outcome Answer). numberOfAnswer (o .answer)) m) in
-      let same : t ≡ kept f i (sizes s) a = ap (λ (o : Outcome Answer). o .buffers) (sym m) ∙ q .2 ∙ ap (left f i (sizes s)) (ok-inj (q .0) a (sym (q .1) ∙ h .run)) ∙ left-kept f v i (sizes s) a in
+      let same : t ≡ kept f i (sizes s) a = ap (λ (o : Outcome Answer). o .buffers) (sym m) ∙ q .2 ∙ ap (left f i (sizes s)) (ok-inj (sym (q .1) ∙ h .run)) ∙ left-kept f v i (sizes s) a in
       by-solve (counts j)
       (solve-end f v i s t a h b g ∙ ap (concluded f j (sizes s) (s .x)) e
       ∙ ap (ended (Done (counts j))) (left-kept f v j (sizes s) c ∙ sym (solve-same f i b s a c factors-same) ∙ ap (λ (t : Buffers). withSolution t (ownOrder (i .c) (i .n) (c .z))) (sym same)))
   factored-on (by-refactor m) =
       let q = refactor-parts f i s t m in
-      let same : t ≡ filled-in f i s a = q .1 .2 ∙ ap (filled-in f i s) (ok-inj (q .1 .0) a (sym (q .1 .1) ∙ h .run)) in
+      let same : t ≡ filled-in f i s a = q .1 .2 ∙ ap (filled-in f i s) (ok-inj (sym (q .1 .1) ∙ h .run)) in
       by-refactor
       (refactor-end (q .0) ∙ ap (ended ends.Done) (sym (refactor-same f i b s a c factors-same) ∙ ap (λ (t : Buffers). withSolution t (ownOrder (i .c) (i .n) (c .z))) (sym same)))
 
@@ -227,11 +227,11 @@ resolving-on f v i s t c b g =
 own-finite : (i : Input) → all (matrixTests i) ≡ true → askSolve i ≡ Pass → FiniteRight (i .n) (i .b)
 unfolding askSolve ask6 askFinite notFinite
 own-finite i e q =
-    let p = then-pass (askPattern i) (andThen (ask6 (i .values) (i .b)) (askRows i)) q in
-    let r = then-pass (ask6 (i .values) (i .b)) (askRows i) (p .1) in
-    let w = then-pass (askFinite (i .values) 0) (askFinite (i .b) (length (i .values))) (r .0) in
+    let p = both-pass (askPattern i) (andThen (ask6 (i .values) (i .b)) (askRows i)) q in
+    let r = both-pass (ask6 (i .values) (i .b)) (askRows i) (p .1) in
+    let w = both-pass (askFinite (i .values) 0) (askFinite (i .b) (length (i .values))) (r .0) in
     let n : length (i .b) ≡ i .n = eqb-true (length (i .b)) (i .n) (all-true (matrixTests i) e 5) in
-    record { long = n; all = λ k l. not-true (finite (getD (i .b) k nan)) (first-none (notFinite (i .b)) (length (i .b)) (absent-pass _ _ (w .1)) k (omega arith)) }
+    record { long = n; all = λ k l. not-false (finite (getD (i .b) k nan)) (first-none (notFinite (i .b)) (length (i .b)) (absent-pass _ _ (w .1)) k (omega arith)) }
 
 pub resolving-same : ResolvingSame
 unfolding withSolution

@@ -8,12 +8,12 @@ use native.Mathlib.Numerals.{add-one}
 use lib.ListN.{length, getD, take, drop, replicate, length-append, length-replicate}
 use lib.Dec.{eqb}
 use lib.Ieee.{Float}
-use borrow.Author.Tests.{eqb-true, eq-eqb, leb-true, le-leb}
+use borrow.Author.Tests.{eqb-true, eq-eqb, leb-true, le-leb, not-false}
 use Rattle.base.specs.Lists.{table, padded}
 use Rattle.base.specs.First.{first}
 use Rattle.base.specs.FirstLaws.{first-all, first-none}
 use Rattle.base.specs.TableLaws.{getD-table}
-use Rattle.base.specs.Tests.{and-cases, not-true}
+use Rattle.base.specs.Tests.{and-cases}
 use Rattle.base.specs.Answers.{absent}
 use Rattle.base.specs.declared.Form.{Form}
 use Rattle.base.specs.declared.Form.the-variants.{Plain, Shared, ByRow}
@@ -27,14 +27,14 @@ use Rattle.base.specs.declared.Found.the-variants.{At, Nothing}
 use Rattle.base.specs.declared.SideSizes.{SideSizes}
 use Rattle.base.specs.declared.Sizes.{Sizes}
 use Rattle.fill.specs.Fill.{Pattern, filled}
-use Rattle.placement.specs.Placing.{runOf}
+use Rattle.placement.specs.Placing.{runOf, same}
 use Rattle.placement.specs.ListLaws.{part-append}
 use Rattle.placement.specs.PlacingLaws.{plain-starts}
 use Rattle.outcome.specs.Forms.{listsOf, rowsOf, placedTo, indexNeed, valueNeed}
 use Rattle.outcome.specs.Buffers.{SideBuffers, sideBuffers, Buffers, buffersOf, sideSizes, sizes, sideOf}
 use Rattle.outcome.specs.Structure.{fits, askPlace, askPlaces, runsKept, sidePlaced}
 use Rattle.outcome.specs.Placed.{lists-kept}
-use Rattle.outcome.specs.Refactor.{same, sameRun, sameAt, passes, differs, askPresented, revalued}
+use Rattle.outcome.specs.Refactor.{sameRun, sameAt, passes, differs, askPresented, revalued}
 use Rattle.outcome.specs.Resolve.{runsOf}
 use Rattle.base.specs.FirstLaws.{stop-pass}
 use Rattle.outcome.proofs.Places.{Passes}
@@ -197,6 +197,6 @@ module _ (f : Form) (P : Pattern) (n : ℕ) (t : Buffers) where
   pub presented-at : askPresented f P n t ≡ Pass → (k : ℕ) → k < n → (askPlace f P n (sizes t) k ≡ Pass) × ((side : Side) → PlaceStands f side P n (buffersOf side t) k)
   unfolding askPresented differs
   presented-at e k l =
-      let q = and-cases _ _ (not-true _ (first-none (differs f P n t) n (absent-pass _ _ e) k l)) in
+      let q = and-cases _ _ (not-false _ (first-none (differs f P n t) n (absent-pass _ _ e) k l)) in
       let p = and-cases _ _ (q .0) in
       (passes-pass _ (p .0), elim [ Lower ↦ same-stands f Lower P n (t .lower) k l (p .1) | Upper ↦ same-stands f Upper P n (t .upper) k l (q .1) ])
