@@ -1,5 +1,5 @@
 -- Before place 0 and after the last place, or the first that differs: the answer, and what stands in the presented stores.
-use mathlib.Core.Path.{_≡_, refl, ap, _∙_}
+use mathlib.Core.Path.{_≡_, _∙_}
 use mathlib.Core.Bool.{Bool, true, false, not, _&&_}
 use mathlib.Core.Logic.{⊎-elim}
 use mathlib.Core.List.{List}
@@ -13,7 +13,6 @@ use Rattle.base.specs.Tests.{and-cases, and-split, and-right, not-true, not-fal
 use Rattle.base.specs.Answers.{spot}
 use Rattle.base.specs.FirstLaws.{first-zero, first-at, first-all, first-none}
 use Rattle.base.specs.Scratch.{upperCuts, lowerCuts}
-use Rattle.base.specs.declared.Found.the-variants.{Nothing}
 use Rattle.base.specs.declared.Form.{Form}
 use Rattle.base.specs.declared.Form.the-variants.{Plain, Shared}
 use Rattle.base.specs.declared.Side.the-variants.{Lower, Upper}

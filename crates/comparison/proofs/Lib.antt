@@ -3,3 +3,4 @@ pub mod Lists
 pub mod Places
 pub mod Question
 pub mod Ends
+pub mod Witness

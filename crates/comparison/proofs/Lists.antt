@@ -7,7 +7,7 @@ use native.Mathlib.Numerals.{add-one}
 use lib.ListN.{length}
 use Rattle.base.specs.Tests.{and-cases}
 use Rattle.base.specs.declared.Side.{Side}
-use Rattle.fill.specs.Fill.{Pattern, filled, upperRow, lowerRow, flip}
+use Rattle.fill.specs.Fill.{Pattern, upperRow, lowerRow, flip}
 use Rattle.matrix.specs.Input.{Input}
 use Rattle.placement.specs.PlacingLaws.{room}
 use Rattle.marks.specs.Rows.{Renewed}
@@ -22,7 +22,7 @@ use Rattle.symbolic.specs.Places.{patternOf, cutsOf, RowFound, Keep, SideAt}
 use Rattle.symbolic.specs.declared.OpenRow.{OpenRow}
 use Rattle.symbolic.proofs.Keeping.{kept-next}
 use Rattle.symbolic.proofs.Sides.{side-next}
-use Rattle.comparison.specs.Comparing.{ListSame, LowerEnds, presentedSide, SideSame}
+use Rattle.comparison.specs.Comparing.{ListSame, LowerEnds, SideSame}
 
 -- the row that is lent is the place's, whether it is read or not
 pub row-by : (way : Way) (own row : List ℕ) → row ≡ own → RowIs way own row
