@@ -13,14 +13,19 @@ use Rattle.base.specs.declared.Form.{Form}
 use Rattle.base.specs.declared.Form.the-variants.{Plain, Shared, ByRow}
 use Rattle.base.specs.declared.Side.the-variants.{Lower}
 use Rattle.lent.specs.Reading.{Below}
-use Rattle.arithmetic.specs.Arith.{ok, met, overflow}
+use Rattle.arithmetic.specs.Arith.{Out, ok, met, overflow}
 use Rattle.arithmetic.specs.Again.{Factors}
 use Rattle.arithmetic.specs.Stopping.{any, rest, subtract, again}
 use Rattle.numeric.specs.Stores.{StoreShape}
 use Rattle.numeric.specs.Right.{Summed}
 use Rattle.numeric.specs.declared.Back.{Back}
 use Rattle.numeric.specs.declared.Back.the-variants.{Complete, Stopped}
+use Rattle.base.specs.Answers.{spot}
+use Rattle.base.specs.declared.Refusal.the-variants.{Overflow}
+use Rattle.base.specs.declared.Asked.{Asked}
+use Rattle.base.specs.declared.Asked.the-variants.{Pass, Stop}
 use Rattle.outcome.specs.Buffers.{SideBuffers}
+use Rattle.outcome.specs.Solve.{faultOf}
 use Rattle.outcome.specs.Resolve.{givenLower}
 use Rattle.factors.specs.Presented.{RunsLent, Sound}
 
@@ -57,6 +62,12 @@ abbrev pub valuesOf : SideBuffers → ℕ → List Float
 valuesOf b k = rowOf (b .starts) (b .values) k
 
 -- ---- steps at place k: scratch w
+
+-- whether L stands by columns
+abbrev pub byColumns : Form → Bool
+byColumns Plain = false
+byColumns Shared = true
+byColumns ByRow = true
 
 -- the sum, with no test of its results
 abbrev pub SumAt : Form → ℕ → ℕ → SideBuffers → List Float → Float → Type 0
@@ -103,4 +114,20 @@ RowSwept f n F b k false w = again F n 0 [] ≡ met (overflow k)
 
 abbrev pub Swept : Form → ℕ → Factors → SideBuffers → Back → List Float → Type 0
 Swept f n F b Complete w = Sweep f n F b n w
-Swept f n F b (Stopped k) w = again F n 0 [] ≡ met (overflow k)
+Swept f n F b (Stopped k) w = (k < n) × (again F n 0 [] ≡ met (overflow k))
+
+-- a stop names a place below n
+abbrev pub StoppedBelow : ℕ → Back → Type 0
+StoppedBelow n Complete = Unit {0}
+StoppedBelow n (Stopped k) = k < n
+
+-- ---- question 13
+
+abbrev pub backAsked : Back → Asked
+backAsked Complete = Pass
+backAsked (Stopped k) = Stop (Overflow (spot k))
+
+-- the answer a to 13, and z where it passes, if the arithmetic comes to o
+abbrev pub Solved : Out (List Float) → Asked → List Float → Type 0
+Solved (ok y) a z = (a ≡ Pass) × (z ≡ y)
+Solved (met q) a z = a ≡ Stop (faultOf q)

@@ -15,10 +15,12 @@ ghost use Rattle.arithmetic.specs.Again.{Factors};
 ghost use Rattle.arithmetic.specs.Stopping.{solvedAgain};
 ghost use Rattle.numeric.specs.Stores.{StoreShape, numberedBack};
 ghost use Rattle.factors.specs.Presented.{presented};
-ghost use Rattle.substitution.specs.Sweep.{RightLent, SumAt, Spread, Ready, Tied, Sweep, RowSwept, Swept, Solvable};
+ghost use Rattle.substitution.specs.Sweep.{byColumns, RightLent, SumAt, Spread, Ready, Tied, Sweep, RowSwept, Swept, Solvable, StoppedBelow, backAsked, Solved};
+use base::Asked;
 use base::Form;
 use base::Index;
 use base::Place;
+use base::Refusal;
 use base::is_finite;
 use numeric::Back;
 
@@ -32,6 +34,17 @@ fn load_right(n: usize, r: &[Index], b: &[f64], sums: &mut [f64])
         let i = lent::own_row(r, Place(k as u32));
         sums[k] = lent::row_right(b, i);
         k += 1;
+    }
+}
+
+// Tells whether L stands by columns.
+fn by_columns(form: Form) -> bool
+    ensures { λ t. ⌜ t ≡ byColumns form ⌝ }
+{
+    match form {
+        Form::Plain => false,
+        Form::Shared => true,
+        Form::ByRow => true,
     }
 }
 
@@ -50,15 +63,12 @@ fn sum_at(
     ensures { λ s. ⌜ SumAt form n k (sideBuffers (now (starts .entry)) (now (runs .entry)) (now (index .entry)) (now (values .entry))) (now (work .entry)) s ⌝ }
 {
     let s = work[k];
-    match form {
-        Form::Plain => {
-            let row = lent::list_at(starts, runs, index, k);
-            let l = lent::values_at(starts, values, k);
-            numeric::subtract_products(s, row, l, &work[n..])
-        }
-        Form::Shared => s,
-        Form::ByRow => s,
+    if by_columns(form) {
+        return s;
     }
+    let row = lent::list_at(starts, runs, index, k);
+    let l = lent::values_at(starts, values, k);
+    numeric::subtract_products(s, row, l, &work[n..])
 }
 
 // Subtracts y times column k from the sums, where L stands by columns.
@@ -76,12 +86,11 @@ fn spread(
     requires { ⌜ (k < n) × (length (now work) ≡ 3 * n) × StoreShape n (now starts) (now runs) (now index) (length (now values)) ⌝ }
     ensures { λ _. ⌜ Spread form n k (sideBuffers (now (starts .entry)) (now (runs .entry)) (now (index .entry)) (now (values .entry))) y (now (work .entry)) (now (work .exit)) ⌝ }
 {
-    if let Form::Plain = form {
-        return;
+    if by_columns(form) {
+        let column = lent::list_at(starts, runs, index, k);
+        let l = lent::values_at(starts, values, k);
+        numeric::axpy(&mut work[..n], column, l, y);
     }
-    let column = lent::list_at(starts, runs, index, k);
-    let l = lent::values_at(starts, values, k);
-    numeric::axpy(&mut work[..n], column, l, y);
 }
 
 // Writes y(k) and hands it on to the sums below; tells whether every result at k is finite. (A product or a sum that is not leaves the last sum so.)
@@ -140,8 +149,8 @@ fn substitute_rows(
     Back::Complete
 }
 
-// Solves with presented factors and a new right side: z into the last n slots of scratch, or the place at which a result is not finite.
-pub fn substitute(
+// Solves with presented factors: z into the last n slots of scratch, or the place at which a result is not finite.
+fn solve_rows(
     form: Form,
     n: usize,
     r: &[Index],
@@ -158,9 +167,10 @@ pub fn substitute(
     work: &mut [f64],
 ) -> Back
     requires { ⌜ Solvable form n (now r) (now b) (sideBuffers (now «lower_starts») (now «lower_runs») (now «lower_index») (now «lower_values»)) (sideBuffers (now «upper_starts») (now «upper_runs») (now «upper_index») (now «upper_values»)) (length (now d)) (length (now work)) ⌝ }
-    ensures { λ a. ⌜ numberedBack (drop (zFrom n) (now (work .exit))) a ≡ solvedAgain (factorsOf form (inputOf n [] [] [] (now (r .entry)) [] (now (b .entry)))
+    ensures { λ a. ⌜ (numberedBack (drop (zFrom n) (now (work .exit))) a ≡ solvedAgain (factorsOf form (inputOf n [] [] [] (now (r .entry)) [] (now (b .entry)))
         (presented (sideBuffers (now («lower_starts» .entry)) (now («lower_runs» .entry)) (now («lower_index» .entry)) (now («lower_values» .entry)))
-        (sideBuffers (now («upper_starts» .entry)) (now («upper_runs» .entry)) (now («upper_index» .entry)) (now («upper_values» .entry))) (now (d .entry)))) ⌝ }
+        (sideBuffers (now («upper_starts» .entry)) (now («upper_runs» .entry)) (now («upper_index» .entry)) (now («upper_values» .entry))) (now (d .entry)))))
+        × StoppedBelow n a ⌝ }
 {
     base::clear_f64(work);
     load_right(n, r, b, &mut work[..n]);
@@ -178,4 +188,56 @@ pub fn substitute(
         return Back::Stopped(k);
     }
     numeric::back_steps(work, n, upper_starts, upper_runs, upper_index, upper_values)
+}
+
+// Asks 13 of what the steps came to.
+fn overflow_of(n: usize, a: Back) -> Asked
+    requires { ⌜ (n ≤ maxRows) × StoppedBelow n a ⌝ }
+    ensures { λ o. ⌜ o ≡ backAsked a ⌝ }
+{
+    match a {
+        Back::Complete => Asked::Pass,
+        Back::Stopped(k) => Asked::Stop(Refusal::Overflow(Place(k as u32))),
+    }
+}
+
+// Solves with presented factors and a new right side, and asks 13: z into the last n slots of scratch.
+pub fn substitute(
+    form: Form,
+    n: usize,
+    r: &[Index],
+    b: &[f64],
+    lower_starts: &[u32],
+    lower_runs: &[u32],
+    lower_index: &[Index],
+    lower_values: &[f64],
+    upper_starts: &[u32],
+    upper_runs: &[u32],
+    upper_index: &[Index],
+    upper_values: &[f64],
+    d: &[f64],
+    work: &mut [f64],
+) -> Asked
+    requires { ⌜ Solvable form n (now r) (now b) (sideBuffers (now «lower_starts») (now «lower_runs») (now «lower_index») (now «lower_values»)) (sideBuffers (now «upper_starts») (now «upper_runs») (now «upper_index») (now «upper_values»)) (length (now d)) (length (now work)) ⌝ }
+    ensures { λ a. ⌜ Solved (solvedAgain (factorsOf form (inputOf n [] [] [] (now (r .entry)) [] (now (b .entry)))
+        (presented (sideBuffers (now («lower_starts» .entry)) (now («lower_runs» .entry)) (now («lower_index» .entry)) (now («lower_values» .entry)))
+        (sideBuffers (now («upper_starts» .entry)) (now («upper_runs» .entry)) (now («upper_index» .entry)) (now («upper_values» .entry))) (now (d .entry))))) a (drop (zFrom n) (now (work .exit))) ⌝ }
+{
+    let a = solve_rows(
+        form,
+        n,
+        r,
+        b,
+        lower_starts,
+        lower_runs,
+        lower_index,
+        lower_values,
+        upper_starts,
+        upper_runs,
+        upper_index,
+        upper_values,
+        d,
+        work,
+    );
+    overflow_of(n, a)
 }
