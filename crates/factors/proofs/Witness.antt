@@ -12,13 +12,13 @@ use Rattle.outcome.specs.Buffers.{sideBuffers}
 use Rattle.outcome.specs.Resolve.{givenList, givenValues, risesIn, misplaced, badList, badAt, askFactors}
 use Rattle.factors.specs.Presented.{FactorsLent, presented}
 
-abbrev starts : List ℕ
+abbrev pub starts : List ℕ
 starts = 0 ∷ 0 ∷ []
 
-abbrev runs : List ℕ
+abbrev pub runs : List ℕ
 runs = 0 ∷ []
 
-abbrev d : List Float
+abbrev pub d : List Float
 d = nought ∷ []
 
 pub plain : FactorsLent Plain 1 starts starts starts starts 1
