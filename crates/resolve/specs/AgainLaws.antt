@@ -210,11 +210,33 @@ module _ (i : Input) (x : List Float) (first : Asked) (o : Out (List Float)) (a�
         by (ok y) t = (t .0, e ∙ ap (ownOrder (i .c) (i .n)) (t .1))
         by (met q) t = never (isStop a) g (ap isStop t)
 
--- ---- the outcome
+-- the arithmetic does not see the column order
+given-any : (f : Form) (n : ℕ) (r c : List ℕ) (b : List Float) (s : Buffers) → factorsOf f (inputOf n [] [] [] r [] b) s ≡ factorsOf f (inputOf n [] [] [] r c b) s
+unfolding factorsOf rightAt
+given-any f n r c b s = refl
 
--- what is left of the call after 1, 2, 5 and 6
-unfoldable concluding : Form → Input → Buffers → Outcome Ended
-concluding f i s = stop Refused (askFactors f (i .n) s) (scratchCleared s) (resolved i s (judged (wholeAgain (factorsOf f i s))))
+-- what the stage after 1, 2, 5 and 6 leaves: t is the test of 15's answer, v that of 13's
+module _ (f : Form) (n : ℕ) (r c : List ℕ) (b : List Float) (l u : SideBuffers) (d x : List Float) (a₁ : Asked) (e₁ : a₁ ≡ askFactors f n (presented l u d)) (t : Bool) (et : t ≡ isStop a₁) where
+  pub again-15 : t ≡ true → Again f (inputOf n [] [] [] r c b) l u d x a₁ x
+  again-15 h = settles-15 (inputOf n [] [] [] r c b) x (askFactors f n (presented l u d)) (solvedAgain (factorsOf f (inputOf n [] [] [] r c b) (presented l u d))) a₁ e₁ (sym et ∙ h)
+
+  module _ (h : t ≡ false) (a : Asked) (z : List Float) (s : Solved (solvedAgain (factorsOf f (inputOf n [] [] [] r [] b) (presented l u d))) a z) (v : Bool) (ev : v ≡ isStop a) where
+    known : Solved (solvedAgain (factorsOf f (inputOf n [] [] [] r c b) (presented l u d))) a z
+    known = rw (given-any f n r c b (presented l u d)) at s
+
+    pub again-13 : v ≡ true → Again f (inputOf n [] [] [] r c b) l u d x a x
+    again-13 g =
+        settles-13 (inputOf n [] [] [] r c b) x (askFactors f n (presented l u d)) (solvedAgain (factorsOf f (inputOf n [] [] [] r c b) (presented l u d))) a₁ e₁ (sym et ∙ h) a z known (sym ev ∙ g)
+
+    pub again-x : v ≡ false → (x' : List Float) → x' ≡ ownOrder c n z → Again f (inputOf n [] [] [] r c b) l u d x a x'
+    again-x g x' e =
+        settles-x (inputOf n [] [] [] r c b) x (askFactors f n (presented l u d)) (solvedAgain (factorsOf f (inputOf n [] [] [] r c b) (presented l u d))) a₁ e₁ (sym et ∙ h) a z known (sym ev ∙ g) x' e
+
+-- c is what the answer is found to be
+pub end-as : (a c : Asked) (r : Ended) → a ≡ c → r ≡ endOf c → r ≡ endOf a
+end-as a c r e h = rw e h
+
+-- ---- the outcome
 
 settled-as : (i : Input) (s : Buffers) (first : Asked) (o : Out (List Float)) (a : Asked) (x' : List Float) → Settles i (s .x) first o a x'
     → ended (endOf a) (withSolution s x') ≡ stop Refused first (scratchCleared s) (resolved i s o)
@@ -277,7 +299,7 @@ module _ (f : Form) (i : Input) (l u : SideBuffers) (d x w v : List Float) (m t 
     unfolding resolve withSolution blank
     ends-as e =
         rw (c .0, c .1, lw, lm)
-        (settled-as i (allBuffers l u d x w m) _ _ k x' e ∙ goes-on (againShape f i (sizes (allBuffers l u d x w m))) (askRight (i .n) (i .r) (i .c) (i .b)) a _ (scratchCleared (allBuffers l u d x w m)) _ (g .answer) h)
+        (settled-as i (allBuffers l u d x w m) (askFactors f (i .n) (allBuffers l u d x w m)) (judged (wholeAgain (factorsOf f i (allBuffers l u d x w m)))) k x' e ∙ goes-on (againShape f i (sizes (allBuffers l u d x w m))) (askRight (i .n) (i .r) (i .c) (i .b)) a _ (scratchCleared (allBuffers l u d x w m)) _ (g .answer) h)
 
     pub resolve-ends : Settles i x (askFactors f (i .n) (presented l u d)) (solvedAgain (factorsOf f i (presented l u d))) k x' → (r : Ended) → r ≡ endOf k
         → ended r (allBuffers l u d x' w₂ m₂) ≡ resolve f i (allBuffers l u d x w m)
