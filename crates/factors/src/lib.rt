@@ -1,7 +1,7 @@
 // Question 15: are presented lists well shaped, and presented factors finite? The plain form passes its list starts as run starts.
 ghost use mathlib.Core.Path.{_≡_};
 ghost use mathlib.Core.Bool.{not};
-ghost use Prim.Native.Nat.{_+_, _<_, _≤_};
+ghost use Prim.Native.Nat.{_+_, _<_};
 ghost use lib.ListN.{length};
 ghost use Rattle.arithmetic.specs.RowEnd.{finiteAll};
 ghost use Rattle.base.specs.Limits.{maxRows};

@@ -2,27 +2,26 @@
 use mathlib.Core.Path.{_≡_, refl, sym, ap, _∙_}
 use mathlib.Core.Bool.{Bool, true, false, _&&_}
 use mathlib.Core.List.{List, [], _++_}
-use Prim.Native.Nat.{ℕ, _+_, _*_, _≤_}
+use Prim.Native.Nat.{ℕ, _≤_}
 use native.Mathlib.Omega.{arith}
-use lib.ListN.{length, getD, drop}
+use lib.ListN.{length}
 use lib.Dec.{leb}
 use lib.Ieee.{Float}
 use borrow.Author.Tests.{eqb-true, leb-true}
 use Rattle.base.specs.All.{all}
 use Rattle.base.specs.AllLaws.{all-true}
-use Rattle.base.specs.Lists.{blank, nought}
+use Rattle.base.specs.Lists.{blank}
 use Rattle.base.specs.Tests.{and-cases}
 use Rattle.base.specs.Answers.{andThen}
 use Rattle.base.specs.Limits.{maxRows, rowsWithin}
-use Rattle.base.specs.Scratch.{zFrom}
 use Rattle.base.specs.declared.Form.{Form}
-use Rattle.base.specs.declared.Form.the-variants.{Plain, Shared, ByRow}
+use Rattle.base.specs.declared.Form.the-variants.{Plain, Shared}
 use Rattle.base.specs.declared.Sizes.{Sizes}
 use Rattle.base.specs.declared.Asked.{Asked}
 use Rattle.base.specs.declared.Asked.the-variants.{Pass, Stop}
 use Rattle.base.specs.declared.Refusal.the-variants.{Rows, Lengths}
 use Rattle.base.specs.declared.Ended.{Ended}
-use Rattle.base.specs.declared.Ended.the-variants.{Done, Refused}
+use Rattle.base.specs.declared.Ended.the-variants.{Refused}
 use Rattle.matrix.specs.Input.{Input, inputOf, rightAt, ownOrder}
 use Rattle.matrix.specs.Questions.{askRight}
 use Rattle.matrix.specs.OrderLaws.{order-below}
@@ -31,12 +30,11 @@ use Rattle.arithmetic.specs.Again.{wholeAgain}
 use Rattle.arithmetic.specs.Stopping.{solvedAgain}
 use Rattle.arithmetic.specs.StoppingLaws.{solvedAgain-is}
 use Rattle.outcome.specs.Buffers.{SideBuffers, sideBuffers, Buffers, allBuffers, sizes, rightTests, listTests, vectorTests, scratchTests, bufferTests, askShape, scratchCleared, Outcome, ended, stop}
-use Rattle.outcome.specs.Solve.{faultOf}
-use Rattle.outcome.specs.Resolve.{givenList, givenValues, misplaced, badList, badAt, askFactors, hit, factorsOf, withSolution, resolved, resolve}
+use Rattle.outcome.specs.Resolve.{givenList, givenValues, misplaced, badList, badAt, askFactors, factorsOf, withSolution, resolved, resolve}
 use Rattle.questions.specs.Lent.{RightLent}
 use Rattle.questions.specs.Settled.{Finite}
 use Rattle.questions.specs.SettledLaws.{settledRight}
-use Rattle.factors.specs.Presented.{FactorsLent, presented}
+use Rattle.factors.specs.Presented.{presented}
 use Rattle.factors.specs.PresentedLaws.{lower-sound, upper-sound}
 use Rattle.substitution.specs.Sweep.{Solvable, Solved}
 use Rattle.stages.specs.LengthLaws.{all-next}

@@ -1,10 +1,8 @@
 -- What the functions require is met by computed values: one place with empty lists, in the shared form, as question 15 passes it.
-use mathlib.Core.Path.{_≡_, refl}
-use mathlib.Core.List.{List, [], _∷_}
-use Prim.Native.Nat.{ℕ, zero, suc}
+use mathlib.Core.Path.{refl}
+use mathlib.Core.List.{[], _∷_}
+use Prim.Native.Nat.{zero, suc}
 use native.Mathlib.Omega.{arith}
-use lib.Ieee.{Float}
-use Rattle.base.specs.Lists.{nought}
 use Rattle.base.specs.declared.Form.the-variants.{Shared}
 use Rattle.outcome.specs.Buffers.{sideBuffers}
 use Rattle.factors.specs.PresentedLaws.{lower-sound, upper-sound}

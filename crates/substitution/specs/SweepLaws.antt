@@ -2,7 +2,7 @@
 use mathlib.Core.Path.{_≡_, refl, sym, ap, _∙_}
 use mathlib.Core.Bool.{Bool, true, false, true≢false}
 use mathlib.Core.List.{List, [], _∷_, _++_}
-use Prim.Native.Nat.{ℕ, zero, suc, _+_, _-_, _*_, _<_, _≤_}
+use Prim.Native.Nat.{ℕ, suc, _+_, _-_, _*_, _<_}
 use native.Mathlib.Nat.{sub-zero}
 use native.Mathlib.Numerals.{add-one}
 use native.Mathlib.Omega.{arith}
@@ -11,7 +11,7 @@ use lib.ListN.{length, getD, set, take, drop, replicate, length-drop}
 use lib.Seq.{getD-take, getD-drop, getD-set-same, getD-set-other, take-suc-set, take-set-le, take-at, drop-at, drop-set-add, drop-set-lt, length-take-le}
 use lib.Ieee.{Float, nan, binary64, mul}
 use lib.Ieee.Scale.{finite}
-use Rattle.base.specs.Lists.{has, asc, pairs, table, listAt, rowOf, nought}
+use Rattle.base.specs.Lists.{has, asc, pairs, table, nought}
 use Rattle.base.specs.TableLaws.{getD-table, length-table}
 use Rattle.base.specs.Scratch.{zFrom}
 use Rattle.base.specs.ScratchLaws.{drop-twice}
@@ -20,9 +20,9 @@ use Rattle.base.specs.declared.Form.the-variants.{Plain, Shared, ByRow}
 use Rattle.base.specs.declared.Side.the-variants.{Lower}
 use Rattle.arithmetic.specs.Arith.{Fault, Out, ok, met, overflow}
 use Rattle.arithmetic.specs.Again.{Factors, givenBy}
-use Rattle.arithmetic.specs.Stopping.{Check, any, at, less, subtract, rest, back, sumLess, yAt, again, solvedAgain}
+use Rattle.arithmetic.specs.Stopping.{Check, any, at, less, rest, back, sumLess, yAt, again, solvedAgain}
 use Rattle.arithmetic.specs.Sticky.{rest-at}
-use Rattle.numeric.specs.Stores.{StoreShape, storeGiven, numberedBack}
+use Rattle.numeric.specs.Stores.{storeGiven, numberedBack}
 use Rattle.numeric.specs.StoreLaws.{ready, drop-replicate}
 use Rattle.numeric.specs.RowLaws.{bind-same}
 use Rattle.numeric.specs.PassLaws.{back-same}

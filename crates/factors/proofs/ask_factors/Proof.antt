@@ -1,7 +1,5 @@
 use mathlib.Core.Path.{_≡_, refl}
-use mathlib.Core.List.{List}
-use Prim.Native.Nat.{ℕ, _-_, _≤_}
-use lib.Ieee.{Float}
+use Prim.Native.Nat.{_-_, _≤_}
 use Rattle.base.specs.First.{first}
 use Rattle.base.specs.FirstLaws.{first-zero, first-more}
 use Rattle.base.specs.declared.Found.the-variants.{Nothing}
