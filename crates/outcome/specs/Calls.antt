@@ -6,9 +6,11 @@ use lib.Ieee.{Float}
 use Rattle.matrix.specs.Input.{Input}
 use Rattle.base.specs.declared.Form.the-variants.{Plain, Shared, ByRow}
 use Rattle.base.specs.declared.Answer.{Answer}
+use Rattle.base.specs.declared.Ended.{Ended}
 use Rattle.outcome.specs.Buffers.{plainBuffers, sharedBuffers, rowBuffers, ended}
 use Rattle.outcome.specs.Structure.{structure}
 use Rattle.outcome.specs.Solve.{Solves}
+use Rattle.outcome.specs.Resolve.{resolve}
 
 -- the lists: ls, li, lv list starts, index and value store below, us, ui, uv above, lr and ur run starts, d, x, and w and m the scratch; a dash marks the exit
 
@@ -37,3 +39,12 @@ abbrev pub SolvesByRow : Input → (us ur ui : List ℕ) (uv d x w : List Float)
     → Answer → (us' ur' ui' : List ℕ) (uv' d' x' w' : List Float) (m' : List ℕ) → Type 0
 SolvesByRow i us ur ui uv d x w m a us' ur' ui' uv' d' x' w' m' =
     Solves ByRow i (rowBuffers us ur ui uv d x w m) a (rowBuffers us' ur' ui' uv' d' x' w' m')
+
+-- another right side writes x and the scratch only
+abbrev pub ResolvesPlain : Input → (ls li : List ℕ) (lv : List Float) (us ui : List ℕ) (uv d x w : List Float) (m : List ℕ) → Ended → (x' w' : List Float) (m' : List ℕ) → Type 0
+ResolvesPlain i ls li lv us ui uv d x w m a x' w' m' =
+    ended a (plainBuffers ls li lv us ui uv d x' w' m') ≡ resolve Plain i (plainBuffers ls li lv us ui uv d x w m)
+
+abbrev pub ResolvesShared : Input → (ls lr li : List ℕ) (lv : List Float) (us ur ui : List ℕ) (uv d x w : List Float) (m : List ℕ) → Ended → (x' w' : List Float) (m' : List ℕ) → Type 0
+ResolvesShared i ls lr li lv us ur ui uv d x w m a x' w' m' =
+    ended a (sharedBuffers ls lr li lv us ur ui uv d x' w' m') ≡ resolve Shared i (sharedBuffers ls lr li lv us ur ui uv d x w m)

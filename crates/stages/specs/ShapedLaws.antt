@@ -39,10 +39,10 @@ use Rattle.stages.specs.Shaped.{sideOf, sizesOf, structureShape, SideFit
 
 -- ---- the lengths, from the tests
 
-split : (a b : List Bool) → all (a ++ b) ≡ true → (all a ≡ true) × (all b ≡ true)
+pub split : (a b : List Bool) → all (a ++ b) ≡ true → (all a ≡ true) × (all b ≡ true)
 split a b e = and-cases (all a) (all b) (sym (all-join a b) ∙ e)
 
-sides-fit : (f : Form) (n : ℕ) (z : Sizes) → all (listTests f n z) ≡ true → LowerFits f n (z .lower) × SideFits f n (z .upper)
+pub sides-fit : (f : Form) (n : ℕ) (z : Sizes) → all (listTests f n z) ≡ true → LowerFits f n (z .lower) × SideFits f n (z .upper)
 sides-fit Plain n z e =
     let t = all-true (listTests Plain n z) e in (
       record { starts = eqb-true _ _ (t 0); index = leb-true _ _ (t 1); values = leb-true _ _ (t 2); runs = tt },
@@ -59,7 +59,7 @@ sides-fit ByRow n z e =
       record { starts = eqb-true _ _ (t 0); index = leb-true _ _ (t 1); values = leb-true _ _ (t 2); runs = eqb-true _ _ (t 3) },
     )
 
-passed : (n : ℕ) (tests : List Bool) → askShape n tests ≡ Pass → (rowsWithin n ≡ true) × (all tests ≡ true)
+pub passed : (n : ℕ) (tests : List Bool) → askShape n tests ≡ Pass → (rowsWithin n ≡ true) × (all tests ≡ true)
 unfolding askShape
 passed n tests e = let a = both-pass (holds (rowsWithin n) Rows) (holds (all tests) Lengths) e in (holds-pass _ Rows (a .0), holds-pass _ Lengths (a .1))
 

@@ -74,7 +74,7 @@ fn lower_fits(form: Form, n: usize, side: SideSizes) -> bool
 }
 
 // Tells whether both sides are as long as stated.
-fn sides_fit(form: Form, n: usize, sizes: Sizes) -> bool
+pub fn sides_fit(form: Form, n: usize, sizes: Sizes) -> bool
     requires { ⌜ n ≤ maxRows ⌝ }
     ensures { λ t. ⌜ t ≡ all (listTests form n sizes) ⌝ }
 {
@@ -86,14 +86,14 @@ fn sides_fit(form: Form, n: usize, sizes: Sizes) -> bool
 }
 
 // Tells whether d and x are as long as stated.
-fn vectors_fit(n: usize, sizes: Sizes) -> bool
+pub fn vectors_fit(n: usize, sizes: Sizes) -> bool
     ensures { λ t. ⌜ t ≡ all (vectorTests n sizes) ⌝ }
 {
     (sizes.d == n) & (sizes.x == n)
 }
 
 // Tells whether scratch is as long as stated: "3n binary64 and 8n + 8 32-bit slots".
-fn scratch_fits(n: usize, sizes: Sizes) -> bool
+pub fn scratch_fits(n: usize, sizes: Sizes) -> bool
     requires { ⌜ n ≤ maxRows ⌝ }
     ensures { λ t. ⌜ t ≡ all (scratchTests n sizes) ⌝ }
 {

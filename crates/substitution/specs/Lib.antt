@@ -1,0 +1,4 @@
+pub mod Sweep
+pub mod LowerLaws
+pub mod SweepLaws
+pub mod EndLaws
