@@ -48,7 +48,7 @@ stored-held {way} {P} {n} {values} {k} {index₀} {starts} {runs} {index} {e} l 
   list = λ i b. list-held h n (suited-of way P n) l i b;
   read = λ i b.
       let r = list-readable h n (suited-of way P n) l i b in
-      record { has-run = r .run-in; has-start = r .start-in; rise = r .rises; inside = omega (arith, r .inside, length-take-le (e .used) index (omega (arith, h .used-in, index-long h)), h .used-in, index-long h) };
+      record { has-run = r .has-run; has-start = r .has-start; rise = r .rise; inside = omega (arith, r .inside, length-take-le (e .used) index (omega (arith, h .used-in, index-long h)), h .used-in, index-long h) };
 }
 
 -- a part of scratch, by its ends
