@@ -7,11 +7,11 @@ use Prim.Native.Nat.{ℕ, _<_, _≤_}
 use native.Mathlib.Omega.{arith}
 use lib.ListN.{length, getD}
 use lib.Dec.{eqb}
-use borrow.Author.Tests.{eqb-true}
+use borrow.Author.Tests.{eqb-true, not-true, not-false}
 use Rattle.base.specs.Lists.{blank}
-use Rattle.base.specs.Tests.{and-cases, and-split, and-right, not-true, not-false}
+use Rattle.base.specs.Tests.{and-cases, and-split, and-right}
 use Rattle.base.specs.Answers.{spot}
-use Rattle.base.specs.FirstLaws.{first-zero, first-at, first-all, first-none}
+use Rattle.base.specs.FirstLaws.{first-zero, first-at, first-all, first-none, stop-pass}
 use Rattle.base.specs.Scratch.{upperCuts, lowerCuts}
 use Rattle.base.specs.declared.Form.{Form}
 use Rattle.base.specs.declared.Form.the-variants.{Plain, Shared}
@@ -26,7 +26,6 @@ use Rattle.marks.specs.Marks.{Fresh}
 use Rattle.questions.specs.Lent.{invertedAt}
 use Rattle.outcome.specs.Buffers.{Buffers}
 use Rattle.outcome.specs.Refactor.{differs, askPresented}
-use Rattle.outcome.proofs.Asking.{stop-pass}
 use Rattle.storing.specs.Ways.{wayOf}
 use Rattle.storing.specs.Held.{presented}
 use Rattle.storing.specs.HeldLaws.{holding-none}
@@ -93,7 +92,7 @@ lower-start Sharing i lv ls lr li s z e c = (lists-start Sharing (flip (stored i
 module _ {way : Way} {i : Input} {ls lr li : List ℕ} {lv : ℕ} {us ur ui : List ℕ} {uv marks : ℕ} (p : Presenting way i ls lr li lv us ur ui uv marks) where
   pub met-start : (b : Bool) → b ≡ (eqb (getD ls 0 0) 0 && eqb (getD us 0 0) 0) → not b ≡ false → (s : List ℕ) → BegunBy way i s → (g : Reached) → g ≡ nothingMet → Met way i lv uv 0 ls lr li us ur ui s g
   met-start b e f s c g q =
-      let r = and-cases (eqb (getD ls 0 0) 0) (eqb (getD us 0 0) 0) (rw e at (not-true b f)) in
+      let r = and-cases (eqb (getD ls 0 0) 0) (eqb (getD us 0 0) 0) (rw e at (not-false b f)) in
       rw q (record {
         same = first-zero (otherAt way i lv uv ls lr li us ur ui);
         most = omega arith;
@@ -125,7 +124,7 @@ module _ {way : Way} {i : Input} {ls lr li : List ℕ} {lv : ℕ} {us ur ui : Li
 
   -- list start 0 of a side is wrong
   pub compared-first : (b : Bool) → b ≡ (eqb (getD ls 0 0) 0 && eqb (getD us 0 0) 0) → not b ≡ true → (s : List ℕ) → Compared way i ls lr li lv us ur ui uv s (Stop (OtherStructure (spot 0)))
-  compared-first b e f s = stop-at 0 (omega (arith, p .matrix .some)) (λ j l. absurd (omega arith)) (start-other way i lv uv ls lr li us ur ui (rw e at (not-false b f))) s
+  compared-first b e f s = stop-at 0 (omega (arith, p .matrix .some)) (λ j l. absurd (omega arith)) (start-other way i lv uv ls lr li us ur ui (rw e at (not-true b f))) s
 
   -- place k differs
   pub compared-stop : (k : ℕ) (s₀ : List ℕ) (g : Reached) → Met way i lv uv k ls lr li us ur ui s₀ g → k < i .n → otherAt way i lv uv ls lr li us ur ui k ≡ true → (s : List ℕ)

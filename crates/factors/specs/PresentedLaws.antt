@@ -11,11 +11,11 @@ use lib.Seq.{drop-cons}
 use lib.Dec.{leb, ltb, eqb}
 use lib.Ieee.{Float, nan}
 use lib.Ieee.Scale.{finite}
-use borrow.Author.Tests.{lt-ltb, le-ltb, ltb-true, ltb-false, leb-true}
+use borrow.Author.Tests.{lt-ltb, le-ltb, ltb-true, ltb-false, leb-true, not-true, not-false}
 use Rattle.base.specs.Lists.{listAt, rowOf}
 use Rattle.base.specs.Answers.{absent}
-use Rattle.base.specs.FirstLaws.{first-none}
-use Rattle.base.specs.Tests.{or-false, and-cases, not-true, not-false}
+use Rattle.base.specs.FirstLaws.{first-none, stop-pass}
+use Rattle.base.specs.Tests.{or-false, and-cases}
 use Rattle.base.specs.declared.Form.{Form}
 use Rattle.base.specs.declared.Form.the-variants.{Plain, Shared, ByRow}
 use Rattle.base.specs.declared.Side.{Side}
@@ -24,7 +24,6 @@ use Rattle.base.specs.declared.Asked.the-variants.{Pass}
 use Rattle.base.specs.declared.Found.{Found}
 use Rattle.base.specs.declared.Found.the-variants.{At, Nothing}
 use Rattle.base.specs.declared.Refusal.{Refusal}
-use Rattle.outcome.proofs.Asking.{stop-pass}
 use Rattle.lent.specs.Reading.{ListIn, Below}
 use Rattle.numeric.specs.Stores.{Ascending}
 use Rattle.arithmetic.specs.RowEnd.{finiteAll}
@@ -162,10 +161,10 @@ place-good f n s k x y z ex ey ez = rw (ex, ey, ez) (both-good (badList f Lower 
 
 -- the test turned round
 pub was-bad : (b t : Bool) → b ≡ not t → b ≡ false → t ≡ true
-was-bad b t e h = not-true t (sym e ∙ h)
+was-bad b t e h = not-false t (sym e ∙ h)
 
 pub was-good : (b t : Bool) → b ≡ not t → b ≡ true → t ≡ false
-was-good b t e h = not-false t (sym e ∙ h)
+was-good b t e h = not-true t (sym e ∙ h)
 
 -- ---- what a pass settles
 
@@ -186,7 +185,7 @@ module _ (f : Form) (w : Side) (n : ℕ) (starts runs index : List ℕ) (values 
   parts k l =
       let a = or-false _ (not (finiteAll (rowOf starts values k))) (sym (bad-is starts runs index values k f w n (h .runs-are)) ∙ good k l) in
       let b = or-false _ (not (rightSide f w n k (listAt starts runs index k))) (a .0) in
-      (b .0, not-true _ (b .1))
+      (b .0, not-false _ (b .1))
 
   stands : (k : ℕ) → k < n → ListIn starts runs (length index) k × ListIn starts starts (length values) k
   stands k l = inside starts runs index values k (omega (arith, h .runs-size)) (omega (arith, h .starts-size)) (parts k l .0)
