@@ -39,6 +39,10 @@ bind-met : {A B : Type 0} (o : Out A) (f g : A → Out B) (q : Fault) → ((a : 
 bind-met (met p) f g q e h = cc
 bind-met (ok a) f g q e h = e a h
 
+bind-assoc : {A B C : Type 0} (o : Out A) (f : A → Out C) (g : A → Out B) (next : B → Out C) → ((a : A) → f a ≡ (g a >>= next)) → (o >>= f) ≡ ((o >>= g) >>= next)
+bind-assoc (met q) f g next e = refl
+bind-assoc (ok a) f g next e = e a
+
 forward-add : (S : System) (m k : ℕ) (rows : List Row) → forward S (suc m) k rows ≡ forward S m k rows >>= (λ out. row S out (k + m) >>= (λ r. ok (out ++ (r ∷ []))))
 unfolding forward
 forward-add S zero k rows = let e : k + zero ≡ k = omega arith in rw e
