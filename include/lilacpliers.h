@@ -37,7 +37,8 @@
  *
  * What the buffers hold afterwards, unless a call says otherwise:
  *   LP_ROWS, LP_LENGTHS                nothing but the report was written
- *   LP_STARTS to LP_REPEATED           scratch is zero, all else untouched
+ *   LP_STARTS to LP_REPEATED,
+ *   LP_OTHER_STRUCTURE, LP_BAD_FACTORS scratch is zero, all else untouched
  *   LP_NULL_PIVOT to LP_OVERFLOW       scratch is zero, and so is every other buffer but x that the call writes
  *   done                               scratch is zero, and so are the unused slots of what the call writes
  * x is untouched by every refusal. A zero number is +0.
@@ -54,7 +55,7 @@ extern "C" {
 
 /* The version of this interface. It is raised whenever a function, a number or what a buffer holds changes, so that
  * a caller can refuse to be compiled against another one. */
-#define LP_VERSION 1
+#define LP_VERSION 2
 
 /* The limits of n, of e and of the slots of a store. */
 #define LP_MAX_ROWS 4096
@@ -76,6 +77,8 @@ extern "C" {
 #define LP_UPPER_SLOTS 11     /* the upper lists do not fit index or value store: k */
 #define LP_ZERO_PIVOT 12      /* the pivot is a zero of either sign: k */
 #define LP_OVERFLOW 13        /* a result is not finite: the k at work */
+#define LP_OTHER_STRUCTURE 14 /* presented lists are not those that the structure call places: k */
+#define LP_BAD_FACTORS 15     /* presented lists are ill shaped, or a factor is not finite: k */
 #define LP_FILE_LENGTH 16     /* the file's length is no positive multiple of 512 up to 2^41 */
 #define LP_BLOCK 17           /* a block's number or checks are wrong: its number */
 #define LP_FILE_SHAPE 18      /* e is over its limit, or blocks and closing zeros do not fit n and e */
@@ -184,6 +187,93 @@ uint32_t lp_solve_row(
     uint16_t *upper_index, size_t upper_index_len,
     double *upper_values, size_t upper_values_len,
     double *d, size_t d_len,
+    double *x, size_t x_len,
+    double *scratch_f64, size_t scratch_f64_len,
+    uint32_t *scratch_u32, size_t scratch_u32_len,
+    uint64_t *report, size_t report_len);
+
+/* Factors new values over lists that lp_structure_plain or lp_solve_plain left for the same pattern and orders, and
+ * finds one solution. Asks 1 to 8, 14, then 12 and 13; 14 also where the structure call would give 9 to 11. Reads list
+ * starts and index stores, and never changes them; writes value stores, d, x and scratch. report[0] is the place; there
+ * are no counts. */
+uint32_t lp_refactor_plain(
+    size_t n,
+    const uint32_t *starts, size_t starts_len,
+    const uint16_t *columns, size_t columns_len,
+    const double *values, size_t values_len,
+    const uint16_t *r, size_t r_len,
+    const uint16_t *c, size_t c_len,
+    const double *b, size_t b_len,
+    const uint32_t *lower_starts, size_t lower_starts_len,
+    const uint16_t *lower_index, size_t lower_index_len,
+    double *lower_values, size_t lower_values_len,
+    const uint32_t *upper_starts, size_t upper_starts_len,
+    const uint16_t *upper_index, size_t upper_index_len,
+    double *upper_values, size_t upper_values_len,
+    double *d, size_t d_len,
+    double *x, size_t x_len,
+    double *scratch_f64, size_t scratch_f64_len,
+    uint32_t *scratch_u32, size_t scratch_u32_len,
+    uint64_t *report, size_t report_len);
+
+/* Does the same over the shared form's lists; run starts are read too. */
+uint32_t lp_refactor_shared(
+    size_t n,
+    const uint32_t *starts, size_t starts_len,
+    const uint16_t *columns, size_t columns_len,
+    const double *values, size_t values_len,
+    const uint16_t *r, size_t r_len,
+    const uint16_t *c, size_t c_len,
+    const double *b, size_t b_len,
+    const uint32_t *lower_starts, size_t lower_starts_len,
+    const uint32_t *lower_runs, size_t lower_runs_len,
+    const uint16_t *lower_index, size_t lower_index_len,
+    double *lower_values, size_t lower_values_len,
+    const uint32_t *upper_starts, size_t upper_starts_len,
+    const uint32_t *upper_runs, size_t upper_runs_len,
+    const uint16_t *upper_index, size_t upper_index_len,
+    double *upper_values, size_t upper_values_len,
+    double *d, size_t d_len,
+    double *x, size_t x_len,
+    double *scratch_f64, size_t scratch_f64_len,
+    uint32_t *scratch_u32, size_t scratch_u32_len,
+    uint64_t *report, size_t report_len);
+
+/* Solves for another right side b with factors that lp_solve_plain or lp_refactor_plain left. Asks 1, 2, 5, 6 (of b
+ * only, its index), 15 and 13. Reads lists, factors and d, writes x and scratch; the matrix is not lent. report[0] is
+ * the place; there are no counts. */
+uint32_t lp_resolve_plain(
+    size_t n,
+    const uint16_t *r, size_t r_len,
+    const uint16_t *c, size_t c_len,
+    const double *b, size_t b_len,
+    const uint32_t *lower_starts, size_t lower_starts_len,
+    const uint16_t *lower_index, size_t lower_index_len,
+    const double *lower_values, size_t lower_values_len,
+    const uint32_t *upper_starts, size_t upper_starts_len,
+    const uint16_t *upper_index, size_t upper_index_len,
+    const double *upper_values, size_t upper_values_len,
+    const double *d, size_t d_len,
+    double *x, size_t x_len,
+    double *scratch_f64, size_t scratch_f64_len,
+    uint32_t *scratch_u32, size_t scratch_u32_len,
+    uint64_t *report, size_t report_len);
+
+/* Does the same with the factors of the shared form. */
+uint32_t lp_resolve_shared(
+    size_t n,
+    const uint16_t *r, size_t r_len,
+    const uint16_t *c, size_t c_len,
+    const double *b, size_t b_len,
+    const uint32_t *lower_starts, size_t lower_starts_len,
+    const uint32_t *lower_runs, size_t lower_runs_len,
+    const uint16_t *lower_index, size_t lower_index_len,
+    const double *lower_values, size_t lower_values_len,
+    const uint32_t *upper_starts, size_t upper_starts_len,
+    const uint32_t *upper_runs, size_t upper_runs_len,
+    const uint16_t *upper_index, size_t upper_index_len,
+    const double *upper_values, size_t upper_values_len,
+    const double *d, size_t d_len,
     double *x, size_t x_len,
     double *scratch_f64, size_t scratch_f64_len,
     uint32_t *scratch_u32, size_t scratch_u32_len,

@@ -255,6 +255,73 @@ fn forms_table(title: &str, systems: &[System], budget: Duration, slots: impl Fn
     println!();
 }
 
+/// A library's call on what a solve left: its own run is timed in turns with others.
+#[cfg(any(feature = "library", feature = "standin"))]
+fn over(call: Call, input: &Input, left: &Buffers) -> Loan {
+    let mut lent = input.clone();
+    if let Call::Resolve(_) = call {
+        (lent.starts, lent.columns, lent.values) = (Vec::new(), Vec::new(), Vec::new());
+    }
+    Loan::new(call, &lent, left, 4)
+}
+
+/// Solve, refactor over its lists and another right side over its factors, each the fastest of runs that take turns.
+#[cfg(any(feature = "library", feature = "standin"))]
+fn reuse(form: Form, input: &Input, slots: Slots, budget: Duration) -> Result<[Duration; 3], String> {
+    let call = Call::Solve(form);
+    let mut solve = Loan::new(call, input, &Buffers::for_call(call, input.n, slots), 4);
+    if solve.run() != 0 {
+        return Err("refused".to_string());
+    }
+    let left = solve.buffers().map_err(|fault| fault.to_string())?;
+    let mut loans = [solve, over(Call::Refactor(form), input, &left), over(Call::Resolve(form), input, &left)];
+    let mut fastest = [Duration::MAX; 3];
+    let begin = Instant::now();
+    let mut turns = 0;
+    while turns < 5 || (begin.elapsed() < budget && turns < 200) {
+        for (loan, time) in loans.iter_mut().zip(&mut fastest) {
+            let start = Instant::now();
+            let number = loan.run();
+            *time = start.elapsed().min(*time);
+            if number != 0 {
+                return Err(format!("refused with {number}"));
+            }
+        }
+        turns += 1;
+    }
+    for loan in &loans {
+        let found = loan.buffers().map_err(|fault| fault.to_string())?;
+        lilacpliers_tests::compare::buffers(&found, &left).map_err(|fault| fault.to_string())?;
+    }
+    Ok(fastest)
+}
+
+/// Refactor as a ratio to solve, another right side as ratios to refactor and to the numbers that it reads.
+#[cfg(any(feature = "library", feature = "standin"))]
+fn reuse_table(systems: &[System], budget: Duration) {
+    println!("Over what a solve left, stores just long enough");
+    let heads = ["solve ms", "refactor ms", "resolve ms", "refact./solve", "resolve/ref.", "ns a factor"];
+    let line: String = heads.iter().map(|head| format!("{head:>14}")).collect();
+    println!("{:<18}{:<8}{line}", "system", "form");
+    for system in systems {
+        for form in [Form::Plain, Form::Shared] {
+            let Some(slots) = exact_slots(form, &system.input) else { continue };
+            match reuse(form, &system.input, slots, budget) {
+                Err(why) => println!("{:<18}{:<8}{why}", system.name, format!("{form:?}")),
+                Ok(times) => {
+                    let [solve, refactor, resolve] = times.map(|time| time.as_secs_f64() * 1e3);
+                    let factors = (slots.lower_values + slots.upper_values + system.input.n) as f64;
+                    let figures = [refactor / solve, resolve / refactor, resolve * 1e6 / factors];
+                    let times: String = [solve, refactor, resolve].iter().map(|ms| format!("{ms:>14.3}")).collect();
+                    let figures: String = figures.iter().map(|figure| format!("{figure:>14.3}")).collect();
+                    println!("{:<18}{:<8}{times}{figures}", system.name, format!("{form:?}"));
+                }
+            }
+        }
+    }
+    println!();
+}
+
 fn main() {
     let words: Vec<String> = std::env::args().skip(1).collect();
     let has = |word: &str| words.iter().any(|given| given == word);
@@ -271,5 +338,6 @@ fn main() {
     {
         forms_table("stores of 1,048,576 slots", &systems, budget, |_, _| Some(largest));
         forms_table("stores just long enough", &systems, budget, exact_slots);
+        reuse_table(&systems, budget);
     }
 }

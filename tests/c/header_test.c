@@ -8,8 +8,8 @@
 #include <string.h>
 #include <xmmintrin.h>
 
-#if LP_VERSION != 1
-#error "this test is written for version 1 of the interface"
+#if LP_VERSION != 2
+#error "this test is written for version 2 of the interface"
 #endif
 
 #define NONE NULL, 0
@@ -78,6 +78,37 @@ static void file_and_back(void)
     expect(lp_file_shape(LENT(file), LENT(report)) == LP_BLOCK && report[0] == 0, "a damaged block");
 }
 
+/* What a solve left serves new values and another right side: with twice the values and b the factors double and x
+ * stays, with twice b alone x doubles. */
+static const double twice_values[] = {4.0, 8.0, 2.0, 8.0};
+static const double twice_right[] = {20.0, 18.0};
+
+static void plain_again(void)
+{
+    expect(lp_refactor_plain(N, LENT(starts), LENT(columns), LENT(twice_values), LENT(order), LENT(order),
+                             LENT(twice_right), LENT(lower.starts), LENT(lower.index), LENT(lower.values),
+                             LENT(upper.starts), LENT(upper.index), LENT(upper.values),
+                             LENT(d), LENT(x), LENT(scratch_f64), LENT(scratch_u32), LENT(report)) == LP_DONE,
+           "refactor");
+    expect_solution("x of the refactored system");
+    expect(lower.values[0] == 2.0 && upper.values[0] == 2.0 && d[0] == 0.25, "refactored factors");
+    expect(lp_resolve_plain(N, LENT(order), LENT(order), LENT(right), LENT(lower.starts), LENT(lower.index),
+                            LENT(lower.values), LENT(upper.starts), LENT(upper.index), LENT(upper.values),
+                            LENT(d), LENT(x), LENT(scratch_f64), LENT(scratch_u32), LENT(report)) == LP_DONE,
+           "another right side");
+    expect(x[0] == 0.5 && x[1] == 1.0, "x of another right side");
+    upper.starts[1] = 7;
+    expect(lp_resolve_plain(N, LENT(order), LENT(order), LENT(right), LENT(lower.starts), LENT(lower.index),
+                            LENT(lower.values), LENT(upper.starts), LENT(upper.index), LENT(upper.values),
+                            LENT(d), LENT(x), LENT(scratch_f64), LENT(scratch_u32), LENT(report)) == LP_BAD_FACTORS
+           && report[0] == 0, "a list outside its store");
+    expect(lp_refactor_plain(N, LENT(starts), LENT(columns), LENT(values), LENT(order), LENT(order), LENT(right),
+                             LENT(lower.starts), LENT(lower.index), LENT(lower.values),
+                             LENT(upper.starts), LENT(upper.index), LENT(upper.values),
+                             LENT(d), LENT(x), LENT(scratch_f64), LENT(scratch_u32), LENT(report))
+           == LP_OTHER_STRUCTURE && report[0] == 0 && upper.starts[1] == 7, "a list start of another structure");
+}
+
 static void plain_form(void)
 {
     expect(lp_solve_plain(N, LENT(starts), LENT(columns), LENT(values), LENT(order), LENT(order), LENT(right),
@@ -101,6 +132,7 @@ static void plain_form(void)
                               LENT(upper.starts), LENT(upper.index), LENT(upper.values),
                               LENT(scratch_f64), LENT(scratch_u32), LENT(report)) == LP_DONE, "structure");
     expect_counts("counts of the plain structure");
+    plain_again();
 }
 
 static void shared_form(void)
@@ -120,6 +152,17 @@ static void shared_form(void)
            "shared solve");
     expect_counts("counts of the shared solve");
     expect_solution("x of the shared solve");
+    expect(lp_refactor_shared(N, LENT(starts), LENT(columns), LENT(twice_values), LENT(order), LENT(order),
+                              LENT(twice_right), LENT(lower.starts), LENT(lower.runs), LENT(lower.index),
+                              LENT(lower.values), LENT(upper.starts), LENT(upper.runs), LENT(upper.index),
+                              LENT(upper.values), LENT(d), LENT(x), LENT(scratch_f64), LENT(scratch_u32),
+                              LENT(report)) == LP_DONE, "shared refactor");
+    expect_solution("x of the shared refactored system");
+    expect(lp_resolve_shared(N, LENT(order), LENT(order), LENT(right), LENT(lower.starts), LENT(lower.runs),
+                             LENT(lower.index), LENT(lower.values), LENT(upper.starts), LENT(upper.runs),
+                             LENT(upper.index), LENT(upper.values), LENT(d), LENT(x), LENT(scratch_f64),
+                             LENT(scratch_u32), LENT(report)) == LP_DONE, "shared, another right side");
+    expect(x[0] == 0.5 && x[1] == 1.0, "x of another right side in the shared form");
 }
 
 static void row_form(void)
@@ -161,6 +204,14 @@ static void nulls(void)
                               NONE) == LP_LENGTHS, "plain structure, all NULL");
     expect(lp_structure_shared(1, NONE, NONE, NONE, NONE, NONE, NONE, NONE, NONE, NONE, NONE, NONE, NONE, NONE, NONE,
                                NONE) == LP_LENGTHS, "shared structure, all NULL");
+    expect(lp_refactor_plain(1, NONE, NONE, NONE, NONE, NONE, NONE, NONE, NONE, NONE, NONE, NONE, NONE, NONE, NONE,
+                             NONE, NONE, NONE) == LP_LENGTHS, "plain refactor, all NULL");
+    expect(lp_refactor_shared(1, NONE, NONE, NONE, NONE, NONE, NONE, NONE, NONE, NONE, NONE, NONE, NONE, NONE, NONE,
+                              NONE, NONE, NONE, NONE, NONE) == LP_LENGTHS, "shared refactor, all NULL");
+    expect(lp_resolve_plain(1, NONE, NONE, NONE, NONE, NONE, NONE, NONE, NONE, NONE, NONE, NONE, NONE, NONE,
+                            NONE) == LP_LENGTHS, "plain, another right side, all NULL");
+    expect(lp_resolve_shared(1, NONE, NONE, NONE, NONE, NONE, NONE, NONE, NONE, NONE, NONE, NONE, NONE, NONE, NONE,
+                             NONE, NONE) == LP_LENGTHS, "shared, another right side, all NULL");
     expect(lp_list_plain(LP_UPPER, 0, 1, NONE, NONE, NONE, NONE, NONE) == LP_DONE, "plain list, all NULL");
     expect(lp_list_shared(LP_UPPER, 0, 1, NONE, NONE, NONE, NONE, NONE, NONE, NONE) == LP_DONE,
            "shared list, all NULL");

@@ -50,6 +50,28 @@ pub mod raw {
     upper_starts: out u32, upper_runs: out u32, upper_index: out u16, upper_values: out f64,
     d: out f64, x: out f64, scratch_f64: out f64, scratch_u32: out u32, report: out u64, }
 
+    declare! { lp_refactor_plain [] n: size, starts: lent u32, columns: lent u16, values: lent f64,
+    r: lent u16, c: lent u16, b: lent f64,
+    lower_starts: lent u32, lower_index: lent u16, lower_values: out f64,
+    upper_starts: lent u32, upper_index: lent u16, upper_values: out f64,
+    d: out f64, x: out f64, scratch_f64: out f64, scratch_u32: out u32, report: out u64, }
+
+    declare! { lp_refactor_shared [] n: size, starts: lent u32, columns: lent u16, values: lent f64,
+    r: lent u16, c: lent u16, b: lent f64,
+    lower_starts: lent u32, lower_runs: lent u32, lower_index: lent u16, lower_values: out f64,
+    upper_starts: lent u32, upper_runs: lent u32, upper_index: lent u16, upper_values: out f64,
+    d: out f64, x: out f64, scratch_f64: out f64, scratch_u32: out u32, report: out u64, }
+
+    declare! { lp_resolve_plain [] n: size, r: lent u16, c: lent u16, b: lent f64,
+    lower_starts: lent u32, lower_index: lent u16, lower_values: lent f64,
+    upper_starts: lent u32, upper_index: lent u16, upper_values: lent f64,
+    d: lent f64, x: out f64, scratch_f64: out f64, scratch_u32: out u32, report: out u64, }
+
+    declare! { lp_resolve_shared [] n: size, r: lent u16, c: lent u16, b: lent f64,
+    lower_starts: lent u32, lower_runs: lent u32, lower_index: lent u16, lower_values: lent f64,
+    upper_starts: lent u32, upper_runs: lent u32, upper_index: lent u16, upper_values: lent f64,
+    d: lent f64, x: out f64, scratch_f64: out f64, scratch_u32: out u32, report: out u64, }
+
     declare! { lp_list_plain [] side: number, place: size, n: size,
     lower_starts: lent u32, lower_index: lent u16, upper_starts: lent u32, upper_index: lent u16, report: out u64, }
 
@@ -302,13 +324,7 @@ fn answer(number: u32, report: &Report) -> Result<Answer, Difference> {
 }
 
 /// The calls that the library exports.
-pub const EXPORTED: [Call; 5] = [
-    Call::Structure(Form::Plain),
-    Call::Structure(Form::Shared),
-    Call::Solve(Form::Plain),
-    Call::Solve(Form::Shared),
-    Call::Solve(Form::Row),
-];
+pub const EXPORTED: [Call; 9] = CALLS;
 
 /// How many report slots a call fills.
 fn filled(call: Call) -> usize {
@@ -345,7 +361,8 @@ impl Loan {
         match self.call {
             Call::Structure(form) => structure(form, n, lent, given, report),
             Call::Solve(form) => solve(form, n, lent, given, report),
-            Call::Refactor(_) | Call::Resolve(_) => unreachable!("the library has no such call yet"),
+            Call::Refactor(form) => refactor(form, n, lent, given, report),
+            Call::Resolve(form) => resolve(form, n, lent, given, report),
         }
     }
 
@@ -390,6 +407,30 @@ fn solve(form: Form, n: usize, m: &mut GuardedInput, g: &mut GuardedBuffers, rep
             (g.d) (g.x) (g.sf) (g.su) (report)),
         Form::Row => call!(lp_solve_row: [n] (m.starts) (m.columns) (m.values) (m.r) (m.c) (m.b)
             (g.u.starts) (g.u.runs) (g.u.index) (g.u.values) (g.d) (g.x) (g.sf) (g.su) (report)),
+    }
+}
+
+fn refactor(form: Form, n: usize, m: &mut GuardedInput, g: &mut GuardedBuffers, report: &mut Report) -> u32 {
+    match form {
+        Form::Plain => call!(lp_refactor_plain: [n] (m.starts) (m.columns) (m.values) (m.r) (m.c) (m.b)
+            (g.l.starts) (g.l.index) (g.l.values) (g.u.starts) (g.u.index) (g.u.values)
+            (g.d) (g.x) (g.sf) (g.su) (report)),
+        Form::Shared => call!(lp_refactor_shared: [n] (m.starts) (m.columns) (m.values) (m.r) (m.c) (m.b)
+            (g.l.starts) (g.l.runs) (g.l.index) (g.l.values) (g.u.starts) (g.u.runs) (g.u.index) (g.u.values)
+            (g.d) (g.x) (g.sf) (g.su) (report)),
+        Form::Row => unreachable!("the row form has no refactor call"),
+    }
+}
+
+fn resolve(form: Form, n: usize, m: &mut GuardedInput, g: &mut GuardedBuffers, report: &mut Report) -> u32 {
+    match form {
+        Form::Plain => call!(lp_resolve_plain: [n] (m.r) (m.c) (m.b)
+            (g.l.starts) (g.l.index) (g.l.values) (g.u.starts) (g.u.index) (g.u.values)
+            (g.d) (g.x) (g.sf) (g.su) (report)),
+        Form::Shared => call!(lp_resolve_shared: [n] (m.r) (m.c) (m.b)
+            (g.l.starts) (g.l.runs) (g.l.index) (g.l.values) (g.u.starts) (g.u.runs) (g.u.index) (g.u.values)
+            (g.d) (g.x) (g.sf) (g.su) (report)),
+        Form::Row => unreachable!("the row form has no call for another right side"),
     }
 }
 

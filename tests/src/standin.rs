@@ -22,10 +22,14 @@ pub enum Fault {
     Lookup,
     /// 17 names block 0.
     Block,
+    /// Refactor overwrites the first list start after 12.
+    Presented,
+    /// Another right side names the place before the factors' fault.
+    FactorsPlace,
 }
 
 /// Every fault.
-pub const FAULTS: [Fault; 8] = [
+pub const FAULTS: [Fault; 10] = [
     Fault::Scratch,
     Fault::Place,
     Fault::Products,
@@ -34,6 +38,8 @@ pub const FAULTS: [Fault; 8] = [
     Fault::NegativeZero,
     Fault::Lookup,
     Fault::Block,
+    Fault::Presented,
+    Fault::FactorsPlace,
 ];
 
 thread_local! {
@@ -177,6 +183,12 @@ fn spoil(call: Call, mut answer: Answer, buffers: &mut Buffers) -> Answer {
     if has(Fault::NegativeZero) && answer.number == 13 {
         buffers.d.iter_mut().take(1).for_each(|d| *d = -0.0);
     }
+    if has(Fault::Presented) && matches!(call, Call::Refactor(_)) && answer.number == 12 {
+        buffers.upper.starts[0] = 1;
+    }
+    if has(Fault::FactorsPlace) && answer.number == 15 {
+        answer.place = answer.place.saturating_sub(1);
+    }
     answer
 }
 
@@ -208,6 +220,7 @@ macro_rules! matrix {
 }
 
 const NO_U32: [u32; 0] = [];
+const NO_U16: [u16; 0] = [];
 const NO_F64: [f64; 0] = [];
 
 export! { lp_structure_plain: n: size, starts: lent u32, columns: lent u16, r: lent u16, c: lent u16,
@@ -248,6 +261,41 @@ us: out u32, ur: out u32, ui: out u16, uv: out f64, d: out f64, x: out f64, sf: 
 => {
     let input = matrix!(n, starts, columns, values, r, c, b);
     run(Call::Solve(Form::Row), input, none!(), side!(us, ur, ui, uv), Rest { d, x, sf, su, report })
+} }
+
+export! { lp_refactor_plain: n: size, starts: lent u32, columns: lent u16, values: lent f64, r: lent u16, c: lent u16, b: lent f64,
+ls: out u32, li: out u16, lv: out f64, us: out u32, ui: out u16, uv: out f64,
+d: out f64, x: out f64, sf: out f64, su: out u32, report: out u64,
+=> {
+    let input = matrix!(n, starts, columns, values, r, c, b);
+    run(Call::Refactor(Form::Plain), input, side!(ls, &mut [], li, lv), side!(us, &mut [], ui, uv), Rest { d, x, sf, su, report })
+} }
+
+export! { lp_refactor_shared: n: size, starts: lent u32, columns: lent u16, values: lent f64, r: lent u16, c: lent u16, b: lent f64,
+ls: out u32, lr: out u32, li: out u16, lv: out f64, us: out u32, ur: out u32, ui: out u16, uv: out f64,
+d: out f64, x: out f64, sf: out f64, su: out u32, report: out u64,
+=> {
+    let input = matrix!(n, starts, columns, values, r, c, b);
+    let (lower, upper) = (side!(ls, lr, li, lv), side!(us, ur, ui, uv));
+    run(Call::Refactor(Form::Shared), input, lower, upper, Rest { d, x, sf, su, report })
+} }
+
+export! { lp_resolve_plain: n: size, r: lent u16, c: lent u16, b: lent f64,
+ls: out u32, li: out u16, lv: out f64, us: out u32, ui: out u16, uv: out f64,
+d: out f64, x: out f64, sf: out f64, su: out u32, report: out u64,
+=> {
+    let input = matrix!(n, NO_U32, NO_U16, NO_F64, r, c, b);
+    let rest = Rest { d, x, sf, su, report };
+    run(Call::Resolve(Form::Plain), input, side!(ls, &mut [], li, lv), side!(us, &mut [], ui, uv), rest)
+} }
+
+export! { lp_resolve_shared: n: size, r: lent u16, c: lent u16, b: lent f64,
+ls: out u32, lr: out u32, li: out u16, lv: out f64, us: out u32, ur: out u32, ui: out u16, uv: out f64,
+d: out f64, x: out f64, sf: out f64, su: out u32, report: out u64,
+=> {
+    let input = matrix!(n, NO_U32, NO_U16, NO_F64, r, c, b);
+    let rest = Rest { d, x, sf, su, report };
+    run(Call::Resolve(Form::Shared), input, side!(ls, lr, li, lv), side!(us, ur, ui, uv), rest)
 } }
 
 fn find(form: Form, side: u32, place: usize, n: usize, lower: Store, upper: Store, report: &mut [u64]) -> u32 {

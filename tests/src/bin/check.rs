@@ -6,8 +6,8 @@ use lilacpliers_tests::checks::cases::Range;
 use lilacpliers_tests::checks::*;
 use std::process::ExitCode;
 
-const GROUPS: [&str; 10] =
-    ["known", "consistency", "cases", "lookups", "forms", "damaged", "files", "nulls", "program", "header"];
+const GROUPS: [&str; 11] =
+    ["known", "consistency", "cases", "lookups", "forms", "reuse", "damaged", "files", "nulls", "program", "header"];
 
 struct Options {
     seed: u64,
@@ -86,6 +86,9 @@ fn check_library(library: &dyn Solver, options: &Options, tally: &mut Tally) {
     }
     if options.wants("forms") {
         forms::run(library, options.range(options.cases / 4), tally);
+    }
+    if options.wants("reuse") {
+        consistency::reuse(library, options.range(options.cases / 10), tally);
     }
     check_library_files(library, options, tally);
 }

@@ -1,9 +1,9 @@
 //! The reference is not trusted blindly: its fill against the elimination game on a table of truth values, its
 //! solution against elimination on a full square without any structure.
 use super::cases::Range;
-use super::Tally;
+use super::{Reference, Solver, Tally};
 use crate::compare::{self, Compared};
-use crate::generate;
+use crate::generate::{self, Case};
 use crate::model::*;
 use crate::random::Random;
 use crate::reference;
@@ -167,24 +167,42 @@ fn check_lists(input: &Input, form: Form) -> Compared {
 }
 
 /// Solving again from the factors gives the bits of the solve; refactoring gives its answer.
-fn check_resolve(input: &Input, form: Form) -> Compared {
+fn check_reuse(solver: &dyn Solver, input: &Input, form: Form) -> Compared {
+    let run = |call: Call, buffers: &mut Buffers| {
+        let mut case = Case { call, input: input.clone(), buffers: std::mem::take(buffers), report: 4 };
+        generate::only_lent(&mut case);
+        let answer = solver.run(call, &case.input, &mut case.buffers, 4);
+        *buffers = case.buffers;
+        answer
+    };
     let mut buffers = Buffers::for_call(Call::Solve(form), input.n, Slots::all(input.n * input.n));
-    let answer = reference::run(Call::Solve(form), input, &mut buffers);
+    let answer = run(Call::Solve(form), &mut buffers)?;
     if answer.number != 0 {
         let structure = Call::Structure(form);
         let mut lists = Buffers::for_call(structure, input.n, Slots::all(input.n * input.n));
-        compare::same("number", &reference::run(structure, input, &mut lists).number, &0)?;
+        compare::same("number", &run(structure, &mut lists)?.number, &0)?;
         let mut presented = Buffers { d: buffers.d, x: buffers.x, ..lists };
-        let refused = reference::run(Call::Refactor(form), input, &mut presented);
+        let refused = run(Call::Refactor(form), &mut presented)?;
         return compare::same("refactoring what cannot be solved", &refused, &answer);
     }
     let solved = buffers.clone();
-    let again = reference::run(Call::Resolve(form), input, &mut buffers);
-    compare::same("number", &again.number, &0)?;
-    compare::buffers(&buffers, &solved)?;
-    let refactored = reference::run(Call::Refactor(form), input, &mut buffers);
-    compare::same("number", &refactored.number, &0)?;
-    compare::buffers(&buffers, &solved)
+    for call in [Call::Resolve(form), Call::Refactor(form)] {
+        compare::same("number", &run(call, &mut buffers)?.number, &0)?;
+        compare::buffers(&buffers, &solved)?;
+    }
+    let mut other = input.clone();
+    other.b.iter_mut().enumerate().for_each(|(k, v)| *v = 1.0 - 0.5 * *v + k as f64);
+    let mut expected = Buffers::for_call(Call::Solve(form), input.n, Slots::all(input.n * input.n));
+    let whole = reference::run(Call::Solve(form), &other, &mut expected);
+    let mut case = Case { call: Call::Resolve(form), input: other, buffers, report: 4 };
+    generate::only_lent(&mut case);
+    let again = solver.run(case.call, &case.input, &mut case.buffers, 4)?;
+    compare::same("number with another right side", &again.number, &whole.number)?;
+    compare::same("place with another right side", &again.place, &whole.place)?;
+    if whole.number == 0 {
+        compare::floats("x of another right side", &case.buffers.x, &expected.x)?;
+    }
+    Ok(())
 }
 
 /// A null pivot is refused by every call that finds the fill.
@@ -207,7 +225,7 @@ fn check(random: &mut Random) -> Compared {
     check_solution(&input)?;
     for form in [Form::Plain, Form::Shared] {
         check_lists(&input, form)?;
-        check_resolve(&input, form)?;
+        check_reuse(&Reference, &input, form)?;
     }
     Ok(())
 }
@@ -217,5 +235,21 @@ pub fn run(range: Range, tally: &mut Tally) {
     for number in range.numbers() {
         let result = check(&mut range.random(number));
         tally.add(|| range.label("consistency", number), result);
+    }
+}
+
+/// Refactors and solves again over what the solver's own solves left, on random matrices.
+pub fn reuse(solver: &dyn Solver, range: Range, tally: &mut Tally) {
+    for number in range.numbers() {
+        let random = &mut range.random(number);
+        let n = random.pick(&[1, 2, 3, 5, 8, 13, 21, 34]);
+        let input = generate::sound_input(random, n);
+        if null_pivot(&input).is_some() {
+            continue;
+        }
+        for form in [Form::Plain, Form::Shared] {
+            let result = check_reuse(solver, &input, form);
+            tally.add(|| format!("{} {form:?} {}", range.label("reuse", number), solver.name()), result);
+        }
     }
 }

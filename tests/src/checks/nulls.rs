@@ -43,13 +43,19 @@ fn lent_buffers(call: Call) -> usize {
     match call {
         Call::Structure(Form::Plain) => 12,
         Call::Structure(_) | Call::Solve(Form::Row) => 14,
-        Call::Solve(Form::Plain) => 16,
-        _ => 18,
+        Call::Solve(Form::Plain) | Call::Refactor(Form::Plain) => 16,
+        Call::Solve(_) | Call::Refactor(_) => 18,
+        Call::Resolve(Form::Plain) => 13,
+        Call::Resolve(_) => 15,
     }
 }
 
+/// Refactor and another right side are lent what a solve left.
 fn case_of(call: Call, input: Input, slots: usize, report: usize) -> Case {
-    let buffers = Buffers::for_call(call, input.n, Slots::all(slots));
+    let mut buffers = Buffers::for_call(call, input.n, Slots::all(slots));
+    if let Call::Refactor(form) | Call::Resolve(form) = call {
+        reference::run(Call::Solve(form), &input, &mut buffers);
+    }
     let mut case = Case { call, input, buffers, report };
     generate::only_lent(&mut case);
     case
@@ -65,10 +71,13 @@ fn answers(solver: &dyn Solver, case: &Case, numbers: &[u32]) -> Compared {
     compare::differ("number", answer.number, numbers)
 }
 
-/// A missing store is 10 or 11, and no columns at all are 3 for the structure calls; every other buffer is 2.
+/// A missing store is 10 or 11, 14 where a structure is presented and 15 where factors are, and no columns at all are 3
+/// for the structure calls; every other buffer is 2.
 fn refusals(call: Call, name: &str) -> &'static [u32] {
     match name {
         "columns" if matches!(call, Call::Structure(_)) => &[3],
+        name if name.ends_with("store") && matches!(call, Call::Refactor(_)) => &[14],
+        name if name.ends_with("store") && matches!(call, Call::Resolve(_)) => &[15],
         "lower index store" | "lower value store" => &[10],
         "upper index store" | "upper value store" => &[11],
         _ => &[2],
