@@ -24,7 +24,7 @@ use Rattle.matrix.specs.declared.Shaped.{Shaped}
 use Rattle.matrix.specs.declared.Shaped.the-variants.{Shape, Unshaped}
 use Rattle.outcome.specs.Buffers.{Buffers, Outcome, ended}
 use Rattle.matrix_file.specs.MatrixFile.{Left, left}
-use Rattle.report.specs.Report.{answerSlots, Told, ToldEnd, numberOfShape, shapeSlots, spanSlots, sideNumbered, placeIn}
+use Rattle.report.specs.Report.{answerSlots, Told, ToldEnd, asLeft, numberOfShape, shapeSlots, spanSlots, sideNumbered, placeIn}
 
 pub slots-turn : (out : List ℕ) (values : List ℕ) (i : ℕ) → i < length values → sets (set out i (getD values i 0)) (i + 1) (drop (i + 1) values) ≡ sets out i (drop i values)
 slots-turn out values i h = rw (add-one i, drop-cons values i 0 h)
@@ -39,6 +39,10 @@ told o a s report₀ report number e n r = rw (← e) (record { number-is = n; b
 pub told-end : {A : Type 0} (o : Left A) (a : Ended) (h : A) (report₀ report : List ℕ) (number : ℕ) → left a h ≡ o
     → number ≡ numberOfEnd a → report ≡ sets report₀ 0 (placeOfEnd a ∷ []) → ToldEnd o report₀ report h number
 told-end o a h report₀ report number e n r = rw (← e) (record { number-is = n; held-is = refl; report-is = r })
+
+pub told-again : (o : Outcome Ended) (a : Ended) (s : Buffers) (report₀ report : List ℕ) (number : ℕ) → ended a s ≡ o
+    → number ≡ numberOfEnd a → report ≡ sets report₀ 0 (placeOfEnd a ∷ []) → ToldEnd (asLeft o) report₀ report s number
+told-again o a s report₀ report number e n r = rw (← e) (record { number-is = n; held-is = refl; report-is = r })
 
 pub answer-put : (a : Answer) (place : ℕ) (counts : Counts) (report₀ report : List ℕ) → place ≡ placeOfAnswer a → counts ≡ countsOf a
     → report ≡ sets report₀ 0 (place ∷ counts .lower ∷ counts .upper ∷ counts .products ∷ []) → report ≡ sets report₀ 0 (answerSlots a)

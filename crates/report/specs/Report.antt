@@ -8,6 +8,7 @@ use lib.Seq.{sets}
 use Rattle.base.specs.Answers.{numberOf, placeOf, numberOfAnswer, placeOfAnswer, countsOf, numberOfEnd, placeOfEnd, spot}
 use Rattle.base.specs.Limits.{maxRows}
 use Rattle.base.specs.declared.Answer.{Answer}
+use Rattle.base.specs.declared.Ended.{Ended}
 use Rattle.base.specs.declared.Form.{Form}
 use Rattle.base.specs.declared.Place.{Place}
 use Rattle.base.specs.declared.Side.{Side}
@@ -17,7 +18,7 @@ use Rattle.matrix.specs.declared.Shaped.the-variants.{Shape, Unshaped}
 use Rattle.outcome.specs.Buffers.{Buffers, Outcome}
 use Rattle.lookup.specs.declared.Span.{Span}
 use Rattle.lookup.specs.Lookup.{SideLists, spanIn}
-use Rattle.matrix_file.specs.MatrixFile.{Left}
+use Rattle.matrix_file.specs.MatrixFile.{Left, left}
 
 -- place and counts of an answer
 unfoldable pub answerSlots : Answer → List ℕ
@@ -29,11 +30,15 @@ pub record Told (o : Outcome Answer) (report₀ report : List ℕ) (s : Buffers)
   pub buffers-are : s ≡ o .buffers
   pub report-is : report ≡ sets report₀ 0 (answerSlots (o .answer))
 
--- reading and writing a file: what is written, and the place
+-- a call without counts: reading or writing a file, refactor, another right side. What it leaves, and the place
 pub record ToldEnd {A : Type 0} (o : Left A) (report₀ report : List ℕ) (held : A) (number : ℕ) : Type 0 where
   pub number-is : number ≡ numberOfEnd (o .answer)
   pub held-is : held ≡ o .held
   pub report-is : report ≡ sets report₀ 0 (placeOfEnd (o .answer) ∷ [])
+
+-- refactor or another right side: its buffers are what it leaves
+abbrev pub asLeft : Outcome Ended → Left Buffers
+asLeft o = left (o .answer) (o .buffers)
 
 -- the shape of a file
 abbrev pub numberOfShape : Shaped → ℕ

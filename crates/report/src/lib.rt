@@ -59,8 +59,8 @@ pub fn put_answer(report: &mut [u64], a: Answer) -> u32
     a.number()
 }
 
-// The place of a call without counts; its number is returned.
-fn put_end(report: &mut [u64], a: Ended) -> u32
+// Puts the place of a call without counts into the report, and gives its number.
+pub fn put_end(report: &mut [u64], a: Ended) -> u32
     ensures { λ r. ⌜ r ≡ numberOfEnd a ⌝ }
     ensures { λ _. ⌜ now (report .exit) ≡ sets (now (report .entry)) 0 (placeOfEnd a ∷ []) ⌝ }
 {
