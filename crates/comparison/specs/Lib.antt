@@ -1,0 +1,2 @@
+-- Definitions of the comparing pass.
+pub mod Comparing
