@@ -6,3 +6,4 @@ pub mod Refactor
 pub mod Resolve
 pub mod Placed
 pub mod Calls
+pub mod Again
