@@ -20,7 +20,7 @@ use Rattle.matrix.specs.Input.{Input, inputOf, stored}
 use Rattle.marks.specs.Marks.{Fresh}
 use Rattle.columns.specs.Columns.{Ready}
 use Rattle.columns.specs.Sides.{Inverse, rowsIn}
-use Rattle.outcome.specs.Buffers.{Buffers, plainBuffers, sharedBuffers}
+use Rattle.outcome.specs.Buffers.{Buffers, allBuffers, sideBuffers}
 use Rattle.outcome.specs.Placed.{PlacedSide}
 use Rattle.outcome.specs.Refactor.{askPresented}
 use Rattle.storing.specs.Held.{Holding, presented}
@@ -151,10 +151,13 @@ pub record Standing (way : Way) (i : Input) (ls lr li : List ℕ) (lv : ℕ) (us
   pub upper : PlacedSide (formOf way) Upper (stored i) (i .n) us ur ui uv
   pub inverse : Inverse i s
 
--- the buffers as refactor is lent them in the form
-abbrev pub buffersBy : Way → List ℕ → List ℕ → List ℕ → List Float → List ℕ → List ℕ → List ℕ → List Float → List Float → List Float → List Float → List ℕ → Buffers
-buffersBy OneAfterAnother ls lr li lv us ur ui uv d x w m = plainBuffers ls li lv us ui uv d x w m
-buffersBy Sharing ls lr li lv us ur ui uv d x w m = sharedBuffers ls lr li lv us ur ui uv d x w m
+-- the buffers as refactor is lent them in the form: the plain form has no run starts
+abbrev pub runsLent : Way → List ℕ → List ℕ
+runsLent OneAfterAnother runs = []
+runsLent Sharing runs = runs
+
+abbrev pub buffersBy : Way → (ls lr li : List ℕ) (lv : List Float) (us ur ui : List ℕ) (uv d x w : List Float) (m : List ℕ) → Buffers
+buffersBy way ls lr li lv us ur ui uv d x w m = allBuffers (sideBuffers ls (runsLent way lr) li lv) (sideBuffers us (runsLent way ur) ui uv) d x w m
 
 -- question 14 is answered, whatever d, x and scratch hold
 pub record Compared (way : Way) (i : Input) (ls lr li : List ℕ) (lv : ℕ) (us ur ui : List ℕ) (uv : ℕ) (s : List ℕ) (a : Asked) : Type 0 where

@@ -122,7 +122,7 @@ fn analyze_and_solve(
         return a;
     }
     let counts = a.counts();
-    stages::factor_and_solve(
+    let fault = stages::factor_and_solve(
         Form::Plain,
         n,
         starts,
@@ -142,8 +142,8 @@ fn analyze_and_solve(
         x,
         work,
         marks,
-        counts,
-    )
+    );
+    stages::answer_of(fault, counts)
 }
 
 // Solves M·x = b in the plain form: structure, factors and x.

@@ -52,7 +52,7 @@ fn analyze_and_solve(
     let counts = a.counts();
     // The row form keeps no L.
     let mut none = [0.0; 1];
-    stages::factor_and_solve(
+    let fault = stages::factor_and_solve(
         Form::ByRow,
         n,
         starts,
@@ -72,8 +72,8 @@ fn analyze_and_solve(
         x,
         work,
         marks,
-        counts,
-    )
+    );
+    stages::answer_of(fault, counts)
 }
 
 // Solves M·x = b in the row form: only the upper side is kept, and zeroed at the end.

@@ -131,7 +131,7 @@ fn analyze_and_solve(
         return a;
     }
     let counts = a.counts();
-    stages::factor_and_solve(
+    let fault = stages::factor_and_solve(
         Form::Shared,
         n,
         starts,
@@ -151,8 +151,8 @@ fn analyze_and_solve(
         x,
         work,
         marks,
-        counts,
-    )
+    );
+    stages::answer_of(fault, counts)
 }
 
 // Solves M·x = b in the shared form: structure, factors and x.

@@ -11,7 +11,7 @@ use Rattle.base.specs.declared.Asked.the-variants.{Pass, Stop}
 use Rattle.base.specs.declared.Answer.{Answer}
 use Rattle.base.specs.declared.Answer.the-variants.{Done, Refused}
 use Rattle.symbolic.specs.Pass.{foundAnswer}
-use Rattle.stages.specs.Stages.{isStop, isRefused}
+use Rattle.stages.specs.Stages.{isStop, isRefused, endOf}
 
 -- no test has both answers
 pub never : {A : Type 0} (b : Bool) → b ≡ false → b ≡ true → A
@@ -20,6 +20,12 @@ never b e h = let y : false ≡ true = sym e ∙ h in let z : _≡_ {A = ℕ} 0 
 pub pass-of : (a : Asked) → isStop a ≡ false → a ≡ Pass
 pass-of Pass h = refl
 pass-of (Stop q) h = never true h refl
+
+pub answer-as : (a : Asked) (k : Counts) (o : Asked) → a ≡ o → foundAnswer o k ≡ foundAnswer a k
+answer-as a k o e = rw e
+
+pub end-as : (a o : Asked) → a ≡ o → endOf o ≡ endOf a
+end-as a o e = rw e
 
 -- the counts of a pass that does not refuse
 pub done-with : (a : Answer) (b : Bool) (k : Counts) → b ≡ isRefused a → b ≡ false → k ≡ countsOf a → a ≡ Done k

@@ -33,7 +33,7 @@ use Rattle.base.specs.declared.Asked.{Asked}
 use Rattle.base.specs.declared.Asked.the-variants.{Pass}
 use Rattle.base.specs.declared.Answer.{Answer}
 use Rattle.base.specs.declared.Answer.the-variants.{Done, Refused}
-use Rattle.stages.specs.Stages.{isStop, isRefused, noCounts, blankIf, structurePlaced, solvePlaced, clears, closed, Leaves, Concludes, Concluded}
+use Rattle.stages.specs.Stages.{isStop, isRefused, blankIf, structurePlaced, solvePlaced, clears, closed, Leaves, Concludes, Concluded}
 use Rattle.stages.specs.Shaped.{pattern, SolveDue, FactorDue, faultAsked}
 use Rattle.stages.specs.ShapedLaws.{slots, places-slots, factor-due}
 use Rattle.stages.specs.Branches.{never, found-done, found-refused}
@@ -91,21 +91,21 @@ stands f side P n s t runs room h e r values v =
 
 -- ---- 12 and 13
 
-pub came-fault : (f : Form) (i : Input) (lower upper d z x : List Float) (k : Counts) (a : Factored) (o : Asked) (r : Answer)
-    → FactoredAs f i a lower upper d z → o ≡ faultAsked a → isStop o ≡ true → r ≡ foundAnswer o noCounts → Concluded f i k r lower upper d x x
+pub came-fault : (f : Form) (i : Input) (lower upper d z x : List Float) (a : Factored) (o : Asked)
+    → FactoredAs f i a lower upper d z → o ≡ faultAsked a → isStop o ≡ true → Concluded f i o lower upper d x x
 unfolding FactoredAs Concludes
-came-fault f i lower upper d z x k Solved o r g e h w = never (isStop o) (ap isStop e) h
-came-fault f i lower upper d z x k (Zero p) o r g e h w = rw g (w ∙ ap (λ (q : Asked). foundAnswer q noCounts) e, refl)
-came-fault f i lower upper d z x k (Overflow p) o r g e h w = rw g (w ∙ ap (λ (q : Asked). foundAnswer q noCounts) e, refl)
+came-fault f i lower upper d z x Solved o g e h = never (isStop o) (ap isStop e) h
+came-fault f i lower upper d z x (Zero p) o g e h = rw g (e, refl)
+came-fault f i lower upper d z x (Overflow p) o g e h = rw g (e, refl)
 
-pub came-solved : (f : Form) (i : Input) (lower upper d z x₀ x : List Float) (k : Counts) (a : Factored) (o : Asked)
-    → FactoredAs f i a lower upper d z → o ≡ faultAsked a → isStop o ≡ false → x ≡ ownOrder (i .c) (i .n) z → Concluded f i k (Done k) lower upper d x₀ x
+pub came-solved : (f : Form) (i : Input) (lower upper d z x₀ x : List Float) (a : Factored) (o : Asked)
+    → FactoredAs f i a lower upper d z → o ≡ faultAsked a → isStop o ≡ false → x ≡ ownOrder (i .c) (i .n) z → Concluded f i o lower upper d x₀ x
 unfolding FactoredAs Concludes
-came-solved f i lower upper d z x₀ x k Solved o g e h v =
+came-solved f i lower upper d z x₀ x Solved o g e h v =
     let c = g .2 in
-    rw (g .1) (refl, record { lower-values = c .lower-values; upper-values = c .upper-values; reciprocals = c .reciprocals; solution = refl }, v ∙ ap (ownOrder (i .c) (i .n)) (c .solution))
-came-solved f i lower upper d z x₀ x k (Zero p) o g e h v = never (isStop o) h (ap isStop e)
-came-solved f i lower upper d z x₀ x k (Overflow p) o g e h v = never (isStop o) h (ap isStop e)
+    rw (g .1) (e, record { lower-values = c .lower-values; upper-values = c .upper-values; reciprocals = c .reciprocals; solution = refl }, v ∙ ap (ownOrder (i .c) (i .n)) (c .solution))
+came-solved f i lower upper d z x₀ x (Zero p) o g e h v = never (isStop o) h (ap isStop e)
+came-solved f i lower upper d z x₀ x (Overflow p) o g e h v = never (isStop o) h (ap isStop e)
 
 -- ---- 9 to 13, and x
 
@@ -136,13 +136,13 @@ kept-is f i s t r h v x =
     let up = valuesKept f Upper (stored i) (i .n) (r .rows) in
     rw (h .lower low (v .lower-values ∙ ap (λ (m : ℕ). padded nought m low) (h .lower-values)), h .upper up (v .upper-values ∙ ap (λ (m : ℕ). padded nought m up) (h .upper-values)), v .reciprocals, x, h .work, h .marks)
 
-concluded-is : (f : Form) (i : Input) (s t : Buffers) (k : Counts) (o : Out Result) (r : Answer) → k ≡ counts i
-    → Concludes f i k o r (t .lower .values) (t .upper .values) (t .d) (s .x) (t .x) → KeptBy f i s t → ended r (closed f r s t) ≡ concluded f i (sizes s) (s .x) o
+concluded-is : (f : Form) (i : Input) (s t : Buffers) (k : Counts) (o : Out Result) (u : Asked) (r : Answer) → k ≡ counts i → r ≡ foundAnswer u k
+    → Concludes f i o u (t .lower .values) (t .upper .values) (t .d) (s .x) (t .x) → KeptBy f i s t → ended r (closed f r s t) ≡ concluded f i (sizes s) (s .x) o
 unfolding Concludes closed
-concluded-is f i s t k (met q) r e g h = rw (g .0, clears-refused f (faultOf q), g .1)
-concluded-is Plain i s t k (ok a) r e g h = rw (g .0, e, kept-is Plain i s t a h (g .1) (g .2))
-concluded-is Shared i s t k (ok a) r e g h = rw (g .0, e, kept-is Shared i s t a h (g .1) (g .2))
-concluded-is ByRow i s t k (ok a) r e g h = rw (g .0, e, g .2)
+concluded-is f i s t k (met q) u r e n g h = rw (n, g .0, clears-refused f (faultOf q), g .1)
+concluded-is Plain i s t k (ok a) u r e n g h = rw (n, g .0, e, kept-is Plain i s t a h (g .1) (g .2))
+concluded-is Shared i s t k (ok a) u r e n g h = rw (n, g .0, e, kept-is Shared i s t a h (g .1) (g .2))
+concluded-is ByRow i s t k (ok a) u r e n g h = rw (n, g .0, e, g .2)
 
 -- the structure pass of a solve looks at the pattern alone
 found-pattern : (f : Form) (i : Input) (z : Sizes) (us ur ui : List ℕ) (uv : ℕ) (m : List ℕ) (a : Answer) → Analyzed f (pattern i) z us ur ui uv m a → Analyzed f i z us ur ui uv m a
@@ -166,27 +166,27 @@ module _ (f : Form) (i : Input) (s t : Buffers) (us ur ui : List ℕ) (uv : ℕ)
   leaves-refused = leaves-by f i s t a (found-pattern f i _ us ur ui uv m a found .answer)
 
   -- or the arithmetic came to its end
-  leaves-came : (k : Counts) (r : Answer) → a ≡ Done k → Concluded f i k r (t .lower .values) (t .upper .values) (t .d) (s .x) (t .x) → KeptBy f i s t → Leaves f i s r t
+  leaves-came : (k : Counts) (u : Asked) (r : Answer) → a ≡ Done k → r ≡ foundAnswer u k → Concluded f i u (t .lower .values) (t .upper .values) (t .d) (s .x) (t .x) → KeptBy f i s t → Leaves f i s r t
   unfolding solvePlaced
-  leaves-came k r e g h =
+  leaves-came k u r e n g h =
       let p = found-done _ (counts i) k a (found-pattern f i _ us ur ui uv m a found .answer) e in
-      rw (places-slots f (stored i) (i .n) (sizes s) (i .n) ∙ p .0) (concluded-is f i s t k (listed i) r (p .1) g h)
+      rw (places-slots f (stored i) (i .n) (sizes s) (i .n) ∙ p .0) (concluded-is f i s t k (listed i) u r (p .1) n g h)
 
 -- where the lists of both sides are placed, and the inverse order stands; `lr` and `ur` are the runs that the lists are read by
 both-placed : (f : Form) (i : Input) (z : Sizes) (ls lr li us ur ui m : List ℕ) (lv uv : ℕ) (a : Answer) (k : Counts) → AnalyzedBoth f (pattern i) z ls lr li lv us ur ui uv m a → a ≡ Done k
-    → (k ≡ counts i) × WrittenSide f Lower (stored i) (i .n) ls lr li lv × WrittenSide f Upper (stored i) (i .n) us ur ui uv × Inverse i m
+    → WrittenSide f Lower (stored i) (i .n) ls lr li lv × WrittenSide f Upper (stored i) (i .n) us ur ui uv × Inverse i m
 both-placed f i z ls lr li us ur ui m lv uv a k found done =
     let g = both-pattern f i z ls lr li us ur ui m lv uv a found in
     let p = found-done _ (counts i) k a (g .found .answer) done in
-    (p .1, g .lower (p .0), g .found .upper (p .0), g .found .inverse (p .0))
+    (g .lower (p .0), g .found .upper (p .0), g .found .inverse (p .0))
 
 pub both-due : (f : Form) (i : Input) (z y : Sizes) (ls lr li us ur ui m : List ℕ) (lv uv d w : List Float) (x : ℕ) (a : Answer) (k : Counts)
     → AnalyzedBoth f (pattern i) z ls lr li (length lv) us ur ui (length uv) m a → a ≡ Done k
     → SolveDue f i y → length m ≡ y .marks → length d ≡ y .d → length w ≡ y .work → x ≡ y .x
-    → (PlacedSide f Lower (stored i) (i .n) ls lr li (length lv) → LowerPlaced f (stored i) (i .n) (lists ls li us ur ui) lv) → FactorDue f i (lists ls li us ur ui) (written lv uv d w m) x k
+    → (PlacedSide f Lower (stored i) (i .n) ls lr li (length lv) → LowerPlaced f (stored i) (i .n) (lists ls li us ur ui) lv) → FactorDue f i (lists ls li us ur ui) (written lv uv d w m) x
 both-due f i z y ls lr li us ur ui m lv uv d w x a k found done h em ed ew ex g =
     let p = both-placed f i z ls lr li us ur ui m (length lv) (length uv) a k found done in
-    factor-due f i y (lists ls li us ur ui) (written lv uv d w m) x k h em ed ew ex (g (p .1 .placed)) (p .2 .placed) (p .3) (p .0)
+    factor-due f i y (lists ls li us ur ui) (written lv uv d w m) x h em ed ew ex (g (p .0 .placed)) (p .1 .placed) (p .2)
 
 both-kept : (f : Form) (i : Input) (z : Sizes) (s t : Buffers) (lr ur m : List ℕ) (lv uv : ℕ) (a : Answer) (k : Counts)
     → AnalyzedBoth f (pattern i) z (t .lower .starts) lr (t .lower .index) lv (t .upper .starts) ur (t .upper .index) uv m a → a ≡ Done k
@@ -196,8 +196,8 @@ both-kept : (f : Form) (i : Input) (z : Sizes) (s t : Buffers) (lr ur m : List �
 both-kept f i z s t lr ur m lv uv a k found done kl ku kw km rl ru =
     let p = both-placed f i z (t .lower .starts) lr (t .lower .index) (t .upper .starts) ur (t .upper .index) m lv uv a k found done in
     record {
-      lower = stands f Lower (stored i) (i .n) (s .lower) (t .lower) lr lv (p .1) (kl .index) (rl (p .1 .placed .runs-are));
-      upper = stands f Upper (stored i) (i .n) (s .upper) (t .upper) ur uv (p .2) (ku .index) (ru (p .2 .placed .runs-are));
+      lower = stands f Lower (stored i) (i .n) (s .lower) (t .lower) lr lv (p .0) (kl .index) (rl (p .0 .placed .runs-are));
+      upper = stands f Upper (stored i) (i .n) (s .upper) (t .upper) ur uv (p .1) (ku .index) (ru (p .1 .placed .runs-are));
       lower-values = kl .values;
       upper-values = ku .values;
       work = kw;
@@ -210,33 +210,33 @@ kept-by Shared i s t h = h
 kept-by ByRow i s t h = tt
 
 -- all of it, over plain lists
-pub both-leaves : (f : Form) (i : Input) (ls₀ lr₀ li₀ us₀ ur₀ ui₀ m₀ ls lr li us ur ui m rl ru m₁ : List ℕ) (lv₀ uv₀ d₀ x₀ w₀ lv uv d x w : List Float) (a r : Answer) (k : Counts)
-    → AnalyzedBoth f (pattern i) (slotsOf (length li₀) (length lv₀) (length ui₀) (length uv₀)) ls rl li (length lv₀) us ru ui (length uv₀) m₁ a → a ≡ Done k → Concluded f i k r lv uv d x₀ x
+pub both-leaves : (f : Form) (i : Input) (ls₀ lr₀ li₀ us₀ ur₀ ui₀ m₀ ls lr li us ur ui m rl ru m₁ : List ℕ) (lv₀ uv₀ d₀ x₀ w₀ lv uv d x w : List Float) (a r : Answer) (k : Counts) (o : Asked)
+    → AnalyzedBoth f (pattern i) (slotsOf (length li₀) (length lv₀) (length ui₀) (length uv₀)) ls rl li (length lv₀) us ru ui (length uv₀) m₁ a → a ≡ Done k → Concluded f i o lv uv d x₀ x → r ≡ foundAnswer o k
     → length ls ≡ length ls₀ → length lr ≡ length lr₀ → length li ≡ length li₀ → length lv ≡ length lv₀ → length us ≡ length us₀ → length ur ≡ length ur₀ → length ui ≡ length ui₀ → length uv ≡ length uv₀
     → length w ≡ length w₀ → length m ≡ length m₀
     → (RunsAre f Lower (stored i) (i .n) ls rl → lr ≡ runsKept f (length lr₀) (placedTo f Lower (stored i) (i .n) (i .n)))
     → (RunsAre f Upper (stored i) (i .n) us ru → ur ≡ runsKept f (length ur₀) (placedTo f Upper (stored i) (i .n) (i .n)))
     → Leaves f i (allBuffers (sideBuffers ls₀ lr₀ li₀ lv₀) (sideBuffers us₀ ur₀ ui₀ uv₀) d₀ x₀ w₀ m₀) r (allBuffers (sideBuffers ls lr li lv) (sideBuffers us ur ui uv) d x w m)
-both-leaves f i ls₀ lr₀ li₀ us₀ ur₀ ui₀ m₀ ls lr li us ur ui m rl ru m₁ lv₀ uv₀ d₀ x₀ w₀ lv uv d x w a r k found done g a₁ a₂ a₃ a₄ b₁ b₂ b₃ b₄ kw km hl hu =
+both-leaves f i ls₀ lr₀ li₀ us₀ ur₀ ui₀ m₀ ls lr li us ur ui m rl ru m₁ lv₀ uv₀ d₀ x₀ w₀ lv uv d x w a r k o found done g n a₁ a₂ a₃ a₄ b₁ b₂ b₃ b₄ kw km hl hu =
     let s = allBuffers (sideBuffers ls₀ lr₀ li₀ lv₀) (sideBuffers us₀ ur₀ ui₀ uv₀) d₀ x₀ w₀ m₀ in
     let t = allBuffers (sideBuffers ls lr li lv) (sideBuffers us ur ui uv) d x w m in
-    leaves-came f i s t us ru ui (length uv₀) m₁ a (found .found) k r done g
+    leaves-came f i s t us ru ui (length uv₀) m₁ a (found .found) k o r done n g
     (kept-by f i s t
     (both-kept f i _ s t rl ru m₁ (length lv₀) (length uv₀) a k found done (record { starts = a₁; runs = a₂; index = a₃; values = a₄ }) (record { starts = b₁; runs = b₂; index = b₃; values = b₄ }) kw km hl hu))
 
 -- the row form, which lends an empty store for L
 pub row-due : (i : Input) (z y : Sizes) (ls li us ur ui m : List ℕ) (lv uv d w : List Float) (x : ℕ) (a : Answer) (k : Counts) → Analyzed ByRow (pattern i) z us ur ui (length uv) m a → a ≡ Done k
-    → SolveDue ByRow i y → length m ≡ y .marks → length d ≡ y .d → length w ≡ y .work → x ≡ y .x → lv ≡ [] → FactorDue ByRow i (lists ls li us ur ui) (written lv uv d w m) x k
+    → SolveDue ByRow i y → length m ≡ y .marks → length d ≡ y .d → length w ≡ y .work → x ≡ y .x → lv ≡ [] → FactorDue ByRow i (lists ls li us ur ui) (written lv uv d w m) x
 row-due i z y ls li us ur ui m lv uv d w x a k found done h em ed ew ex el =
     let g = found-pattern ByRow i z us ur ui (length uv) m a found in
     let p = found-done _ (counts i) k a (g .answer) done in
-    factor-due ByRow i y (lists ls li us ur ui) (written lv uv d w m) x k h em ed ew ex el (g .upper (p .0) .placed) (g .inverse (p .0)) (p .1)
+    factor-due ByRow i y (lists ls li us ur ui) (written lv uv d w m) x h em ed ew ex el (g .upper (p .0) .placed) (g .inverse (p .0))
 
-pub row-leaves : (i : Input) (us₀ ur₀ ui₀ m₀ us ur ui m m₁ : List ℕ) (uv₀ d₀ x₀ w₀ lv uv d x w : List Float) (a r : Answer) (k : Counts) → Analyzed ByRow (pattern i) (slotsOf 0 0 (length ui₀) (length uv₀)) us ur ui (length uv₀) m₁ a → a ≡ Done k
-    → Concluded ByRow i k r lv uv d x₀ x → length lv ≡ 0 → Leaves ByRow i (allBuffers noSide (sideBuffers us₀ ur₀ ui₀ uv₀) d₀ x₀ w₀ m₀) r (allBuffers noSide (sideBuffers us ur ui uv) d x w m)
-row-leaves i us₀ ur₀ ui₀ m₀ us ur ui m m₁ uv₀ d₀ x₀ w₀ [] uv d x w a r k found done g e =
-    leaves-came ByRow i (allBuffers noSide (sideBuffers us₀ ur₀ ui₀ uv₀) d₀ x₀ w₀ m₀) (allBuffers noSide (sideBuffers us ur ui uv) d x w m) us ur ui (length uv₀) m₁ a found k r done g tt
-row-leaves i us₀ ur₀ ui₀ m₀ us ur ui m m₁ uv₀ d₀ x₀ w₀ (y ∷ lv) uv d x w a r k found done g e = absurd (omega arith)
+pub row-leaves : (i : Input) (us₀ ur₀ ui₀ m₀ us ur ui m m₁ : List ℕ) (uv₀ d₀ x₀ w₀ lv uv d x w : List Float) (a r : Answer) (k : Counts) (o : Asked) → Analyzed ByRow (pattern i) (slotsOf 0 0 (length ui₀) (length uv₀)) us ur ui (length uv₀) m₁ a → a ≡ Done k
+    → Concluded ByRow i o lv uv d x₀ x → r ≡ foundAnswer o k → length lv ≡ 0 → Leaves ByRow i (allBuffers noSide (sideBuffers us₀ ur₀ ui₀ uv₀) d₀ x₀ w₀ m₀) r (allBuffers noSide (sideBuffers us ur ui uv) d x w m)
+row-leaves i us₀ ur₀ ui₀ m₀ us ur ui m m₁ uv₀ d₀ x₀ w₀ [] uv d x w a r k o found done g n e =
+    leaves-came ByRow i (allBuffers noSide (sideBuffers us₀ ur₀ ui₀ uv₀) d₀ x₀ w₀ m₀) (allBuffers noSide (sideBuffers us ur ui uv) d x w m) us ur ui (length uv₀) m₁ a found k o r done n g tt
+row-leaves i us₀ ur₀ ui₀ m₀ us ur ui m m₁ uv₀ d₀ x₀ w₀ (y ∷ lv) uv d x w a r k o found done g n e = absurd (omega arith)
 
 -- ---- the solve
 
@@ -273,7 +273,7 @@ pub record ListsIf (b : Bool) (s t : SideBuffers) : Type 0 where
   pub values : t .values ≡ blank nought (s .values)
 
 -- a value store without values is zero
-nothing-stored : (v : List Float) → blank nought v ≡ padded nought (length v) []
+pub nothing-stored : (v : List Float) → blank nought v ≡ padded nought (length v) []
 unfolding blank padded
 nothing-stored v = rw sub-zero
 

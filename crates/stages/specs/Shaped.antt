@@ -9,13 +9,11 @@ use Rattle.matrix.specs.Questions.{IsOrder, askStructure, askSolve}
 use Rattle.base.specs.declared.SideSizes.{SideSizes}
 use Rattle.base.specs.declared.Sizes.{Sizes}
 use Rattle.outcome.specs.Buffers.{patternTests, structureTests, askShape}
-use Rattle.outcome.specs.Structure.{counts}
 use Rattle.factor.specs.Factoring.{PlacedLists, Workspace, Factorable}
 use Rattle.factor.specs.declared.Factored.{Factored}
 use Rattle.factor.specs.declared.Factored.the-variants.{Solved, Zero, Overflow}
 use Rattle.base.specs.declared.Form.{Form}
 use Rattle.base.specs.declared.Form.the-variants.{Plain, Shared, ByRow}
-use Rattle.base.specs.declared.Counts.{Counts}
 use Rattle.base.specs.declared.Refusal.the-variants as refusals
 use Rattle.base.specs.declared.Refusal.the-variants.{ZeroPivot}
 use Rattle.base.specs.declared.Asked.{Asked}
@@ -86,12 +84,11 @@ pub record SolveDue (f : Form) (i : Input) (z : Sizes) : Type 0 where
   pub shaped : SolveShaped f i z
   pub passed : askSolve i ≡ Pass
 
--- ---- and 9 to 11: the lists stand in their stores, and the counts are known
+-- ---- and 9 to 11, or 14: the lists stand in their stores
 
-pub record FactorDue (f : Form) (i : Input) (l : PlacedLists) (w : Workspace) (x : ℕ) (k : Counts) : Type 0 where
+pub record FactorDue (f : Form) (i : Input) (l : PlacedLists) (w : Workspace) (x : ℕ) : Type 0 where
   pub ready : Factorable f i l w
   pub solution : x ≡ i .n
-  pub counts-are : k ≡ counts i
 
 -- 12 and 13
 abbrev pub faultAsked : Factored → Asked

@@ -17,7 +17,7 @@ use Rattle.matrix.specs.Input.{Input, stored}
 use Rattle.outcome.specs.Buffers.{patternTests, numberTests, matrixTests, listTests, vectorTests, scratchTests, structureTests, bufferTests, askShape}
 use Rattle.base.specs.declared.SideSizes.{SideSizes}
 use Rattle.base.specs.declared.Sizes.{Sizes}
-use Rattle.outcome.specs.Structure.{fits, askPlace, askPlaces, counts}
+use Rattle.outcome.specs.Structure.{fits, askPlace, askPlaces}
 use Rattle.outcome.specs.Solve.{shape}
 use Rattle.base.specs.FirstLaws.{both-pass, holds-pass}
 use Rattle.outcome.specs.Placed.{PlacedSide}
@@ -28,7 +28,6 @@ use Rattle.lent.specs.ReadingLaws.{order-read}
 use Rattle.columns.specs.Sides.{Inverse}
 use Rattle.symbolic.specs.Pass.{slotsOf, MatrixLent, PlainLent, SharedLent, RowLent}
 use Rattle.factor.specs.Factoring.{PlacedLists, Workspace, Starts, LowerPlaced}
-use Rattle.base.specs.declared.Counts.{Counts}
 use Rattle.base.specs.declared.Refusal.the-variants.{Rows, Lengths}
 use Rattle.base.specs.declared.Asked.the-variants.{Pass}
 use Rattle.base.specs.declared.Side.the-variants.{Lower, Upper}
@@ -173,10 +172,10 @@ pattern-structured i g = record {
 pub starts-of : (i : Input) (ls lr li : List ℕ) (values : ℕ) → PlacedSide Shared Lower (stored i) (i .n) ls lr li values → Starts Shared (stored i) (i .n) ls values
 starts-of i ls lr li values h = record { starts-are = h .starts-are; values-in = h .values-in }
 
-pub factor-due : (f : Form) (i : Input) (z : Sizes) (l : PlacedLists) (w : Workspace) (x : ℕ) (k : Counts) → SolveDue f i z → length (w .marks) ≡ z .marks → length (w .d) ≡ z .d → length (w .work) ≡ z .work
-    → x ≡ z .x → LowerPlaced f (stored i) (i .n) l (w .lower) → PlacedSide f Upper (stored i) (i .n) (l .upper-starts) (l .upper-runs) (l .upper-index) (length (w .upper)) → Inverse i (w .marks) → k ≡ counts i
-    → FactorDue f i l w x k
-factor-due f i z l w x k h em ed ew ex low up inv c =
+pub factor-due : (f : Form) (i : Input) (z : Sizes) (l : PlacedLists) (w : Workspace) (x : ℕ) → SolveDue f i z → length (w .marks) ≡ z .marks → length (w .d) ≡ z .d → length (w .work) ≡ z .work
+    → x ≡ z .x → LowerPlaced f (stored i) (i .n) l (w .lower) → PlacedSide f Upper (stored i) (i .n) (l .upper-starts) (l .upper-runs) (l .upper-index) (length (w .upper)) → Inverse i (w .marks)
+    → FactorDue f i l w x
+factor-due f i z l w x h em ed ew ex low up inv =
     let g = h .shaped in
     let s = g .structure in
     record {
@@ -199,11 +198,10 @@ factor-due f i z l w x k h em ed ew ex low up inv c =
         inverse = λ j b. order-read (i .n) (w .marks) j b ∙ inv .place j b;
       };
       solution = ex ∙ g .solution;
-      counts-are = c;
     }
 
-pub solution-due : (f : Form) (i : Input) (l : PlacedLists) (w : Workspace) (x work : ℕ) (k : Counts) → FactorDue f i l w x k → work ≡ length (w .work) → SolutionDue (i .n) (i .c) work x
-solution-due f i l w x work k h e = record {
+pub solution-due : (f : Form) (i : Input) (l : PlacedLists) (w : Workspace) (x work : ℕ) → FactorDue f i l w x → work ≡ length (w .work) → SolutionDue (i .n) (i .c) work x
+solution-due f i l w x work h e = record {
   few = h .ready .lent .lent .orders .few;
   scratch = e ∙ h .ready .scratch;
   size = h .ready .lent .lent .orders .column-order;

@@ -17,6 +17,8 @@ use Rattle.base.specs.declared.Asked.{Asked}
 use Rattle.base.specs.declared.Asked.the-variants.{Pass, Stop}
 use Rattle.base.specs.declared.Answer.{Answer}
 use Rattle.base.specs.declared.Answer.the-variants.{Done, Refused}
+use Rattle.base.specs.declared.Ended.{Ended}
+use Rattle.base.specs.declared.Ended.the-variants as ends
 
 -- ---- answers by a test
 
@@ -27,6 +29,11 @@ isStop (Stop q) = true
 abbrev pub isRefused : Answer → Bool
 isRefused (Done c) = false
 isRefused (Refused q) = true
+
+-- the end of a call without counts
+abbrev pub endOf : Asked → Ended
+endOf Pass = ends.Done
+endOf (Stop q) = ends.Refused q
 
 abbrev pub noCounts : Counts
 noCounts = record { lower = 0; upper = 0; products = 0 }
@@ -60,10 +67,10 @@ closed f a s t = cond (clears f a) (cleared (sizes s) (t .x)) (scratchCleared t)
 abbrev pub Leaves : Form → Input → Buffers → Answer → Buffers → Type 0
 Leaves f i s a t = ended a (closed f a s t) ≡ solvePlaced f i s
 
--- 12 and 13, where the listed operations come to o: the factors, and x over x₀
-unfoldable pub Concludes : Form → Input → Counts → Out Result → Answer → List Float → List Float → List Float → List Float → List Float → Type 0
-Concludes f i k (met q) a lower upper d x₀ x = (a ≡ Refused (faultOf q)) × (x ≡ x₀)
-Concludes f i k (ok r) a lower upper d x₀ x = (a ≡ Done k) × Factors f i r lower upper d (r .z) × (x ≡ ownOrder (i .c) (i .n) (r .z))
+-- 12 and 13 answer a, where the listed operations come to o: the factors, and x over x₀
+unfoldable pub Concludes : Form → Input → Out Result → Asked → List Float → List Float → List Float → List Float → List Float → Type 0
+Concludes f i (met q) a lower upper d x₀ x = (a ≡ Stop (faultOf q)) × (x ≡ x₀)
+Concludes f i (ok r) a lower upper d x₀ x = (a ≡ Pass) × Factors f i r lower upper d (r .z) × (x ≡ ownOrder (i .c) (i .n) (r .z))
 
-abbrev pub Concluded : Form → Input → Counts → Answer → List Float → List Float → List Float → List Float → List Float → Type 0
-Concluded f i k a lower upper d x₀ x = Concludes f i k (listed i) a lower upper d x₀ x
+abbrev pub Concluded : Form → Input → Asked → List Float → List Float → List Float → List Float → List Float → Type 0
+Concluded f i a lower upper d x₀ x = Concludes f i (listed i) a lower upper d x₀ x

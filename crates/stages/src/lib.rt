@@ -13,12 +13,13 @@ ghost use Rattle.outcome.specs.Solve.{shape};
 ghost use Rattle.symbolic.specs.Pass.{foundAnswer};
 ghost use Rattle.factor.specs.Factoring.{lists, written};
 ghost use Rattle.stages.specs.Shaped.{structureShape, FactorDue, SolutionDue, faultAsked};
-ghost use Rattle.stages.specs.Stages.{isStop, isRefused, noCounts, blankIf, Concluded};
+ghost use Rattle.stages.specs.Stages.{isStop, isRefused, endOf, noCounts, blankIf, Concluded};
 ghost use Rattle.stages.specs.Asking.{StructureAsking, SolveAsking};
 ghost use Rattle.base.specs.Scratch.{zFrom};
 use base::Answer;
 use base::Asked;
 use base::Counts;
+use base::Ended;
 use base::Form;
 use base::Index;
 use base::Refusal;
@@ -297,10 +298,9 @@ pub fn factor_and_solve(
     x: &mut [f64],
     work: &mut [f64],
     marks: &mut [u32],
-    counts: Counts,
-) -> Answer
-    requires { ⌜ FactorDue form (inputOf n (now starts) (now columns) (now values) (now r) (now c) (now b)) (lists (now «lower_starts») (now «lower_index») (now «upper_starts») (now «upper_runs») (now «upper_index»)) (written (now «lower_values») (now «upper_values») (now d) (now work) (now marks)) (length (now x)) counts ⌝ }
-    ensures { λ a. ⌜ Concluded form (inputOf n (now (starts .entry)) (now (columns .entry)) (now (values .entry)) (now (r .entry)) (now (c .entry)) (now (b .entry))) counts a (now («lower_values» .exit)) (now («upper_values» .exit)) (now (d .exit)) (now (x .entry)) (now (x .exit)) ⌝ }
+) -> Asked
+    requires { ⌜ FactorDue form (inputOf n (now starts) (now columns) (now values) (now r) (now c) (now b)) (lists (now «lower_starts») (now «lower_index») (now «upper_starts») (now «upper_runs») (now «upper_index»)) (written (now «lower_values») (now «upper_values») (now d) (now work) (now marks)) (length (now x)) ⌝ }
+    ensures { λ a. ⌜ Concluded form (inputOf n (now (starts .entry)) (now (columns .entry)) (now (values .entry)) (now (r .entry)) (now (c .entry)) (now (b .entry))) a (now («lower_values» .exit)) (now («upper_values» .exit)) (now (d .exit)) (now (x .entry)) (now (x .exit)) ⌝ }
 {
     let factored = factor::factor(
         form,
@@ -323,10 +323,10 @@ pub fn factor_and_solve(
     );
     let fault = fault_of(factored);
     if stops(fault) {
-        return refusal(fault);
+        return fault;
     }
     write_x(n, c, work, x);
-    Answer::Done(counts)
+    fault
 }
 
 // ---- answers by a test. The calls branch on these: a match on an answer beside all buffers is dear to prove.
@@ -351,16 +351,34 @@ pub fn refuses(a: Answer) -> bool
     }
 }
 
+// Gives the answer of a call that ends with these questions, and its counts where they are passed.
+pub fn answer_of(a: Asked, counts: Counts) -> Answer
+    ensures { λ r. ⌜ r ≡ foundAnswer a counts ⌝ }
+{
+    match a {
+        Asked::Pass => Answer::Done(counts),
+        Asked::Stop(q) => Answer::Refused(q),
+    }
+}
+
+// Gives the same for a call without counts.
+pub fn end_of(a: Asked) -> Ended
+    ensures { λ r. ⌜ r ≡ endOf a ⌝ }
+{
+    match a {
+        Asked::Pass => Ended::Done,
+        Asked::Stop(q) => Ended::Refused(q),
+    }
+}
+
 // Gives the refusal of questions that stop the call.
 pub fn refusal(a: Asked) -> Answer
     ensures { λ r. ⌜ r ≡ foundAnswer a noCounts ⌝ }
 {
-    match a {
-        Asked::Pass => Answer::Done(Counts {
-            lower: 0,
-            upper: 0,
-            products: 0,
-        }),
-        Asked::Stop(q) => Answer::Refused(q),
-    }
+    let none = Counts {
+        lower: 0,
+        upper: 0,
+        products: 0,
+    };
+    answer_of(a, none)
 }

@@ -18,8 +18,8 @@ Found s = s .before .before .before .before .before .before .before .before .bef
 abbrev Counted : tie.After-factor-and-solve → tie.After-counts
 Counted s = s .before .before .before .before .before .before .before .before .before .before .before .before
 
-abbrev Solved : tie.After-slice-known17 → tie.After-factor-and-solve
-Solved s = s .before .before .before .before .before .before .before .before .before .before .before
+abbrev Solved : tie.After-answer-of → tie.After-factor-and-solve
+Solved s = s .before .before .before .before .before .before .before .before .before .before .before .before
 
 abbrev Earlier : tie.After-counts → tie.After-analyze-by-row
 Earlier s = Found (s .before .before)
@@ -42,7 +42,7 @@ returns-2 c =
     let k = Counted (Solved c) in
     let b = k .before in
     let q = Solved c .factor-and-solve in
-    row-leaves _ _ _ _ _ _ _ _ _ _ _ _ _ _ (q .last .1 .1 .1 .1 .1 .1 .1 .1 .1 .1 .0) _ _ _ _ _ _ _ (Earlier k .analyze-by-row .ensures) (done-with _ _ _ (b .before .refuses .ensures) (b .if1 .left) (k .counts .ensures)) (q .ensures) (q .kept .1 .1 .1 .1 .1 .1 .1 .1 .1 .1 .0)
+    row-leaves _ _ _ _ _ _ _ _ _ _ _ _ _ _ (q .last .1 .1 .1 .1 .1 .1 .1 .1 .1 .1 .0) _ _ _ _ _ _ _ _ (Earlier k .analyze-by-row .ensures) (done-with _ _ _ (b .before .refuses .ensures) (b .if1 .left) (k .counts .ensures)) (q .ensures) (c .answer-of .ensures) (q .kept .1 .1 .1 .1 .1 .1 .1 .1 .1 .1 .0)
 
 pub analyze-and-solve-spec : {M : Type 1} → statement M
 analyze-and-solve-spec =
