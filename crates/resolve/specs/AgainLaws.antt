@@ -16,6 +16,7 @@ use Rattle.base.specs.Answers.{andThen}
 use Rattle.base.specs.Limits.{maxRows, rowsWithin}
 use Rattle.base.specs.declared.Form.{Form}
 use Rattle.base.specs.declared.Form.the-variants.{Plain, Shared}
+use Rattle.base.specs.declared.SideSizes.{SideSizes}
 use Rattle.base.specs.declared.Sizes.{Sizes}
 use Rattle.base.specs.declared.Asked.{Asked}
 use Rattle.base.specs.declared.Asked.the-variants.{Pass, Stop}
@@ -104,6 +105,11 @@ module _ (f : Form) (i : Input) (z : Sizes) where
 
   pub again-due : againShape f i z ≡ Pass → askRight (i .n) (i .r) (i .c) (i .b) ≡ Pass → AgainDue f i z
   again-due e p = record { shaped = again-shaped e; passed = p }
+
+-- y and q are the lengths of the two sides
+pub asking-of : (f : Form) (i : Input) (y q l u : SideSizes) (d x s k : ℕ) (w : List Float) (m : List ℕ) (v : List Float) (t : List ℕ) (a : Asked) → y ≡ l → q ≡ u
+    → AgainAsking f i (sizesOf y q d x s k) w m v t a → AgainAsking f i (sizesOf l u d x s k) w m v t a
+asking-of f i y q l u d x s k w m v t a ey eq h = rw (← ey, ← eq) h
 
 -- ---- what 15 asks for, by form
 

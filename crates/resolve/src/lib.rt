@@ -6,6 +6,7 @@ ghost use Rattle.base.specs.All.{all};
 ghost use Rattle.matrix.specs.Input.{inputOf};
 ghost use Rattle.outcome.specs.Buffers.{sideBuffers, rightTests};
 ghost use Rattle.outcome.specs.Calls.{ResolvesPlain, ResolvesShared};
+ghost use Rattle.stages.specs.Shaped.{sideOf};
 ghost use Rattle.resolve.specs.Again.{againShape, AgainAsking, AgainReady, Again, endOf};
 use base::Asked;
 use base::Ended;
@@ -17,6 +18,18 @@ use base::Sizes;
 use matrix::Matrix;
 
 // ---- questions 1, 2, 5 and 6
+
+// Gives the lengths of what a side is lent.
+fn side_sizes(starts: &[u32], runs: usize, index: &[Index], values: &[f64]) -> SideSizes
+    ensures { λ z. ⌜ z ≡ sideOf (length (now (starts .entry))) runs (length (now (index .entry))) (length (now (values .entry))) ⌝ }
+{
+    SideSizes {
+        starts: starts.len(),
+        runs,
+        index: index.len(),
+        values: values.len(),
+    }
+}
 
 // Tells whether the orders and b are as long as stated.
 fn right_fits(n: usize, r: &[Index], c: &[Index], b: &[f64]) -> bool
@@ -166,18 +179,8 @@ pub fn resolve_plain(
         (now («lower_starts» .entry)) (now («lower_index» .entry)) (now («lower_values» .entry)) (now («upper_starts» .entry)) (now («upper_index» .entry)) (now («upper_values» .entry)) (now (d .entry)) (now (x .entry)) (now (work .entry)) (now (marks .entry)) a
         (now (x .exit)) (now (work .exit)) (now (marks .exit)) ⌝ }
 {
-    let lower = SideSizes {
-        starts: lower_starts.len(),
-        runs: 0,
-        index: lower_index.len(),
-        values: lower_values.len(),
-    };
-    let upper = SideSizes {
-        starts: upper_starts.len(),
-        runs: 0,
-        index: upper_index.len(),
-        values: upper_values.len(),
-    };
+    let lower = side_sizes(lower_starts, 0, lower_index, lower_values);
+    let upper = side_sizes(upper_starts, 0, upper_index, upper_values);
     let sizes = Sizes {
         lower,
         upper,
@@ -235,18 +238,8 @@ pub fn resolve_shared(
         (now («lower_starts» .entry)) (now («lower_runs» .entry)) (now («lower_index» .entry)) (now («lower_values» .entry)) (now («upper_starts» .entry)) (now («upper_runs» .entry)) (now («upper_index» .entry)) (now («upper_values» .entry)) (now (d .entry)) (now (x .entry)) (now (work .entry)) (now (marks .entry)) a
         (now (x .exit)) (now (work .exit)) (now (marks .exit)) ⌝ }
 {
-    let lower = SideSizes {
-        starts: lower_starts.len(),
-        runs: lower_runs.len(),
-        index: lower_index.len(),
-        values: lower_values.len(),
-    };
-    let upper = SideSizes {
-        starts: upper_starts.len(),
-        runs: upper_runs.len(),
-        index: upper_index.len(),
-        values: upper_values.len(),
-    };
+    let lower = side_sizes(lower_starts, lower_runs.len(), lower_index, lower_values);
+    let upper = side_sizes(upper_starts, upper_runs.len(), upper_index, upper_values);
     let sizes = Sizes {
         lower,
         upper,
