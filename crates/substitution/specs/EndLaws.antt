@@ -22,7 +22,7 @@ use Rattle.arithmetic.specs.Arith.{Out, ok, met, overflow}
 use Rattle.arithmetic.specs.Again.{Factors}
 use Rattle.arithmetic.specs.Stopping.{any, at, subtract, sumLess, back, again, solvedAgain}
 use Rattle.numeric.specs.Stores.{storeGiven, numberedBack}
-use Rattle.numeric.proofs.Turns.{tail-is}
+use Rattle.lent.specs.ReadingLaws.{take-rest}
 use Rattle.numeric.specs.declared.Back.{Back}
 use Rattle.numeric.specs.declared.Back.the-variants.{Complete, Stopped}
 use Rattle.factor.specs.EndLaws.{stopped-below}
@@ -46,7 +46,7 @@ module _ (r : List ℕ) (k : ℕ) (i : OwnNumber) (e : i ≡ ownAt r (spot k)) w
 
 -- places below n are places of what is left of scratch past n slots
 pub below-tail : (n : ℕ) (w : List Float) (js : List ℕ) → length w ≡ 3 * n → Below n js → Below (length (take (length w - n) (drop n w))) js
-below-tail n w js e b p h = rw (tail-is w n) (simp length-drop (omega (arith, b p h)))
+below-tail n w js e b p h = rw (take-rest n w) (simp length-drop (omega (arith, b p h)))
 
 pub column-spread : (n k : ℕ) (b : SideBuffers) (y : Float) (w last : List Float) (js : List ℕ) (us : List Float) → length last ≡ n → js ≡ listOf b k → us ≡ valuesOf b k
     → subtract any y js us (take n w) ≡ ok last → ColumnSpread n k b y w (last ++ drop n w)

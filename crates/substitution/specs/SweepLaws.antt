@@ -23,7 +23,8 @@ use Rattle.arithmetic.specs.Again.{Factors, givenBy}
 use Rattle.arithmetic.specs.Stopping.{Check, any, at, less, rest, back, sumLess, yAt, again, solvedAgain}
 use Rattle.arithmetic.specs.Sticky.{rest-at}
 use Rattle.numeric.specs.Stores.{storeGiven, numberedBack}
-use Rattle.numeric.specs.StoreLaws.{ready, drop-replicate}
+use Rattle.base.specs.ZerosLaws.{drop-replicate}
+use Rattle.numeric.specs.StoreLaws.{ready}
 use Rattle.numeric.specs.RowLaws.{bind-same}
 use Rattle.numeric.specs.PassLaws.{back-same}
 use Rattle.numeric.specs.Right.{across, Summed, rest-same, summed-more}
@@ -186,7 +187,7 @@ sweep-start f n F b right w er e = record {
   left = rw (sub-zero n);
   fine = λ j h. absurd (omega arith);
   sums = by-form f;
-  zeros = sym (drop-twice n w) ∙ rw (e, drop-at (table right n) (drop n (replicate (3 * n) nought)) n (length-table right n), drop-twice n (replicate (3 * n) nought), drop-replicate (3 * n) (zFrom n) nought)
+  zeros = sym (drop-twice n w) ∙ rw (e, drop-at (table right n) (drop n (replicate (3 * n) nought)) n (length-table right n), drop-twice n (replicate (3 * n) nought), drop-replicate nought (3 * n) (zFrom n))
       (let z : 3 * n - zFrom n ≡ n = omega arith in rw z);
 }
   where

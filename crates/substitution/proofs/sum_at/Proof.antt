@@ -1,6 +1,7 @@
 use denote.Ref.{now}
 use Rattle.numeric.specs.StoreLaws.{ready}
-use Rattle.numeric.proofs.Turns.{tail-is, rest-is}
+use Rattle.lent.specs.ReadingLaws.{take-rest}
+use Rattle.numeric.proofs.Turns.{rest-is}
 use Rattle.outcome.specs.Buffers.{SideBuffers, sideBuffers}
 use Rattle.substitution.specs.SweepLaws.{sum-columns, sum-rows}
 use Rattle.substitution.specs.EndLaws.{below-tail}
@@ -37,7 +38,7 @@ returns-2 c =
     let e = v .before .before in
     let s = Begin (e .before) in
     sum-rows (s .args .form) _ (e .before .by-columns .ensures) (s .args .n) (s .args .k) (side s) (now (s .args .work)) _ (e .if1 .left)
-    (rest-is _ _ _ _ _ _ _ _ (v .before .list-at .ensures) (v .values-at .ensures) (tail-is (now (s .args .work)) (s .args .n)) (c .subtract-products .ensures))
+    (rest-is _ _ _ _ _ _ _ _ (v .before .list-at .ensures) (v .values-at .ensures) (take-rest (s .args .n) (now (s .args .work))) (c .subtract-products .ensures))
 
 pub sum-at-spec : {M : Type 1} → statement M
 sum-at-spec =
