@@ -1,5 +1,5 @@
 -- Laws of refactor over plain lists: what 14 and the arithmetic ask for, and the outcome that each end of the call comes to.
-use mathlib.Core.Path.{_≡_, refl, sym, ap, _∙_}
+use mathlib.Core.Path.{_≡_, refl, ap, _∙_}
 use mathlib.Core.Bool.{Bool, true, false}
 use mathlib.Core.List.{List, []}
 use Prim.Native.Nat.{ℕ}
@@ -9,7 +9,6 @@ use Rattle.base.specs.Lists.{blank, padded, nought}
 use Rattle.base.specs.Answers.{andThen}
 use Rattle.base.specs.declared.Form.{Form}
 use Rattle.base.specs.declared.Side.the-variants.{Lower, Upper}
-use Rattle.base.specs.declared.Refusal.{Refusal}
 use Rattle.base.specs.declared.Asked.{Asked}
 use Rattle.base.specs.declared.Asked.the-variants.{Pass, Stop}
 use Rattle.base.specs.declared.Ended.{Ended}
@@ -29,7 +28,7 @@ use Rattle.comparison.specs.Comparing.{formOf, RunsBy, Presenting, Standing, Co
 use Rattle.stages.specs.Stages.{isStop, endOf, blankIf, Concludes, Concluded}
 use Rattle.stages.specs.Shaped.{sideOf, sizesOf, pattern, SolveDue, FactorDue}
 use Rattle.stages.specs.ShapedLaws.{plain-lent, shared-lent, pattern-structured, starts-of, factor-due}
-use Rattle.stages.specs.Branches.{never, pass-of}
+use Rattle.stages.specs.Branches.{never}
 use Rattle.stages.specs.Asking.{Blanked, Asking, SolveAsking, asking-stopped, asking-more, stops-call, goes-on, as-was, blank-scratch}
 use Rattle.stages.specs.Ends.{blank-of, nothing-stored}
 use Rattle.refactor.specs.Presented.{PresentedAsking, RefactorsBy}

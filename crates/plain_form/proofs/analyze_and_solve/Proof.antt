@@ -57,7 +57,7 @@ analyze-and-solve-spec =
     (λ c. Found (c .before) .analyze-plain .kept .1 .1 .1 .1 .1 .1 .1 .1 .0)
     (λ c. Found (c .before) .analyze-plain .kept .1 .1 .1 .1 .1 .1 .1 .1 .1 .0)
     (λ c. Found (c .before) .analyze-plain .kept .1 .1 .1 .1 .1 .1 .1 .1 .1 .1 .1 .0)
-    returns (λ c κs. search needs) factor-and-solve-requires
+    returns (λ c κs. search needs) factor-and-solve-requires (λ c κs. search needs)
     (λ c. Earlier (Counted (Solved c)) .analyze-plain .kept .1 .1 .1 .1 .1 .0)
     (λ c. Earlier (Counted (Solved c)) .analyze-plain .kept .1 .1 .1 .1 .1 .1 .0)
     (λ c. Solved c .factor-and-solve .kept .1 .1 .1 .1 .1 .1 .1 .1 .1 .1 .0)

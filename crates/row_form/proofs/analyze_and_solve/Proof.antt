@@ -51,7 +51,7 @@ analyze-and-solve-spec =
     (λ c. Found (c .before) .analyze-by-row .kept .1 .1 .1 .1 .1 .1 .0)
     (λ c. Found (c .before) .analyze-by-row .kept .1 .1 .1 .1 .1 .1 .1 .0)
     (λ c. Found (c .before) .analyze-by-row .kept .1 .1 .1 .1 .1 .1 .1 .1 .1 .0)
-    returns (λ c κs. search needs) (λ c. search needs) (λ c. search needs) (λ c. search needs) (λ c. search needs) factor-and-solve-requires
+    returns (λ c κs. search needs) (λ c. search needs) (λ c. search needs) (λ c. search needs) (λ c. search needs) factor-and-solve-requires (λ c κs. search needs)
     (λ c. Earlier (Counted (Solved c)) .analyze-by-row .kept .1 .1 .1 .1 .1 .0)
     (λ c. Earlier (Counted (Solved c)) .analyze-by-row .kept .1 .1 .1 .1 .1 .1 .0)
     (λ c. Earlier (Counted (Solved c)) .analyze-by-row .kept .1 .1 .1 .1 .1 .1 .1 .0)

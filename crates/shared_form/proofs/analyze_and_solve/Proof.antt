@@ -60,7 +60,7 @@ analyze-and-solve-spec =
     (λ c. Found (c .before) .analyze-shared .kept .1 .1 .1 .1 .1 .1 .1 .1 .1 .1 .0)
     (λ c. Found (c .before) .analyze-shared .kept .1 .1 .1 .1 .1 .1 .1 .1 .1 .1 .1 .0)
     (λ c. Found (c .before) .analyze-shared .kept .1 .1 .1 .1 .1 .1 .1 .1 .1 .1 .1 .1 .1 .0)
-    returns (λ c κs. search needs) factor-and-solve-requires
+    returns (λ c κs. search needs) factor-and-solve-requires (λ c κs. search needs)
     (λ c. Earlier (Counted (Solved c)) .analyze-shared .kept .1 .1 .1 .1 .1 .0)
     (λ c. Earlier (Counted (Solved c)) .analyze-shared .kept .1 .1 .1 .1 .1 .1 .0)
     (λ c. Earlier (Counted (Solved c)) .analyze-shared .kept .1 .1 .1 .1 .1 .1 .1 .0)
