@@ -9,6 +9,7 @@ ghost use Rattle.matrix.specs.Input.{inputOf};
 ghost use Rattle.outcome.specs.Buffers.{plainBuffers, sharedBuffers, rowBuffers};
 ghost use Rattle.outcome.specs.Structure.{structure};
 ghost use Rattle.outcome.specs.Solve.{solve};
+ghost use Rattle.outcome.specs.Refactor.{refactor};
 ghost use Rattle.outcome.specs.Resolve.{resolve};
 ghost use Rattle.lookup.specs.Lookup.{sideLists};
 ghost use Rattle.matrix_file.specs.MatrixFile.{matrixLists, opened, readOutcome, writeOutcome};
@@ -246,6 +247,108 @@ pub extern "C" fn lp_solve_row(
         scratch_u32,
     );
     report::put_answer(report, a)
+}
+
+// Factors new values over lists found before, in the plain form, and finds one solution.
+#[no_mangle]
+pub extern "C" fn lp_refactor_plain(
+    n: usize,
+    starts: &[u32],
+    columns: &[Index],
+    values: &[f64],
+    r: &[Index],
+    c: &[Index],
+    b: &[f64],
+    lower_starts: &[u32],
+    lower_index: &[Index],
+    lower_values: &mut [f64],
+    upper_starts: &[u32],
+    upper_index: &[Index],
+    upper_values: &mut [f64],
+    d: &mut [f64],
+    x: &mut [f64],
+    scratch_f64: &mut [f64],
+    scratch_u32: &mut [u32],
+    report: &mut [u64],
+) -> u32
+    ensures { λ q. ⌜ ToldEnd (asLeft (refactor Form.Plain (inputOf n (now (starts .entry)) (now (columns .entry)) (now (values .entry)) (now (r .entry)) (now (c .entry)) (now (b .entry)))
+        (plainBuffers (now («lower_starts» .entry)) (now («lower_index» .entry)) (now («lower_values» .entry)) (now («upper_starts» .entry)) (now («upper_index» .entry)) (now («upper_values» .entry)) (now (d .entry)) (now (x .entry)) (now («scratch_f64» .entry)) (now («scratch_u32» .entry)))))
+        (now (report .entry)) (now (report .exit))
+        (plainBuffers (now («lower_starts» .entry)) (now («lower_index» .entry)) (now («lower_values» .exit)) (now («upper_starts» .entry)) (now («upper_index» .entry)) (now («upper_values» .exit)) (now (d .exit)) (now (x .exit)) (now («scratch_f64» .exit)) (now («scratch_u32» .exit))) q ⌝ }
+{
+    let a = refactor::refactor_plain(
+        n,
+        starts,
+        columns,
+        values,
+        r,
+        c,
+        b,
+        lower_starts,
+        lower_index,
+        lower_values,
+        upper_starts,
+        upper_index,
+        upper_values,
+        d,
+        x,
+        scratch_f64,
+        scratch_u32,
+    );
+    report::put_end(report, a)
+}
+
+// Factors new values over lists found before, in the shared form, and finds one solution.
+#[no_mangle]
+pub extern "C" fn lp_refactor_shared(
+    n: usize,
+    starts: &[u32],
+    columns: &[Index],
+    values: &[f64],
+    r: &[Index],
+    c: &[Index],
+    b: &[f64],
+    lower_starts: &[u32],
+    lower_runs: &[u32],
+    lower_index: &[Index],
+    lower_values: &mut [f64],
+    upper_starts: &[u32],
+    upper_runs: &[u32],
+    upper_index: &[Index],
+    upper_values: &mut [f64],
+    d: &mut [f64],
+    x: &mut [f64],
+    scratch_f64: &mut [f64],
+    scratch_u32: &mut [u32],
+    report: &mut [u64],
+) -> u32
+    ensures { λ q. ⌜ ToldEnd (asLeft (refactor Form.Shared (inputOf n (now (starts .entry)) (now (columns .entry)) (now (values .entry)) (now (r .entry)) (now (c .entry)) (now (b .entry)))
+        (sharedBuffers (now («lower_starts» .entry)) (now («lower_runs» .entry)) (now («lower_index» .entry)) (now («lower_values» .entry)) (now («upper_starts» .entry)) (now («upper_runs» .entry)) (now («upper_index» .entry)) (now («upper_values» .entry)) (now (d .entry)) (now (x .entry)) (now («scratch_f64» .entry)) (now («scratch_u32» .entry)))))
+        (now (report .entry)) (now (report .exit))
+        (sharedBuffers (now («lower_starts» .entry)) (now («lower_runs» .entry)) (now («lower_index» .entry)) (now («lower_values» .exit)) (now («upper_starts» .entry)) (now («upper_runs» .entry)) (now («upper_index» .entry)) (now («upper_values» .exit)) (now (d .exit)) (now (x .exit)) (now («scratch_f64» .exit)) (now («scratch_u32» .exit))) q ⌝ }
+{
+    let a = refactor::refactor_shared(
+        n,
+        starts,
+        columns,
+        values,
+        r,
+        c,
+        b,
+        lower_starts,
+        lower_runs,
+        lower_index,
+        lower_values,
+        upper_starts,
+        upper_runs,
+        upper_index,
+        upper_values,
+        d,
+        x,
+        scratch_f64,
+        scratch_u32,
+    );
+    report::put_end(report, a)
 }
 
 // Solves for another right side with factors of the plain form.
