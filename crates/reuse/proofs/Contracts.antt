@@ -1,23 +1,27 @@
 -- The same by the lists that the calls are lent, as their contracts name them.
-use mathlib.Core.Path.{_≡_, refl, sym}
-use mathlib.Core.List.{List, []}
+use mathlib.Core.Path.{_≡_, refl, sym, ap}
+use mathlib.Core.List.{List, [], _++_}
 use Prim.Native.Nat.{ℕ, _≤_}
 use native.Mathlib.Omega.{arith}
 use lib.ListN.{length}
 use lib.Ieee.{Float}
+use Rattle.base.specs.declared.Form.{Form}
 use Rattle.base.specs.declared.Form.the-variants.{Plain, Shared}
 use Rattle.base.specs.declared.Counts.{Counts}
 use Rattle.base.specs.declared.Answer.{Answer}
 use Rattle.base.specs.declared.Answer.the-variants.{Done}
 use Rattle.base.specs.declared.Ended.{Ended}
 use Rattle.base.specs.declared.Ended.the-variants as ends
-use Rattle.matrix.specs.Input.{Input}
-use Rattle.outcome.specs.Buffers.{sideBuffers, Buffers, plainBuffers, sharedBuffers, ended}
-use Rattle.outcome.specs.Resolve.{resolve}
-use Rattle.outcome.specs.Calls.{StructuresPlain, StructuresShared, SolvesPlain, SolvesShared}
+use Rattle.matrix.specs.Input.{Input, rightAt}
+use Rattle.matrix.specs.Questions.{askRight}
+use Rattle.arithmetic.specs.Arith.{Out, ok, met, judged}
+use Rattle.arithmetic.specs.Again.{wholeAgain}
+use Rattle.outcome.specs.Buffers.{sideBuffers, Buffers, sizes, plainBuffers, sharedBuffers, rightTests, bufferTests, askShape, scratchCleared, Outcome, ended, stop}
+use Rattle.outcome.specs.Resolve.{askFactors, factorsOf, resolved, resolve}
+use Rattle.outcome.specs.Calls.{StructuresPlain, StructuresShared, SolvesPlain, SolvesShared, ResolvesPlain, ResolvesShared}
 use Rattle.outcome.specs.Again.{RefactorsPlain, RefactorsShared}
 use Rattle.agreement.specs.Demand.{Stated}
-use Rattle.reuse.specs.Reuse.{Keeps, withNumbers, withRight, after-structure, after-solve, SameLists, Presented, RefactorsAs, by-solve, by-refactor, FiniteRight, ResolvesAs, Alike}
+use Rattle.reuse.specs.Reuse.{Keeps, withNumbers, withRight, rightOf, after-structure, after-solve, SameLists, Presented, RefactorsAs, by-solve, by-refactor, FiniteRight, ResolvesAs, Alike}
 use Rattle.reuse.proofs.Refactoring.{refactoring, refactoring-alike}
 use Rattle.reuse.proofs.Resolving.{resolving, resolving-alike}
 
@@ -81,41 +85,53 @@ pub refactors-alike : (i : Input) (v b : List Float) (a₁ a₂ : Ended) (ls₁ 
     → Alike (ended a₁ (plainBuffers ls₁ li₁ lv₁' us₁ ui₁ uv₁' d₁' x₁' w₁' m₁')) (ended a₂ (sharedBuffers ls₂ lr₂ li₂ lv₂' us₂ ur₂ ui₂ uv₂' d₂' x₂' w₂' m₂'))
 refactors-alike i v b a₁ a₂ ls₁ li₁ us₁ ui₁ m₁ m₁' ls₂ lr₂ li₂ us₂ ur₂ ui₂ m₂ m₂' lv₁ uv₁ d₁ x₁ w₁ lv₁' uv₁' d₁' x₁' w₁' lv₂ uv₂ d₂ x₂ w₂ lv₂' uv₂' d₂' x₂' w₂' h q k r e g = rw (e, g) (refactoring-alike Plain Shared plain-keeps shared-keeps i v b _ _ h k q r)
 
--- another right side after a solve and after a refactor; t is what it leaves
-pub solve-resolves-plain : (i : Input) (b : List Float) (c : Counts) (a : Ended) (p : Answer) (t : Buffers) (ls₀ li₀ us₀ ui₀ m₀ ls li us ui m ls'' li'' us'' ui'' m'' : List ℕ) (lv₀ uv₀ d₀ x₀ w₀ lv uv d x w lv'' uv'' d'' x'' w'' : List Float)
+-- another right side looks at no matrix
+resolved-right : (i : Input) (b : List Float) (s : Buffers) (o : Out (List Float)) → resolved (rightOf i b) s o ≡ resolved (withRight i b) s o
+resolved-right i b s (ok z) = refl
+resolved-right i b s (met q) = refl
+
+right-only : (f : Form) (i : Input) (b : List Float) (s : Buffers) → resolve f (rightOf i b) s ≡ resolve f (withRight i b) s
+unfolding resolve factorsOf rightAt
+right-only f i b s =
+    ap (λ (o : Outcome Ended). stop ends.Refused (askShape (i .n) (rightTests (rightOf i b) ++ bufferTests f (i .n) (sizes s))) s
+    (stop ends.Refused (askRight (i .n) (i .r) (i .c) b) (scratchCleared s) (stop ends.Refused (askFactors f (i .n) s) (scratchCleared s) o)))
+    (resolved-right i b s (judged (wholeAgain (factorsOf f (rightOf i b) s))))
+
+-- another right side after a solve and after a refactor
+pub solve-resolves-plain : (i : Input) (b : List Float) (c : Counts) (a : Ended) (p : Answer) (x' w' : List Float) (m' : List ℕ) (ls₀ li₀ us₀ ui₀ m₀ ls li us ui m ls'' li'' us'' ui'' m'' : List ℕ) (lv₀ uv₀ d₀ x₀ w₀ lv uv d x w lv'' uv'' d'' x'' w'' : List Float)
     → SolvesPlain i ls₀ li₀ lv₀ us₀ ui₀ uv₀ d₀ x₀ w₀ m₀ (Done c) ls li lv us ui uv d x w m → FiniteRight (i .n) b
-    → ended a t ≡ resolve Plain (withRight i b) (plainBuffers ls li lv us ui uv d x w m)
+    → ResolvesPlain (rightOf i b) ls li lv us ui uv d x w m a x' w' m'
     → SolvesPlain (withRight i b) ls₀ li₀ lv₀ us₀ ui₀ uv₀ d₀ x₀ w₀ m₀ p ls'' li'' lv'' us'' ui'' uv'' d'' x'' w'' m''
-    → ResolvesAs (plainBuffers ls li lv us ui uv d x w m) (ended a t) (ended p (plainBuffers ls'' li'' lv'' us'' ui'' uv'' d'' x'' w'' m''))
-solve-resolves-plain i b c a p t ls₀ li₀ us₀ ui₀ m₀ ls li us ui m ls'' li'' us'' ui'' m'' lv₀ uv₀ d₀ x₀ w₀ lv uv d x w lv'' uv'' d'' x'' w'' h n e g = rw (e, g) (resolving Plain plain-keeps i _ _ (by-solve c (sym h)) b n)
+    → ResolvesAs (plainBuffers ls li lv us ui uv d x w m) (ended a (plainBuffers ls li lv us ui uv d x' w' m')) (ended p (plainBuffers ls'' li'' lv'' us'' ui'' uv'' d'' x'' w'' m''))
+solve-resolves-plain i b c a p x' w' m' ls₀ li₀ us₀ ui₀ m₀ ls li us ui m ls'' li'' us'' ui'' m'' lv₀ uv₀ d₀ x₀ w₀ lv uv d x w lv'' uv'' d'' x'' w'' h n e g = rw (e, right-only Plain i b (plainBuffers ls li lv us ui uv d x w m), g) (resolving Plain plain-keeps i _ _ (by-solve c (sym h)) b n)
 
-pub refactor-resolves-plain : (i : Input) (b : List Float) (a : Ended) (p : Answer) (t : Buffers) (ls li us ui m₀ m ls'' li'' us'' ui'' m'' : List ℕ) (lv₀ uv₀ d₀ x₀ w₀ lv uv d x w lv'' uv'' d'' x'' w'' : List Float)
+pub refactor-resolves-plain : (i : Input) (b : List Float) (a : Ended) (p : Answer) (x' w' : List Float) (m' : List ℕ) (ls li us ui m₀ m ls'' li'' us'' ui'' m'' : List ℕ) (lv₀ uv₀ d₀ x₀ w₀ lv uv d x w lv'' uv'' d'' x'' w'' : List Float)
     → RefactorsPlain i ls li lv₀ us ui uv₀ d₀ x₀ w₀ m₀ ends.Done lv uv d x w m → FiniteRight (i .n) b
-    → ended a t ≡ resolve Plain (withRight i b) (plainBuffers ls li lv us ui uv d x w m)
+    → ResolvesPlain (rightOf i b) ls li lv us ui uv d x w m a x' w' m'
     → SolvesPlain (withRight i b) ls li lv₀ us ui uv₀ d₀ x₀ w₀ m₀ p ls'' li'' lv'' us'' ui'' uv'' d'' x'' w'' m''
-    → ResolvesAs (plainBuffers ls li lv us ui uv d x w m) (ended a t) (ended p (plainBuffers ls'' li'' lv'' us'' ui'' uv'' d'' x'' w'' m''))
-refactor-resolves-plain i b a p t ls li us ui m₀ m ls'' li'' us'' ui'' m'' lv₀ uv₀ d₀ x₀ w₀ lv uv d x w lv'' uv'' d'' x'' w'' h n e g = rw (e, g) (resolving Plain plain-keeps i _ _ (by-refactor (sym h)) b n)
+    → ResolvesAs (plainBuffers ls li lv us ui uv d x w m) (ended a (plainBuffers ls li lv us ui uv d x' w' m')) (ended p (plainBuffers ls'' li'' lv'' us'' ui'' uv'' d'' x'' w'' m''))
+refactor-resolves-plain i b a p x' w' m' ls li us ui m₀ m ls'' li'' us'' ui'' m'' lv₀ uv₀ d₀ x₀ w₀ lv uv d x w lv'' uv'' d'' x'' w'' h n e g = rw (e, right-only Plain i b (plainBuffers ls li lv us ui uv d x w m), g) (resolving Plain plain-keeps i _ _ (by-refactor (sym h)) b n)
 
-pub solve-resolves-shared : (i : Input) (b : List Float) (c : Counts) (a : Ended) (p : Answer) (t : Buffers) (ls₀ lr₀ li₀ us₀ ur₀ ui₀ m₀ ls lr li us ur ui m ls'' lr'' li'' us'' ur'' ui'' m'' : List ℕ) (lv₀ uv₀ d₀ x₀ w₀ lv uv d x w lv'' uv'' d'' x'' w'' : List Float)
+pub solve-resolves-shared : (i : Input) (b : List Float) (c : Counts) (a : Ended) (p : Answer) (x' w' : List Float) (m' : List ℕ) (ls₀ lr₀ li₀ us₀ ur₀ ui₀ m₀ ls lr li us ur ui m ls'' lr'' li'' us'' ur'' ui'' m'' : List ℕ) (lv₀ uv₀ d₀ x₀ w₀ lv uv d x w lv'' uv'' d'' x'' w'' : List Float)
     → SolvesShared i ls₀ lr₀ li₀ lv₀ us₀ ur₀ ui₀ uv₀ d₀ x₀ w₀ m₀ (Done c) ls lr li lv us ur ui uv d x w m → FiniteRight (i .n) b
-    → ended a t ≡ resolve Shared (withRight i b) (sharedBuffers ls lr li lv us ur ui uv d x w m)
+    → ResolvesShared (rightOf i b) ls lr li lv us ur ui uv d x w m a x' w' m'
     → SolvesShared (withRight i b) ls₀ lr₀ li₀ lv₀ us₀ ur₀ ui₀ uv₀ d₀ x₀ w₀ m₀ p ls'' lr'' li'' lv'' us'' ur'' ui'' uv'' d'' x'' w'' m''
-    → ResolvesAs (sharedBuffers ls lr li lv us ur ui uv d x w m) (ended a t) (ended p (sharedBuffers ls'' lr'' li'' lv'' us'' ur'' ui'' uv'' d'' x'' w'' m''))
-solve-resolves-shared i b c a p t ls₀ lr₀ li₀ us₀ ur₀ ui₀ m₀ ls lr li us ur ui m ls'' lr'' li'' us'' ur'' ui'' m'' lv₀ uv₀ d₀ x₀ w₀ lv uv d x w lv'' uv'' d'' x'' w'' h n e g = rw (e, g) (resolving Shared shared-keeps i _ _ (by-solve c (sym h)) b n)
+    → ResolvesAs (sharedBuffers ls lr li lv us ur ui uv d x w m) (ended a (sharedBuffers ls lr li lv us ur ui uv d x' w' m')) (ended p (sharedBuffers ls'' lr'' li'' lv'' us'' ur'' ui'' uv'' d'' x'' w'' m''))
+solve-resolves-shared i b c a p x' w' m' ls₀ lr₀ li₀ us₀ ur₀ ui₀ m₀ ls lr li us ur ui m ls'' lr'' li'' us'' ur'' ui'' m'' lv₀ uv₀ d₀ x₀ w₀ lv uv d x w lv'' uv'' d'' x'' w'' h n e g = rw (e, right-only Shared i b (sharedBuffers ls lr li lv us ur ui uv d x w m), g) (resolving Shared shared-keeps i _ _ (by-solve c (sym h)) b n)
 
-pub refactor-resolves-shared : (i : Input) (b : List Float) (a : Ended) (p : Answer) (t : Buffers) (ls lr li us ur ui m₀ m ls'' lr'' li'' us'' ur'' ui'' m'' : List ℕ) (lv₀ uv₀ d₀ x₀ w₀ lv uv d x w lv'' uv'' d'' x'' w'' : List Float)
+pub refactor-resolves-shared : (i : Input) (b : List Float) (a : Ended) (p : Answer) (x' w' : List Float) (m' : List ℕ) (ls lr li us ur ui m₀ m ls'' lr'' li'' us'' ur'' ui'' m'' : List ℕ) (lv₀ uv₀ d₀ x₀ w₀ lv uv d x w lv'' uv'' d'' x'' w'' : List Float)
     → RefactorsShared i ls lr li lv₀ us ur ui uv₀ d₀ x₀ w₀ m₀ ends.Done lv uv d x w m → FiniteRight (i .n) b
-    → ended a t ≡ resolve Shared (withRight i b) (sharedBuffers ls lr li lv us ur ui uv d x w m)
+    → ResolvesShared (rightOf i b) ls lr li lv us ur ui uv d x w m a x' w' m'
     → SolvesShared (withRight i b) ls lr li lv₀ us ur ui uv₀ d₀ x₀ w₀ m₀ p ls'' lr'' li'' lv'' us'' ur'' ui'' uv'' d'' x'' w'' m''
-    → ResolvesAs (sharedBuffers ls lr li lv us ur ui uv d x w m) (ended a t) (ended p (sharedBuffers ls'' lr'' li'' lv'' us'' ur'' ui'' uv'' d'' x'' w'' m''))
-refactor-resolves-shared i b a p t ls lr li us ur ui m₀ m ls'' lr'' li'' us'' ur'' ui'' m'' lv₀ uv₀ d₀ x₀ w₀ lv uv d x w lv'' uv'' d'' x'' w'' h n e g = rw (e, g) (resolving Shared shared-keeps i _ _ (by-refactor (sym h)) b n)
+    → ResolvesAs (sharedBuffers ls lr li lv us ur ui uv d x w m) (ended a (sharedBuffers ls lr li lv us ur ui uv d x' w' m')) (ended p (sharedBuffers ls'' lr'' li'' lv'' us'' ur'' ui'' uv'' d'' x'' w'' m''))
+refactor-resolves-shared i b a p x' w' m' ls lr li us ur ui m₀ m ls'' lr'' li'' us'' ur'' ui'' m'' lv₀ uv₀ d₀ x₀ w₀ lv uv d x w lv'' uv'' d'' x'' w'' h n e g = rw (e, right-only Shared i b (sharedBuffers ls lr li lv us ur ui uv d x w m), g) (resolving Shared shared-keeps i _ _ (by-refactor (sym h)) b n)
 
--- with 1 the plain form's lists, with 2 the shared form's; t and u are what another right side leaves
-pub resolves-alike : (i : Input) (b : List Float) (c₁ c₂ : Counts) (a₁ a₂ : Ended) (t u : Buffers) (ls₁ li₁ us₁ ui₁ m₁ ls₁' li₁' us₁' ui₁' m₁' ls₂ lr₂ li₂ us₂ ur₂ ui₂ m₂ ls₂' lr₂' li₂' us₂' ur₂' ui₂' m₂' : List ℕ) (lv₁ uv₁ d₁ x₁ w₁ lv₁' uv₁' d₁' x₁' w₁' lv₂ uv₂ d₂ x₂ w₂ lv₂' uv₂' d₂' x₂' w₂' : List Float)
+-- with 1 the plain form's lists, with 2 the shared form's; two dashes mark what another right side leaves
+pub resolves-alike : (i : Input) (b : List Float) (c₁ c₂ : Counts) (a₁ a₂ : Ended) (m₁'' m₂'' : List ℕ) (x₁'' w₁'' x₂'' w₂'' : List Float) (ls₁ li₁ us₁ ui₁ m₁ ls₁' li₁' us₁' ui₁' m₁' ls₂ lr₂ li₂ us₂ ur₂ ui₂ m₂ ls₂' lr₂' li₂' us₂' ur₂' ui₂' m₂' : List ℕ) (lv₁ uv₁ d₁ x₁ w₁ lv₁' uv₁' d₁' x₁' w₁' lv₂ uv₂ d₂ x₂ w₂ lv₂' uv₂' d₂' x₂' w₂' : List Float)
     → SolvesPlain i ls₁ li₁ lv₁ us₁ ui₁ uv₁ d₁ x₁ w₁ m₁ (Done c₁) ls₁' li₁' lv₁' us₁' ui₁' uv₁' d₁' x₁' w₁' m₁'
     → SolvesShared i ls₂ lr₂ li₂ lv₂ us₂ ur₂ ui₂ uv₂ d₂ x₂ w₂ m₂ (Done c₂) ls₂' lr₂' li₂' lv₂' us₂' ur₂' ui₂' uv₂' d₂' x₂' w₂' m₂'
-    → ended a₁ t ≡ resolve Plain (withRight i b) (plainBuffers ls₁' li₁' lv₁' us₁' ui₁' uv₁' d₁' x₁' w₁' m₁')
-    → ended a₂ u ≡ resolve Shared (withRight i b) (sharedBuffers ls₂' lr₂' li₂' lv₂' us₂' ur₂' ui₂' uv₂' d₂' x₂' w₂' m₂')
-    → Alike (ended a₁ t) (ended a₂ u)
-resolves-alike i b c₁ c₂ a₁ a₂ t u ls₁ li₁ us₁ ui₁ m₁ ls₁' li₁' us₁' ui₁' m₁' ls₂ lr₂ li₂ us₂ ur₂ ui₂ m₂ ls₂' lr₂' li₂' us₂' ur₂' ui₂' m₂' lv₁ uv₁ d₁ x₁ w₁ lv₁' uv₁' d₁' x₁' w₁' lv₂ uv₂ d₂ x₂ w₂ lv₂' uv₂' d₂' x₂' w₂' h k e g =
-    rw (e, g) (resolving-alike Plain Shared plain-keeps shared-keeps i _ _ _ _ (by-solve c₁ (sym h)) (by-solve c₂ (sym k)) b)
+    → ResolvesPlain (rightOf i b) ls₁' li₁' lv₁' us₁' ui₁' uv₁' d₁' x₁' w₁' m₁' a₁ x₁'' w₁'' m₁''
+    → ResolvesShared (rightOf i b) ls₂' lr₂' li₂' lv₂' us₂' ur₂' ui₂' uv₂' d₂' x₂' w₂' m₂' a₂ x₂'' w₂'' m₂''
+    → Alike (ended a₁ (plainBuffers ls₁' li₁' lv₁' us₁' ui₁' uv₁' d₁' x₁'' w₁'' m₁'')) (ended a₂ (sharedBuffers ls₂' lr₂' li₂' lv₂' us₂' ur₂' ui₂' uv₂' d₂' x₂'' w₂'' m₂''))
+resolves-alike i b c₁ c₂ a₁ a₂ m₁'' m₂'' x₁'' w₁'' x₂'' w₂'' ls₁ li₁ us₁ ui₁ m₁ ls₁' li₁' us₁' ui₁' m₁' ls₂ lr₂ li₂ us₂ ur₂ ui₂ m₂ ls₂' lr₂' li₂' us₂' ur₂' ui₂' m₂' lv₁ uv₁ d₁ x₁ w₁ lv₁' uv₁' d₁' x₁' w₁' lv₂ uv₂ d₂ x₂ w₂ lv₂' uv₂' d₂' x₂' w₂' h k e g =
+    rw (e, right-only Plain i b (plainBuffers ls₁' li₁' lv₁' us₁' ui₁' uv₁' d₁' x₁' w₁' m₁'), g, right-only Shared i b (sharedBuffers ls₂' lr₂' li₂' lv₂' us₂' ur₂' ui₂' uv₂' d₂' x₂' w₂' m₂')) (resolving-alike Plain Shared plain-keeps shared-keeps i _ _ _ _ (by-solve c₁ (sym h)) (by-solve c₂ (sym k)) b)

@@ -1,6 +1,6 @@
 -- What refactor and another right side owe the solve, over what earlier calls left. Definitions only.
 use mathlib.Core.Path.{_≡_}
-use mathlib.Core.List.{List}
+use mathlib.Core.List.{List, []}
 use Prim.Native.Nat.{ℕ, _≤_, _<_}
 use lib.ListN.{length, getD}
 use lib.Ieee.{Float, nan}
@@ -41,6 +41,10 @@ withNumbers i v b = inputOf (i .n) (i .starts) (i .columns) v (i .r) (i .c) b
 -- the same values too
 abbrev pub withRight : Input → List Float → Input
 withRight i b = withNumbers i (i .values) b
+
+-- what another right side is lent of it: the orders and b, no matrix
+abbrev pub rightOf : Input → List Float → Input
+rightOf i b = inputOf (i .n) [] [] [] (i .r) (i .c) b
 
 -- ---- refactor over lists found before
 
