@@ -57,7 +57,7 @@ impl Lists {
         self.starts.last().map_or(0, |&end| end as usize)
     }
 
-    /// The index slots that the lists use: in the shared form, the run start of the last list, which is always empty and
+    /// The index slots that the lists use: in the shared form the run start of the last list, which is always empty and
     /// stands behind all others.
     pub fn index_slots(&self) -> usize {
         self.runs.last().map_or_else(|| self.value_slots(), |&run| run as usize)
