@@ -1,7 +1,7 @@
 #!/usr/bin/env bash
 # Runs the tests outside the proofs: solve.sh as the README calls it, another solver against the library and the
-# program, faults planted for that comparison to find, the C header, the benchmark's own solver, and the Matrix Market
-# tool. Nothing is left out: what is missing counts as failed. Ends with one line 'N passed, M failed'.
+# program, faults planted for that comparison to find, the C header, the Rust crate, the benchmark's own solver, and the
+# Matrix Market tool. Nothing is left out: what is missing counts as failed. Ends with one line 'N passed, M failed'.
 set -u
 cd "$(dirname "$0")/.." || exit 1
 
@@ -46,6 +46,24 @@ one() {
     fi
 }
 
+# Runs the tests of a cargo package, doc tests too, and adds up their closing lines.
+package() {
+    local name=$1 log status n m
+    log=$(mktemp)
+    (cd "$name" && cargo test --release --offline) >"$log" 2>&1
+    status=$?
+    grep -a '^test result' "$log" >&2
+    n=$(grep -a '^test result' "$log" | sed -nE 's/.* ([0-9]+) passed; ([0-9]+) failed.*/\1/p' | awk '{ s += $1 } END { print s + 0 }')
+    m=$(grep -a '^test result' "$log" | sed -nE 's/.* ([0-9]+) passed; ([0-9]+) failed.*/\2/p' | awk '{ s += $1 } END { print s + 0 }')
+    passed=$((passed + n))
+    failed=$((failed + m))
+    if [ "$n" -eq 0 ] || { [ "$status" -ne 0 ] && [ "$m" -eq 0 ]; }; then
+        tail -n 20 "$log" >&2
+        note "$name" "ended with status $status, $n tests passed"
+    fi
+    rm -f "$log"
+}
+
 paper_lines() {
     [ "$(sh solve.sh)" = "$(printf '%s\n' 'n 2 lower 1 upper 1 products 1' 'x 0 3FF0000000000000' 'x 1 4000000000000000')" ]
 }
@@ -58,6 +76,8 @@ one "capi" "the static library was not built" rt staticlib capi
 
 checks --features library
 checks --features standin --bin planted
+
+package rust
 
 one "bench" "its solver differs from the reference" sh -c 'cd bench && cargo test --release --offline --quiet'
 one "tools" "the Matrix Market tool fails its tests" sh -c 'cd tools && python3 -B -m unittest test_mtx'

@@ -1,4 +1,4 @@
-//! No compiler compares the C header, the declarations here and the exports of the library: the texts are compared.
+//! No compiler compares the C header, the declarations in Rust and the exports of the library: the texts are compared.
 use super::header::repository;
 use super::Tally;
 use crate::compare::{self, Compared, Difference};
@@ -109,9 +109,10 @@ fn same_signatures(found: &Signatures, expected: &Signatures) -> Compared {
     compare::same("functions", &found.len(), &expected.len())
 }
 
-fn declarations() -> Compared {
+/// The declarations of a file against the header.
+fn declarations(path: &str) -> Compared {
     let header = header_signatures(&text_of("include/lilacpliers.h")?);
-    same_signatures(&declared_signatures(&text_of("tests/src/ffi.rs")?), &header)
+    same_signatures(&declared_signatures(&text_of(path)?), &header)
 }
 
 fn exports() -> Compared {
@@ -141,6 +142,8 @@ fn commented() -> Compared {
 /// Checks that header, declarations and exports have the same functions with the same arguments.
 pub fn run(tally: &mut Tally) {
     tally.add(|| "comments of the header".to_string(), commented());
-    tally.add(|| "declarations against the header".to_string(), declarations());
+    for path in ["tests/src/ffi.rs", "rust/src/ffi.rs"] {
+        tally.add(|| format!("declarations of {path} against the header"), declarations(path));
+    }
     tally.add(|| "exports against the header".to_string(), exports());
 }
