@@ -1,0 +1,140 @@
+//! Factors and solutions.
+use crate::buffers::{grow, rows_lent, Lists, Pair, Scratch, Values};
+use crate::ffi::{self, Equations};
+use crate::form::Kept;
+use crate::refusal::Question;
+use crate::structure::counts;
+use crate::{Counts, Error, Form, Matrix, Orders, Side, Slots, Structure};
+
+/// A solution and what it took.
+#[derive(Debug, Clone, PartialEq)]
+pub struct Solution {
+    /// The unknowns, by column.
+    pub x: Vec<f64>,
+    /// How much the elimination filled and multiplied.
+    pub counts: Counts,
+}
+
+/// Solves a system in any of the three forms, and keeps nothing but the solution.
+///
+/// ```
+/// use lilacpliers::{solve, Form, Matrix, Orders};
+/// let matrix = Matrix::from_triplets(2, &[(0, 0, 2.0), (0, 1, 4.0), (1, 0, 1.0), (1, 1, 4.0)])?;
+/// let solution = solve(Form::Row, &matrix, &Orders::natural(2), &[10.0, 9.0])?;
+/// assert_eq!(solution.x, [1.0, 2.0]);
+/// # Ok::<(), lilacpliers::Error>(())
+/// ```
+pub fn solve(form: Form, matrix: &Matrix, orders: &Orders, right: &[f64]) -> Result<Solution, Error> {
+    let asked = Equations { matrix, orders, right };
+    match form.kept() {
+        Some(form) => Ok(factor(form, asked)?.1),
+        None => solve_row(asked),
+    }
+}
+
+/// The factors of a matrix, for more right sides and for new values.
+///
+/// ```
+/// use lilacpliers::{Factors, Form, Matrix, Orders};
+/// let matrix = Matrix::from_triplets(2, &[(0, 0, 2.0), (0, 1, 4.0), (1, 0, 1.0), (1, 1, 4.0)])?;
+/// let (mut factors, solution) = Factors::solve(Form::Shared, &matrix, &Orders::natural(2), &[10.0, 9.0])?;
+/// assert_eq!(solution.x, [1.0, 2.0]);
+/// assert_eq!(factors.solve_again(&[6.0, 5.0])?, [1.0, 1.0]);
+/// let other = matrix.with_values(vec![1.0, 0.0, 0.0, 2.0])?;
+/// assert_eq!(factors.refactor(&other, &[1.0, 1.0])?, [1.0, 0.5]);
+/// # Ok::<(), lilacpliers::Error>(())
+/// ```
+#[derive(Debug, Clone, PartialEq)]
+pub struct Factors {
+    structure: Structure,
+    values: Values,
+    orders: Orders,
+}
+
+impl Factors {
+    /// Finds structure, factors and one solution, in the plain or the shared form.
+    pub fn solve(
+        form: Form,
+        matrix: &Matrix,
+        orders: &Orders,
+        right: &[f64],
+    ) -> Result<(Factors, Solution), Error> {
+        let form = form.kept().ok_or(Error::RowForm)?;
+        factor(form, Equations { matrix, orders, right })
+    }
+
+    /// Factors a matrix of the same pattern with new values, and solves for one right side. After a refusal the
+    /// factors are those from before.
+    pub fn refactor(&mut self, matrix: &Matrix, right: &[f64]) -> Result<Vec<f64>, Error> {
+        let n = rows_lent(matrix);
+        let asked = Equations { matrix, orders: &self.orders, right };
+        let (mut values, mut x, mut scratch) = (self.values.blank(), vec![0.0; n], Scratch::new(n));
+        let answer =
+            ffi::refactor(self.structure.form, asked, &self.structure.lists, &mut values, &mut x, &mut scratch);
+        Question::refactor(asked, self.rows()).settle(&answer)?;
+        self.values = values;
+        Ok(x)
+    }
+
+    /// Solves for another right side.
+    pub fn solve_again(&self, right: &[f64]) -> Result<Vec<f64>, Error> {
+        let n = self.rows();
+        let (mut x, mut scratch) = (vec![0.0; n], Scratch::new(n));
+        let lists = &self.structure.lists;
+        let answer =
+            ffi::resolve(self.structure.form, &self.orders, right, lists, &self.values, &mut x, &mut scratch);
+        Question::resolve(n, &self.orders, right).settle(&answer)?;
+        Ok(x)
+    }
+
+    /// How much the elimination fills and multiplies.
+    pub fn counts(&self) -> Counts {
+        self.structure.counts()
+    }
+
+    /// The slots that the lists use.
+    pub fn slots(&self) -> Slots {
+        self.structure.slots()
+    }
+
+    /// The list of a place, as [`Structure::list`] gives it.
+    pub fn list(&self, side: Side, place: usize) -> &[u16] {
+        self.structure.list(side, place)
+    }
+
+    /// The structure that the factors stand in.
+    pub fn structure(&self) -> &Structure {
+        &self.structure
+    }
+
+    fn rows(&self) -> usize {
+        self.values.d.len()
+    }
+}
+
+fn factor(form: Kept, asked: Equations) -> Result<(Factors, Solution), Error> {
+    let n = rows_lent(asked.matrix);
+    let (mut x, mut scratch) = (vec![0.0; n], Scratch::new(n));
+    let (answer, (mut lists, mut values)) = grow(asked.matrix, |room| {
+        let (mut lists, mut values) = (Pair::new(form, n, room), Values::new(n, room));
+        let answer = ffi::solve(form, asked, &mut lists, &mut values, &mut x, &mut scratch);
+        (answer, (lists, values))
+    });
+    Question::solve(asked).settle(&answer)?;
+    lists.trim(&mut values);
+    let counts = counts(&answer);
+    let structure = Structure { form, lists, counts };
+    Ok((Factors { structure, values, orders: asked.orders.clone() }, Solution { x, counts }))
+}
+
+fn solve_row(asked: Equations) -> Result<Solution, Error> {
+    let n = rows_lent(asked.matrix);
+    let (mut x, mut scratch) = (vec![0.0; n], Scratch::new(n));
+    let (answer, ()) = grow(asked.matrix, |room| {
+        let mut upper = Lists::new(Kept::Shared, n, room.upper);
+        let mut values = Values::new(n, room.upper_only());
+        (ffi::solve_row(asked, &mut upper, &mut values, &mut x, &mut scratch), ())
+    });
+    Question::solve(asked).settle(&answer)?;
+    Ok(Solution { x, counts: counts(&answer) })
+}
