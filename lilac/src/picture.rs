@@ -23,7 +23,10 @@ const LEFT: usize = 76;
 const TOP: usize = 92;
 const GREATEST_SIDE: usize = 720;
 const GREATEST_CELL: usize = 48;
-const PANEL: usize = 380;
+const PANEL: usize = 370;
+/// Room for the slots of each run, where rows are high enough for a line of text.
+const RUN_COLUMN: usize = 64;
+const LEAST_LINE: usize = 14;
 /// Shades of a density.
 const LEVELS: usize = 6;
 
@@ -36,8 +39,10 @@ pub fn draw(subject: &Subject) -> String {
     let n = subject.upper.len();
     let side = GREATEST_SIDE.min(n * GREATEST_CELL).max(1);
     let hues = shared_hues(subject.upper, subject.runs);
+    let named_runs = side >= LEAST_LINE * n;
+    let panel_at = LEFT + side + if named_runs { RUN_COLUMN } else { 0 };
     let mut out = String::new();
-    open(&mut out, subject.title, side);
+    open(&mut out, subject.title, panel_at + PANEL, TOP + side.max(600) + 40);
     axes(&mut out, n, side);
     let _ = writeln!(out, "<g id=\"cells\" transform=\"translate({LEFT} {TOP}) scale({})\">", side as f64 / n.max(1) as f64);
     let block = n.div_ceil(SINGLE_CELLS).max(1);
@@ -51,7 +56,10 @@ pub fn draw(subject: &Subject) -> String {
         out,
         "<rect x=\"{LEFT}\" y=\"{TOP}\" width=\"{side}\" height=\"{side}\" fill=\"none\" stroke=\"#888\"/>"
     );
-    panel(&mut out, subject, &hues, side, block);
+    if named_runs {
+        run_column(&mut out, subject, &hues, side);
+    }
+    panel(&mut out, subject, &hues, panel_at + 32, block);
     out.push_str("</svg>\n");
     out
 }
@@ -82,9 +90,7 @@ pub fn shared_hues(upper: &[Vec<usize>], runs: &[usize]) -> Vec<Option<usize>> {
     hues
 }
 
-fn open(out: &mut String, title: &str, side: usize) {
-    let width = LEFT + side + PANEL;
-    let height = TOP + side.max(560) + 40;
+fn open(out: &mut String, title: &str, width: usize, height: usize) {
     let title = escaped(title);
     let _ = writeln!(
         out,
@@ -281,8 +287,7 @@ fn hex(colour: Rgb) -> String {
 }
 
 /// Counts and slots, and what the colours mean.
-fn panel(out: &mut String, subject: &Subject, hues: &[Option<usize>], side: usize, block: usize) {
-    let x = LEFT + side + 32;
+fn panel(out: &mut String, subject: &Subject, hues: &[Option<usize>], x: usize, block: usize) {
     let mut y = TOP + 12;
     for fact in subject.facts {
         if fact.value.is_empty() {
@@ -304,27 +309,44 @@ fn panel(out: &mut String, subject: &Subject, hues: &[Option<usize>], side: usiz
 
 fn legend(out: &mut String, hues: &[Option<usize>], x: usize, mut y: usize, block: usize) {
     let groups = hues.iter().flatten().max().map_or(0, |last| last + 1);
-    let shown = if groups == 0 { None } else { Some(0) };
-    let groups_line = format!("upper, slots shared: {groups} groups, one hue each");
-    let mut lines = vec![
-        (Some((dark(None), light(None))), "stored entry, fill".to_string()),
-        (Some((dark(shown), light(shown))), groups_line),
-        (None, "grey above the diagonal: slots of its own".to_string()),
-    ];
-    if groups == 0 {
-        lines[1] = (None, "no upper list shares its slots".to_string());
+    let mut lines = vec![(Some(None), "stored entry, fill".to_string())];
+    match groups {
+        0 => lines.push((None, "no upper list shares its index slots".to_string())),
+        1 => lines.push((Some(Some(0)), "upper lists that share index slots".to_string())),
+        _ => lines.push((Some(Some(0)), format!("upper lists that share: {groups} groups, a hue each"))),
+    }
+    if groups > 0 {
+        lines.push((None, "grey above the diagonal: slots of its own".to_string()));
     }
     if block > 1 {
         lines.push((None, format!("a cell is {block} by {block} places; darker is denser")));
     }
-    for (colours, text) in lines {
-        if let Some((first, second)) = colours {
-            swatch(out, x, y, first);
-            swatch(out, x + 18, y, second);
+    for (hue, text) in lines {
+        if let Some(hue) = hue {
+            swatch(out, x, y, dark(hue));
+            swatch(out, x + 18, y, light(hue));
         }
         let _ = writeln!(out, "<text x=\"{}\" y=\"{y}\">{text}</text>", x + 40);
         y += 22;
     }
+}
+
+/// Beside each row the upper index slots that its run reads.
+fn run_column(out: &mut String, subject: &Subject, hues: &[Option<usize>], side: usize) {
+    let x = LEFT + side + 10;
+    let scale = side as f64 / subject.upper.len().max(1) as f64;
+    let _ = writeln!(out, "<g font-size=\"11\"><text x=\"{x}\" y=\"{}\">upper slots</text>", TOP - 10);
+    for (k, (list, run)) in subject.upper.iter().zip(subject.runs).enumerate() {
+        let y = TOP as f64 + (k as f64 + 0.5) * scale + 4.0;
+        let colour = hex(dark(hues[k]));
+        let slots = match list.len() {
+            0 => "none".to_string(),
+            1 => format!("{run}"),
+            length => format!("{run} to {}", run + length - 1),
+        };
+        let _ = writeln!(out, "<text x=\"{x}\" y=\"{y:.2}\" fill=\"{colour}\">{slots}</text>");
+    }
+    out.push_str("</g>\n");
 }
 
 fn swatch(out: &mut String, x: usize, y: usize, colour: Rgb) {
