@@ -74,7 +74,9 @@ pub fn parse(words: Vec<OsString>) -> Result<Task, String> {
         Some("help") => help_on(&rest),
         Some(name) => match topic_of(name) {
             Some(topic) => command(topic, rest),
-            None => Err(format!("{name:?} is no command: solve, structure, convert or picture (lilac --help tells more)")),
+            None => {
+                Err(format!("{name:?} is no command: solve, structure, convert or picture (lilac --help tells more)"))
+            }
         },
         None => Err(format!("{first:?} is no command (lilac --help tells more)")),
     }
@@ -208,7 +210,9 @@ impl Sorted {
                 Some(_) => Err(format!("{known} takes no value")),
             };
         }
-        let Some(&known) = valued(self.topic).iter().find(|&&known| known == name) else { return Err(self.unknown(word)) };
+        let Some(&known) = valued(self.topic).iter().find(|&&known| known == name) else {
+            return Err(self.unknown(word));
+        };
         match joined.or_else(|| rest.next()) {
             Some(value) if !value.is_empty() => self.put(known, value),
             _ => Err(format!("{known} needs a word behind it")),
@@ -281,8 +285,14 @@ mod tests {
             numbers: true,
             out: Some("x.txt".into()),
         });
-        assert_eq!(parsed("solve --hex a.lp --form row -o x.txt --order=r.txt --refusals numbers").as_ref(), Ok(&expected));
-        assert_eq!(parsed("solve --form=row --order r.txt --refusals=numbers --hex --output x.txt -- a.lp"), Ok(expected));
+        assert_eq!(
+            parsed("solve --hex a.lp --form row -o x.txt --order=r.txt --refusals numbers").as_ref(),
+            Ok(&expected)
+        );
+        assert_eq!(
+            parsed("solve --form=row --order r.txt --refusals=numbers --hex --output x.txt -- a.lp"),
+            Ok(expected)
+        );
     }
 
     #[test]
@@ -295,8 +305,20 @@ mod tests {
     #[test]
     fn bad_usage_is_said() {
         let bad = [
-            "", "sovle a", "solve", "solve a b", "solve a --form", "solve a --form wide", "solve a --hex=1", "solve a --hex --hex",
-            "structure a --hex", "convert a", "convert a b c", "picture a --form row", "solve a --refusals x", "--help x",
+            "",
+            "sovle a",
+            "solve",
+            "solve a b",
+            "solve a --form",
+            "solve a --form wide",
+            "solve a --hex=1",
+            "solve a --hex --hex",
+            "structure a --hex",
+            "convert a",
+            "convert a b c",
+            "picture a --form row",
+            "solve a --refusals x",
+            "--help x",
         ];
         for line in bad {
             assert!(parsed(line).is_err(), "{line}");

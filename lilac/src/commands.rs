@@ -75,9 +75,8 @@ impl Found {
 
 fn found(file: &Path, order: Option<&Path>) -> Result<Found, Fault> {
     let system = input::system(file, None, order)?;
-    let find = |form| {
-        Structure::find(form, &system.matrix, &system.orders).map_err(|error| Fault::about(&shown(file), error))
-    };
+    let find =
+        |form| Structure::find(form, &system.matrix, &system.orders).map_err(|error| Fault::about(&shown(file), error));
     let (plain, shared) = (find(Form::Plain)?, find(Form::Shared)?);
     Ok(Found { system, plain, shared })
 }

@@ -98,7 +98,20 @@ mod tests {
 
     #[test]
     fn numbers_read_back_to_the_same_bits() {
-        let odd = [0.0, -0.0, 1.0, 0.1, -1.0 / 3.0, 1e16, 9.999_999_999_999_998e15, 1e-5, 5e-324, f64::MAX, f64::MIN_POSITIVE, 1e300];
+        let odd = [
+            0.0,
+            -0.0,
+            1.0,
+            0.1,
+            -1.0 / 3.0,
+            1e16,
+            9.999_999_999_999_998e15,
+            1e-5,
+            5e-324,
+            f64::MAX,
+            f64::MIN_POSITIVE,
+            1e300,
+        ];
         for number in odd {
             let back: Result<f64, _> = decimal(number).parse();
             assert_eq!(back.map(f64::to_bits), Ok(number.to_bits()), "{number:e}");

@@ -44,7 +44,11 @@ pub fn draw(subject: &Subject) -> String {
     let mut out = String::new();
     open(&mut out, subject.title, panel_at + PANEL, TOP + side.max(600) + 40);
     axes(&mut out, n, side);
-    let _ = writeln!(out, "<g id=\"cells\" transform=\"translate({LEFT} {TOP}) scale({})\">", side as f64 / n.max(1) as f64);
+    let _ = writeln!(
+        out,
+        "<g id=\"cells\" transform=\"translate({LEFT} {TOP}) scale({})\">",
+        side as f64 / n.max(1) as f64
+    );
     let block = n.div_ceil(SINGLE_CELLS).max(1);
     if block == 1 {
         single_cells(&mut out, subject, &hues);
@@ -163,11 +167,11 @@ fn is_stored(subject: &Subject, k: usize) -> Vec<bool> {
 
 fn single_cells(out: &mut String, subject: &Subject, hues: &[Option<usize>]) {
     let n = subject.upper.len();
-    for k in 0..n {
+    for (k, &upper_hue) in hues.iter().enumerate() {
         let stored = is_stored(subject, k);
         for j in filled_row(subject, k) {
             let own = stored.get(j).copied().unwrap_or(false);
-            let hue = if j > k { hues[k] } else { None };
+            let hue = if j > k { upper_hue } else { None };
             let colour = hex(if own { dark(hue) } else { light(hue) });
             let class = if own { "stored" } else { "fill" };
             let _ = write!(
@@ -224,7 +228,7 @@ fn dense_cells(out: &mut String, subject: &Subject, hues: &[Option<usize>], bloc
 fn squares(subject: &Subject, hues: &[Option<usize>], top: usize, height: usize, block: usize) -> Vec<Square> {
     let mut found: Vec<Square> = Vec::new();
     found.resize_with(subject.upper.len().div_ceil(block), Square::default);
-    for k in top..top + height {
+    for (k, &upper_hue) in hues.iter().enumerate().skip(top).take(height) {
         let stored = is_stored(subject, k);
         for j in filled_row(subject, k) {
             let Some(square) = found.get_mut(j / block) else { continue };
@@ -233,7 +237,7 @@ fn squares(subject: &Subject, hues: &[Option<usize>], top: usize, height: usize,
             } else {
                 square.filled += 1;
             }
-            if let (true, Some(hue)) = (j > k, hues[k]) {
+            if let (true, Some(hue)) = (j > k, upper_hue) {
                 *square.votes.entry(hue).or_default() += 1;
             }
         }
@@ -311,12 +315,12 @@ fn legend(out: &mut String, hues: &[Option<usize>], x: usize, mut y: usize, bloc
     let groups = hues.iter().flatten().max().map_or(0, |last| last + 1);
     let mut lines = vec![(Some(None), "stored entry, fill".to_string())];
     match groups {
-        0 => lines.push((None, "no upper list shares its index slots".to_string())),
-        1 => lines.push((Some(Some(0)), "upper lists that share index slots".to_string())),
-        _ => lines.push((Some(Some(0)), format!("upper lists that share: {groups} groups, a hue each"))),
+        0 => lines.push((None, "no upper list shares its slots".to_string())),
+        1 => lines.push((Some(Some(0)), "upper lists that share slots, 1 group".to_string())),
+        _ => lines.push((Some(Some(0)), format!("upper lists that share slots, {groups} groups"))),
     }
     if groups > 0 {
-        lines.push((None, "grey above the diagonal: slots of its own".to_string()));
+        lines.push((None, "a group has one hue; grey: slots of its own".to_string()));
     }
     if block > 1 {
         lines.push((None, format!("a cell is {block} by {block} places; darker is denser")));

@@ -51,8 +51,19 @@ fn bad_texts() -> Vec<String> {
         "hello\n".into(),
     ];
     let bodies = [
-        "", "2 2\n", "2 2 x\n", "2 2 -1\n", "2 3 1\n1 1 1\n", "2 2 2\n1 1 1\n", "2 2 1\n1 1 1\n2 2 1\n", "2 2 1\n3 1 1\n", "2 2 1\n1 0 1\n",
-        "2 2 1\n1 1 one\n", "2 2 1\n1 1\n", "99999999999999999999 2 1\n1 1 1\n", "2 2 18446744073709551615\n1 1 1\n",
+        "",
+        "2 2\n",
+        "2 2 x\n",
+        "2 2 -1\n",
+        "2 3 1\n1 1 1\n",
+        "2 2 2\n1 1 1\n",
+        "2 2 1\n1 1 1\n2 2 1\n",
+        "2 2 1\n3 1 1\n",
+        "2 2 1\n1 0 1\n",
+        "2 2 1\n1 1 one\n",
+        "2 2 1\n1 1\n",
+        "99999999999999999999 2 1\n1 1 1\n",
+        "2 2 18446744073709551615\n1 1 1\n",
         "4000000000 4000000000 1\n1 1 1\n",
     ];
     texts.extend(bodies.iter().map(|body| format!("{HEADER}{body}")));
@@ -124,13 +135,15 @@ fn bad_usage_has_status_2() {
 #[test]
 fn names_that_are_no_text_are_taken() {
     use std::os::unix::ffi::OsStrExt;
-    let output = command().arg("solve").arg(std::ffi::OsStr::from_bytes(b"\xff\n.lp")).output().expect("the command runs");
+    let output =
+        command().arg("solve").arg(std::ffi::OsStr::from_bytes(b"\xff\n.lp")).output().expect("the command runs");
     assert_eq!((output.status.code(), err(&output).lines().count()), (Some(2), 1));
 }
 
 fn printing_commands() -> Vec<Vec<String>> {
     let grid = example("grid_3_by_3.mtx");
-    let mut all: Vec<Vec<String>> = ["solve", "structure", "picture"].iter().map(|name| vec![name.to_string(), grid.clone()]).collect();
+    let mut all: Vec<Vec<String>> =
+        ["solve", "structure", "picture"].iter().map(|name| vec![name.to_string(), grid.clone()]).collect();
     all.push(vec!["--help".to_string()]);
     all
 }
@@ -178,7 +191,8 @@ fn a_closed_standard_output_has_status_2() {
 fn a_closed_standard_error_changes_nothing() {
     for closing in ["exec \"$0\" \"$@\" 2>&-", "exec \"$0\" \"$@\" 2>/dev/full"] {
         let mut shell = std::process::Command::new("sh");
-        let output = shell.args(["-c", closing, env!("CARGO_BIN_EXE_lilac"), "solve"]).output().expect("the command runs");
+        let output =
+            shell.args(["-c", closing, env!("CARGO_BIN_EXE_lilac"), "solve"]).output().expect("the command runs");
         assert_eq!(output.status.code(), Some(2));
     }
 }

@@ -10,7 +10,8 @@ fn read(path: &str) -> Vec<u8> {
 fn a_matrix_file_comes_back_whole() {
     for name in ["two_by_two", "grid_3_by_3"] {
         let first = example(&format!("{name}.lp"));
-        let (matrix, right, order) = (own(&format!("{name}_a.mtx")), own(&format!("{name}_a.txt")), own(&format!("{name}_o.txt")));
+        let (matrix, right, order) =
+            (own(&format!("{name}_a.mtx")), own(&format!("{name}_a.txt")), own(&format!("{name}_o.txt")));
         let second = own(&format!("{name}_b.lp"));
         assert_eq!(done(&["convert", &first, &matrix, "--right", &right, "--order", &order]), "");
         assert_eq!(done(&["convert", &matrix, &second, "--right", &right, "--order", &order]), "");
@@ -56,7 +57,10 @@ fn the_table_has_the_papers_counts() {
     let words: Vec<Vec<&str>> = table.lines().map(|line| line.split_whitespace().collect()).collect();
     let has = |line: &[&str]| words.iter().any(|found| found == line);
     assert!(has(&["filled", "below", "the", "diagonal", "3"]) && has(&["products", "5"]), "{table}");
-    assert!(has(&["fill", "2"]) && has(&["upper", "index", "2"]) && has(&["index", "in", "all", "33.3", "%"]), "{table}");
+    assert!(
+        has(&["fill", "2"]) && has(&["upper", "index", "2"]) && has(&["index", "in", "all", "33.3", "%"]),
+        "{table}"
+    );
 }
 
 /// The filled positions of the grid's pattern, by plain elimination.

@@ -106,7 +106,9 @@ fn a_refusal_leaves_no_file() {
 
 #[test]
 fn help_is_printed() {
-    for words in [&["--help"][..], &["solve", "--help"], &["structure", "-h"], &["convert", "--help"], &["help", "picture"]] {
+    for words in
+        [&["--help"][..], &["solve", "--help"], &["structure", "-h"], &["convert", "--help"], &["help", "picture"]]
+    {
         assert!(done(words).starts_with("lilac "), "{words:?}");
     }
     assert!(out(&lilac(&["--version"])).starts_with("lilac "));
