@@ -97,6 +97,23 @@ fn refusals_have_status_1() {
 }
 
 #[test]
+fn matrices_out_of_the_limits_are_refused() {
+    for (k, body) in ["0 0 0\n", "4097 4097 1\n1 1 1\n", "4000000000 4000000000 1\n1 1 1\n"].iter().enumerate() {
+        let matrix = file(&format!("limits_{k}.mtx"), format!("{HEADER}{body}"));
+        for name in ["solve", "structure", "picture"] {
+            assert_eq!(failed(1, &[name, &matrix, "--refusals", "numbers"]), "refused 1 0\n");
+        }
+    }
+    // A block of zeros has right checks, and says n = 0.
+    assert_eq!(failed(1, &["solve", &file("zeros.lp", [0; 512]), "--refusals", "numbers"]), "refused 1 0\n");
+    let mut full = format!("{HEADER}257 257 {}\n", 257 * 257);
+    for k in 0..257 * 257 {
+        full.push_str(&format!("{} {} 1\n", k / 257 + 1, k % 257 + 1));
+    }
+    assert_eq!(failed(1, &["solve", &file("full.mtx", full), "--refusals", "numbers"]), "refused 2 0\n");
+}
+
+#[test]
 fn a_refusal_leaves_no_file() {
     let zero = file("zero_again.mtx", format!("{HEADER}1 1 1\n1 1 0\n"));
     let path = own("never.txt");
