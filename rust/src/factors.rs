@@ -53,12 +53,7 @@ pub struct Factors {
 
 impl Factors {
     /// Finds structure, factors and one solution, in the plain or the shared form.
-    pub fn solve(
-        form: Form,
-        matrix: &Matrix,
-        orders: &Orders,
-        right: &[f64],
-    ) -> Result<(Factors, Solution), Error> {
+    pub fn solve(form: Form, matrix: &Matrix, orders: &Orders, right: &[f64]) -> Result<(Factors, Solution), Error> {
         let form = form.kept().ok_or(Error::RowForm)?;
         factor(form, Equations { matrix, orders, right })
     }
@@ -81,8 +76,7 @@ impl Factors {
         let n = self.rows();
         let (mut x, mut scratch) = (vec![0.0; n], Scratch::new(n));
         let lists = &self.structure.lists;
-        let answer =
-            ffi::resolve(self.structure.form, &self.orders, right, lists, &self.values, &mut x, &mut scratch);
+        let answer = ffi::resolve(self.structure.form, &self.orders, right, lists, &self.values, &mut x, &mut scratch);
         Question::resolve(n, &self.orders, right).settle(&answer)?;
         Ok(x)
     }

@@ -123,7 +123,9 @@ impl<'a> Question<'a> {
         match number {
             1 => self.rows.map_or_else(|| format!("the file has no rows, or more than {MAX_ROWS}"), rows_words),
             2 => self.length_words(),
-            3 => format!("the row starts are wrong at row {place}: they begin at 0, never fall and end at the number of entries"),
+            3 => format!(
+                "the row starts are wrong at row {place}: they begin at 0, never fall and end at the number of entries"
+            ),
             4 => self.column_words(place),
             5 => self.order_words(place),
             6 => self.finite_words(place),
@@ -168,7 +170,10 @@ impl<'a> Question<'a> {
         };
         let number = number_at(order, place).unwrap_or(0);
         let fault = if number >= n { "is out of range" } else { "stands there before" };
-        format!("the {what} order is wrong at place {place}: {number} {fault}; each of 0 to {} is due once", self.last())
+        format!(
+            "the {what} order is wrong at place {place}: {number} {fault}; each of 0 to {} is due once",
+            self.last()
+        )
     }
 
     fn finite_words(&self, index: usize) -> String {
@@ -191,8 +196,12 @@ impl<'a> Question<'a> {
         let at = self.place_name(place);
         match number {
             9 => format!("the pivot at {at} has no entry and no fill; another order may avoid it"),
-            10 => format!("the lists below the diagonal need over {MAX_SLOTS} slots from {at} on; another order may fill less"),
-            11 => format!("the lists above the diagonal need over {MAX_SLOTS} slots from {at} on; another order may fill less"),
+            10 => format!(
+                "the lists below the diagonal need over {MAX_SLOTS} slots from {at} on; another order may fill less"
+            ),
+            11 => format!(
+                "the lists above the diagonal need over {MAX_SLOTS} slots from {at} on; another order may fill less"
+            ),
             12 => format!("the pivot at {at} is zero; another order may avoid it"),
             13 => format!("a result at {at} is not finite; scaled rows or another order may avoid it"),
             14 => format!("the matrix has another structure than the factors from {at} on: solve it anew"),
