@@ -56,7 +56,8 @@ fn an_order_turns_a_null_pivot_into_a_solution() {
     let matrix = file("turned.mtx", format!("{HEADER}2 2 3\n1 2 1\n2 1 1\n2 2 1\n"));
     let order = file("turned.txt", "1 0\n");
     assert_eq!(failed(1, &["solve", &matrix, "--refusals", "numbers"]), "refused 9 0\n");
-    assert_eq!(done(&["solve", &matrix, "--order", &order]), "0\n1\n");
+    // x(0) is +0 times the reciprocal pivot -1: its sign is kept.
+    assert_eq!(done(&["solve", &matrix, "--order", &order]), "-0\n1\n");
 }
 
 #[test]
