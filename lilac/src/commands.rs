@@ -10,12 +10,11 @@ use lilacpliers::{Form, Matrix, Orders, Side, Structure, System};
 use std::path::Path;
 
 pub fn solve(asked: &Solve) -> Result<(), Fault> {
-    let name = shown(&asked.file);
     let text = {
-        let _sign = progress::during(format!("solving {name}"));
-        let system = input::system(&asked.file, asked.right.as_deref(), asked.order.as_deref())?;
-        let found = lilacpliers::solve(form(asked.form), &system.matrix, &system.orders, &system.right)
-            .map_err(|error| Fault::about(&name, error))?;
+        let _sign = progress::during(format!("solving {}", shown(&asked.file)));
+        let loaded = input::load(&asked.file, asked.right.as_deref(), asked.order.as_deref())?;
+        let System { matrix, orders, right } = &loaded.system;
+        let found = lilacpliers::solve(form(asked.form), matrix, orders, right).map_err(|error| loaded.fault(error))?;
         column(&found.x, asked.hex)
     };
     Ok(output::write(place(asked.out.as_deref()), text.as_bytes())?)
@@ -74,11 +73,11 @@ impl Found {
 }
 
 fn found(file: &Path, order: Option<&Path>) -> Result<Found, Fault> {
-    let system = input::system(file, None, order)?;
-    let find =
-        |form| Structure::find(form, &system.matrix, &system.orders).map_err(|error| Fault::about(&shown(file), error));
+    let loaded = input::load(file, None, order)?;
+    let System { matrix, orders, .. } = &loaded.system;
+    let find = |form| Structure::find(form, matrix, orders).map_err(|error| loaded.fault(error));
     let (plain, shared) = (find(Form::Plain)?, find(Form::Shared)?);
-    Ok(Found { system, plain, shared })
+    Ok(Found { system: loaded.system, plain, shared })
 }
 
 fn lists(structure: &Structure, side: Side, n: usize) -> Vec<Vec<usize>> {
@@ -123,13 +122,7 @@ pub fn convert(from: &Path, to: &Path, right: Option<&Path>, order: Option<&Path
 
 fn to_matrix_file(from: &Path, to: &Path, right: Option<&Path>, order: Option<&Path>) -> Result<(), Fault> {
     let mut system = input::from_market(from, &input::bytes(from)?)?;
-    let n = system.matrix.rows();
-    if let Some(right) = right {
-        system.right = input::right_side(right, n)?;
-    }
-    if let Some(order) = order {
-        system.orders = input::orders(order, n)?;
-    }
+    input::complete(&mut system, right, order)?;
     let file = system.write().map_err(|error| Fault::about(&shown(from), error))?;
     Ok(output::write(Place::File(to), &file)?)
 }

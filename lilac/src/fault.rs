@@ -3,8 +3,8 @@ use crate::output::{say, say_bare};
 use lilacpliers::{Error, Refusal};
 
 pub enum Fault {
-    /// The library refused; the name of the file it was about.
-    Refused(String, Refusal),
+    /// The library refused; the name of the file it was about, and a hint for whoever reads it, which may be empty.
+    Refused { name: String, refusal: Refusal, hint: String },
     /// Anything else, as one line.
     Bad(String),
 }
@@ -23,14 +23,22 @@ impl Fault {
     /// What the library said about a file.
     pub fn about(name: &str, error: Error) -> Fault {
         match error {
-            Error::Refused(refusal) => Fault::Refused(name.to_string(), refusal),
+            Error::Refused(refusal) => Fault::Refused { name: name.to_string(), refusal, hint: String::new() },
             other => Fault::Bad(format!("{name}: {other}")),
         }
     }
 
+    /// The same with a hint, where it is a refusal for which there is one.
+    pub fn with_hint(mut self, find: impl Fn(&Refusal) -> Option<String>) -> Fault {
+        if let Fault::Refused { refusal, hint, .. } = &mut self {
+            *hint = find(refusal).unwrap_or_default();
+        }
+        self
+    }
+
     pub fn status(&self) -> u8 {
         match self {
-            Fault::Refused(_, refusal) if refusal.number() < FIRST_OF_FILES => 1,
+            Fault::Refused { refusal, .. } if refusal.number() < FIRST_OF_FILES => 1,
             _ => 2,
         }
     }
@@ -38,10 +46,10 @@ impl Fault {
     /// Says it in one line, a refusal as its numbers where that is asked for.
     pub fn tell(&self, numbers: bool) {
         match self {
-            Fault::Refused(_, refusal) if numbers => {
+            Fault::Refused { refusal, .. } if numbers => {
                 say_bare(&format!("refused {} {}", refusal.number(), refusal.place()));
             }
-            Fault::Refused(name, refusal) => say(&shortened(&format!("{name}: {refusal}"))),
+            Fault::Refused { name, refusal, hint } => say(&shortened(&format!("{name}: {refusal}{hint}"))),
             Fault::Bad(line) => say(&shortened(line)),
         }
     }

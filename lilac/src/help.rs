@@ -23,6 +23,7 @@ FILE is a matrix file or a Matrix Market file; its contents tell which. The name
 A matrix has up to 4096 rows and 65536 entries. lilac COMMAND --help says more about a command.
 
 Exit status: 0 done; 1 the library refused the system; 2 bad usage, or a file that cannot be read or written.
+Places, rows and columns count from 0, but lines, rows and columns of a Matrix Market file from 1.
 Messages go to standard error, and so do signs of life when the work takes over a second.
 ";
 

@@ -1,6 +1,6 @@
 //! Files read, and told apart by their contents.
 use crate::fault::Fault;
-use lilacpliers::{order_from_text, vector_from_text, Matrix, Orders, System};
+use lilacpliers::{order_from_text, vector_from_text, Error, Matrix, Orders, Refusal, System};
 use std::fs::File;
 use std::io::{self, Read};
 use std::path::Path;
@@ -13,6 +13,8 @@ const MARKET: &[u8] = b"%%MatrixMarket";
 pub fn shown(path: &Path) -> String {
     if is_standard(path) {
         "standard input".to_string()
+    } else if path.as_os_str().is_empty() {
+        "a file without a name".to_string()
     } else {
         path.display().to_string()
     }
@@ -47,14 +49,46 @@ fn text(path: &Path) -> Result<String, Fault> {
     Ok(String::from_utf8_lossy(&bytes(path)?).into_owned())
 }
 
-pub fn is_market(bytes: &[u8]) -> bool {
+fn is_market(bytes: &[u8]) -> bool {
     bytes.get(..MARKET.len()).is_some_and(|start| start.eq_ignore_ascii_case(MARKET))
 }
 
+/// A system and where it came from.
+pub struct Loaded {
+    pub system: System,
+    pub name: String,
+    market: bool,
+}
+
+impl Loaded {
+    /// What the library said about this system. It counts rows from 0, a Matrix Market file counts them from 1.
+    pub fn fault(&self, error: Error) -> Fault {
+        let row = |refusal: &Refusal| Some(format!(" (counted from 0; row {} of the file)", refusal.row()? + 1));
+        Fault::about(&self.name, error).with_hint(|refusal| if self.market { row(refusal) } else { None })
+    }
+}
+
 /// The system of a file of either kind, with the right side and the order that are given besides.
-pub fn system(path: &Path, right: Option<&Path>, order: Option<&Path>) -> Result<System, Fault> {
+pub fn load(path: &Path, right: Option<&Path>, order: Option<&Path>) -> Result<Loaded, Fault> {
     let bytes = bytes(path)?;
-    let mut system = if is_market(&bytes) { from_market(path, &bytes)? } else { from_matrix_file(path, &bytes)? };
+    let market = is_market(&bytes);
+    let mut system = if market {
+        from_market(path, &bytes)?
+    } else {
+        from_matrix_file(path, &bytes).map_err(|fault| fault.with_hint(neither_kind))?
+    };
+    complete(&mut system, right, order)?;
+    Ok(Loaded { system, name: shown(path), market })
+}
+
+/// A file that fails from its start may have been meant as the other kind.
+fn neither_kind(refusal: &Refusal) -> Option<String> {
+    let from_start = matches!((refusal.number(), refusal.place()), (16, _) | (17, 0));
+    from_start.then(|| "; nor does it begin with %%MatrixMarket".to_string())
+}
+
+/// Takes the right side and the order from files where they are given.
+pub fn complete(system: &mut System, right: Option<&Path>, order: Option<&Path>) -> Result<(), Fault> {
     let n = system.matrix.rows();
     if let Some(right) = right {
         system.right = right_side(right, n)?;
@@ -62,7 +96,7 @@ pub fn system(path: &Path, right: Option<&Path>, order: Option<&Path>) -> Result
     if let Some(order) = order {
         system.orders = orders(order, n)?;
     }
-    Ok(system)
+    Ok(())
 }
 
 /// A Matrix Market file holds no right side and no orders: all ones, and 0, 1, ..
@@ -81,7 +115,7 @@ pub fn from_matrix_file(path: &Path, bytes: &[u8]) -> Result<System, Fault> {
     System::read(bytes).map_err(|error| Fault::about(&shown(path), error))
 }
 
-pub fn right_side(path: &Path, n: usize) -> Result<Vec<f64>, Fault> {
+fn right_side(path: &Path, n: usize) -> Result<Vec<f64>, Fault> {
     let name = shown(path);
     let right = vector_from_text(&text(path)?).map_err(|error| Fault::about(&name, error))?;
     due(&name, right.len(), n)?;
@@ -89,7 +123,7 @@ pub fn right_side(path: &Path, n: usize) -> Result<Vec<f64>, Fault> {
 }
 
 /// One order for rows and columns.
-pub fn orders(path: &Path, n: usize) -> Result<Orders, Fault> {
+fn orders(path: &Path, n: usize) -> Result<Orders, Fault> {
     let name = shown(path);
     let order = order_from_text(&text(path)?).map_err(|error| Fault::about(&name, error))?;
     due(&name, order.len(), n)?;

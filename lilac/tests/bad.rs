@@ -1,6 +1,6 @@
 //! Bad usage, bad files and output that cannot be written: status 2 and one clear line, never a panic.
 mod common;
-use common::{command, err, example, failed, file, own};
+use common::{command, err, example, failed, file, own, tridiagonal};
 use std::process::Stdio;
 
 const HEADER: &str = "%%MatrixMarket matrix coordinate real general\n";
@@ -17,17 +17,28 @@ fn noise(length: usize) -> Vec<u8> {
     (0..length).map(|_| next()).collect()
 }
 
+/// A matrix file of several blocks.
+fn several_blocks(test: &str) -> Vec<u8> {
+    let (from, to) = (file(&format!("{test}_whole.mtx"), tridiagonal(100)), own(&format!("{test}_whole.lp")));
+    common::done(&["convert", &from, &to]);
+    let whole = std::fs::read(to).expect("the file is there");
+    assert!(whole.len() > 2048);
+    whole
+}
+
 /// The tests run side by side, so each has files of its own.
 fn bad_matrices(test: &str) -> Vec<String> {
     let file = |name: &str, contents: &[u8]| file(&format!("{test}_{name}"), contents);
-    let whole = std::fs::read(example("grid_3_by_3.lp")).expect("the example is there");
+    let whole = several_blocks(test);
     let mut turned = whole.clone();
-    turned[20] ^= 1;
+    turned[700] ^= 1;
+    let swapped = [&whole[512..1024], &whole[..512], &whole[1024..]].concat();
     let mut files = vec![
         file("cut.lp", &whole[..whole.len() - 100]),
         file("short.lp", &whole[..whole.len() - 512]),
         file("longer.lp", &[&whole[..], &[0; 512]].concat()),
         file("turned.lp", &turned),
+        file("swapped.lp", &swapped),
         file("noise.lp", &noise(10 << 20)),
         file("noise_odd.lp", &noise((10 << 20) + 7)),
         file("noise.mtx", &[HEADER.as_bytes(), &noise(10 << 20)].concat()),

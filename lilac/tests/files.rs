@@ -1,6 +1,6 @@
 //! Converting, structure and the picture.
 mod common;
-use common::{done, err, example, failed, file, lilac, out, own};
+use common::{done, err, example, failed, file, lilac, out, own, tridiagonal};
 
 fn read(path: &str) -> Vec<u8> {
     std::fs::read(path).expect("the file is there")
@@ -105,17 +105,6 @@ fn an_order_reverses_the_picture() {
     let picture = done(&["picture", &grid, "--order", &order]);
     assert_eq!(picture.matches("class=\"stored\"").count(), 33);
     assert_eq!(well_formed(&picture), Ok(()));
-}
-
-/// A tridiagonal matrix of n rows.
-fn tridiagonal(n: usize) -> String {
-    let mut text = format!("%%MatrixMarket matrix coordinate real general\n{n} {n} {}\n", 3 * n - 2);
-    for i in 1..=n {
-        for j in i.saturating_sub(1).max(1)..=(i + 1).min(n) {
-            text.push_str(&format!("{i} {j} {}\n", if i == j { 4 } else { -1 }));
-        }
-    }
-    text
 }
 
 #[test]

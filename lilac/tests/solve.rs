@@ -115,6 +115,14 @@ fn matrices_out_of_the_limits_are_refused() {
 }
 
 #[test]
+fn rows_of_a_market_file_are_named_as_it_counts_them() {
+    let matrix = file("second_row.mtx", format!("{HEADER}2 2 1\n1 1 1\n"));
+    assert!(failed(1, &["solve", &matrix]).contains("row 2 of the file"));
+    let words = file("words.txt", "hello\n");
+    assert!(failed(2, &["solve", &words]).contains("%%MatrixMarket"));
+}
+
+#[test]
 fn a_refusal_leaves_no_file() {
     let zero = file("zero_again.mtx", format!("{HEADER}1 1 1\n1 1 0\n"));
     let path = own("never.txt");

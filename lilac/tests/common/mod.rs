@@ -59,3 +59,14 @@ pub fn failed(status: i32, words: &[&str]) -> String {
     assert!(line.len() < 2500 && !line.contains("panicked"), "{words:?}: {line}");
     line
 }
+
+/// A tridiagonal matrix of n rows.
+pub fn tridiagonal(n: usize) -> String {
+    let mut text = format!("%%MatrixMarket matrix coordinate real general\n{n} {n} {}\n", 3 * n - 2);
+    for i in 1..=n {
+        for j in i.saturating_sub(1).max(1)..=(i + 1).min(n) {
+            text.push_str(&format!("{i} {j} {}\n", if i == j { 4 } else { -1 }));
+        }
+    }
+    text
+}
