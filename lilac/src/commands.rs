@@ -10,6 +10,8 @@ use lilacpliers::{Form, Matrix, Orders, Side, Structure, System};
 use std::path::Path;
 
 pub fn solve(asked: &Solve) -> Result<(), Fault> {
+    let read = [Some(asked.file.as_path()), asked.right.as_deref(), asked.order.as_deref()];
+    output::apart(&[asked.out.as_deref()], &read)?;
     let text = {
         let _sign = progress::during(format!("solving {}", shown(&asked.file)));
         let loaded = input::load(&asked.file, asked.right.as_deref(), asked.order.as_deref())?;
@@ -41,6 +43,7 @@ pub fn structure(file: &Path, order: Option<&Path>) -> Result<(), Fault> {
 }
 
 pub fn picture(file: &Path, order: Option<&Path>, out: Option<&Path>) -> Result<(), Fault> {
+    output::apart(&[out], &[Some(file), order])?;
     let text = {
         let _sign = progress::during(format!("drawing the fill of {}", shown(file)));
         let found = found(file, order)?;
@@ -121,6 +124,7 @@ pub fn convert(from: &Path, to: &Path, right: Option<&Path>, order: Option<&Path
 }
 
 fn to_matrix_file(from: &Path, to: &Path, right: Option<&Path>, order: Option<&Path>) -> Result<(), Fault> {
+    output::apart(&[Some(to)], &[Some(from), right, order])?;
     let mut system = input::from_market(from, &input::bytes(from)?)?;
     input::complete(&mut system, right, order)?;
     let file = system.write().map_err(|error| Fault::about(&shown(from), error))?;
@@ -128,6 +132,7 @@ fn to_matrix_file(from: &Path, to: &Path, right: Option<&Path>, order: Option<&P
 }
 
 fn to_market(from: &Path, to: &Path, right: Option<&Path>, order: Option<&Path>) -> Result<(), Fault> {
+    output::apart(&[Some(to), right, order], &[Some(from)])?;
     let system = input::from_matrix_file(from, &input::bytes(from)?)?;
     whole(from, &system.matrix)?;
     let one_order = system.orders.rows() == system.orders.columns();

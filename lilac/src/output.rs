@@ -2,6 +2,7 @@
 use std::fs::File;
 use std::io::{self, Write};
 use std::os::fd::AsFd;
+use std::os::unix::fs::MetadataExt;
 use std::path::Path;
 use std::sync::atomic::{AtomicBool, Ordering};
 
@@ -59,6 +60,27 @@ fn to_file(path: &Path, bytes: &[u8]) -> io::Result<()> {
         file.sync_all()?;
     }
     Ok(())
+}
+
+/// Refuses to write a file that is read, or that is written twice: one of the two would be lost.
+pub fn apart(written: &[Option<&Path>], read: &[Option<&Path>]) -> Result<(), String> {
+    let written: Vec<&Path> = written.iter().flatten().copied().collect();
+    let read: Vec<&Path> = read.iter().flatten().copied().collect();
+    for (k, &path) in written.iter().enumerate() {
+        let others = written.iter().skip(k + 1).chain(&read);
+        if others.into_iter().any(|other| one_file(path, other)) {
+            return Err(format!("{} is named twice, and would be overwritten", path.display()));
+        }
+    }
+    Ok(())
+}
+
+/// Whether two names lead to one file. A device may have any number of names.
+fn one_file(first: &Path, second: &Path) -> bool {
+    match (first.metadata(), second.metadata()) {
+        (Ok(one), Ok(other)) => one.is_file() && (one.dev(), one.ino()) == (other.dev(), other.ino()),
+        _ => first == second,
+    }
 }
 
 /// Says one line on standard error. There is nobody to tell when that fails.

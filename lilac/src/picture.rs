@@ -258,7 +258,7 @@ fn level(count: usize, area: usize) -> f64 {
     if count == 0 {
         0.0
     } else {
-        (share * LEVELS as f64).ceil().clamp(2.0, LEVELS as f64) / LEVELS as f64
+        (share * LEVELS as f64).ceil().clamp(3.0, LEVELS as f64) / LEVELS as f64
     }
 }
 

@@ -49,6 +49,18 @@ fn convert_goes_by_the_names() {
 }
 
 #[test]
+fn no_file_is_overwritten_by_mistake() {
+    let matrix = file("precious.lp", read(&example("two_by_two.lp")));
+    let other = own("precious.mtx");
+    failed(2, &["solve", &matrix, "-o", &matrix]);
+    failed(2, &["picture", &matrix, "-o", &matrix]);
+    failed(2, &["convert", &matrix, &other, "--right", &other]);
+    failed(2, &["convert", &matrix, &other, "--order", &matrix]);
+    assert!(read(&matrix) == read(&example("two_by_two.lp")));
+    done(&["convert", &matrix, &other, "--right", "/dev/null", "--order", "/dev/null"]);
+}
+
+#[test]
 fn the_table_has_the_papers_counts() {
     // Row 0, column 0 and diagonal full: lower 3, upper 3, products 5, shared index slots 2 and 2.
     let header = "%%MatrixMarket matrix coordinate real general\n";

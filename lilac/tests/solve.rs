@@ -75,6 +75,21 @@ fn standard_input_is_a_file() {
 }
 
 #[test]
+fn long_work_gives_signs_of_life() {
+    use std::{io::Write, process::Stdio, thread::sleep, time::Duration};
+    let mut waiting = common::command();
+    waiting.args(["solve", "-"]).stdin(Stdio::piped()).stdout(Stdio::piped()).stderr(Stdio::piped());
+    let mut child = waiting.spawn().expect("the command runs");
+    sleep(Duration::from_millis(2500));
+    let matrix = std::fs::read(example("two_by_two.lp")).expect("the example is there");
+    child.stdin.take().expect("its input").write_all(&matrix).expect("it reads");
+    let output = child.wait_with_output().expect("it ends");
+    assert_eq!((output.status.code(), out(&output).as_str()), (Some(0), "1\n2\n"));
+    let sign = common::err(&output);
+    assert!(sign.starts_with("lilac: solving standard input, ") && sign.lines().count() == 1, "{sign}");
+}
+
+#[test]
 fn refusals_have_status_1() {
     let zero = file("zero.mtx", format!("{HEADER}1 1 1\n1 1 -0\n"));
     let empty_row = file("empty_row.mtx", format!("{HEADER}2 2 1\n1 1 1\n"));
