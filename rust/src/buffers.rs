@@ -57,16 +57,10 @@ impl Lists {
         self.starts.last().map_or(0, |&end| end as usize)
     }
 
-    /// The index slots that the lists use: in the shared form, up to the end of the run that ends last.
+    /// The index slots that the lists use: in the shared form the run start of the last list, which is always empty and
+    /// stands behind all others.
     pub fn index_slots(&self) -> usize {
-        if self.runs.is_empty() {
-            return self.value_slots();
-        }
-        let lengths = self.starts.windows(2).map(|pair| match pair {
-            [from, to] => to.saturating_sub(*from),
-            _ => 0,
-        });
-        self.runs.iter().zip(lengths).map(|(&run, length)| run as usize + length as usize).max().unwrap_or(0)
+        self.runs.last().map_or_else(|| self.value_slots(), |&run| run as usize)
     }
 
     /// Cuts the index store to what is used.

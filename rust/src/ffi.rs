@@ -93,7 +93,7 @@ mod raw {
 /// report is added behind them. Gives the answer.
 macro_rules! call {
     (@ $name:ident $report:ident ($($done:tt)*)) => {
-        // Each pointer comes from a slice or vector with the length passed beside it, and written ones are exclusive.
+        // SAFETY: each pointer comes from a slice or vector with the length beside it, and written ones are exclusive.
         unsafe { raw::$name($($done)* $report.as_mut_ptr(), $report.len()) }
     };
     (@ $name:ident $report:ident ($($done:tt)*) [$number:expr] $($rest:tt)*) => {

@@ -56,8 +56,8 @@ impl Matrix {
     ///
     /// ```
     /// use lilacpliers::Matrix;
-    /// let matrix = Matrix::from_matrix_market("%%MatrixMarket matrix coordinate real symmetric\n2 2 2\n1 1 4\n2 1 -1\n")?;
-    /// assert_eq!(matrix.starts(), [0, 2, 3]);
+    /// let text = "%%MatrixMarket matrix coordinate real symmetric\n2 2 2\n1 1 4\n2 1 -1\n";
+    /// assert_eq!(Matrix::from_matrix_market(text)?.starts(), [0, 2, 3]);
     /// let error = Matrix::from_matrix_market("%%MatrixMarket matrix coordinate real general\n2 2 1\n3 1 4\n");
     /// assert_eq!(error.unwrap_err().to_string(), "line 3: row 3 is out of range, rows are 1 to 2");
     /// # Ok::<(), lilacpliers::Error>(())

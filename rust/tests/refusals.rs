@@ -80,6 +80,8 @@ fn bad_orders() {
     check(&unit(3), &Orders::new(&[0, 1, 1], &natural).unwrap(), &[1.0; 3], 5, 2, words);
     let words = "the column order is wrong at place 1: 9 is out of range";
     check(&unit(3), &Orders::new(&natural, &[0, 9, 1]).unwrap(), &[1.0; 3], 5, 4, words);
+    let words = "the column order is wrong at place 0: 9 is out of range";
+    check(&unit(3), &Orders::new(&natural, &[9, 0, 1]).unwrap(), &[1.0; 3], 5, 3, words);
     let error = Orders::new(&natural, &[0, 70_000, 1]).unwrap_err();
     assert_eq!(error.to_string(), "the column order has 70000 at place 1, which is out of range");
 }
