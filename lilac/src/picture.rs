@@ -27,8 +27,9 @@ const PANEL: usize = 370;
 /// Room for the slots of each run, where rows are high enough for a line of text.
 const RUN_COLUMN: usize = 64;
 const LEAST_LINE: usize = 14;
-/// Shades of a density.
-const LEVELS: usize = 6;
+/// Steps of a density's shade, and the shade of the thinnest.
+const LEVELS: f64 = 10.0;
+const FAINTEST: f64 = 0.4;
 
 type Rgb = [f64; 3];
 
@@ -252,14 +253,13 @@ fn shade(square: &Square, area: usize) -> Rgb {
     mixed(base, dark(hue), level(square.stored, area))
 }
 
-/// A density as a share of 0 to 1 in few steps. The root lifts thin squares, so that a single entry can be seen.
+/// A density as a share of 0 to 1 in few steps. Floor and root lift thin squares, so that a single entry can be seen.
 fn level(count: usize, area: usize) -> f64 {
-    let share = (count as f64 / area.max(1) as f64).sqrt();
     if count == 0 {
-        0.0
-    } else {
-        (share * LEVELS as f64).ceil().clamp(3.0, LEVELS as f64) / LEVELS as f64
+        return 0.0;
     }
+    let share = FAINTEST + (1.0 - FAINTEST) * (count as f64 / area.max(1) as f64).sqrt();
+    (share * LEVELS).round().min(LEVELS) / LEVELS
 }
 
 fn dark(hue: Option<usize>) -> Rgb {
@@ -399,6 +399,13 @@ mod tests {
         assert_eq!(hex(WHITE), "#ffffff");
         assert_ne!(dark(Some(0)), dark(Some(1)));
         assert!(light(Some(3)).iter().sum::<f64>() > dark(Some(3)).iter().sum::<f64>());
+    }
+
+    #[test]
+    fn denser_is_darker() {
+        let levels = [0, 1, 110, 250, 441].map(|count| level(count, 441));
+        assert!(levels.windows(2).all(|pair| pair[0] < pair[1]), "{levels:?}");
+        assert_eq!((levels[0], levels[4]), (0.0, 1.0));
     }
 
     #[test]
