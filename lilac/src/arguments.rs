@@ -1,0 +1,327 @@
+//! What the command line asks for. Names of files may be any bytes, so words stay `OsString`.
+use std::ffi::{OsStr, OsString};
+use std::path::PathBuf;
+
+/// What to do.
+#[derive(Debug, PartialEq)]
+pub enum Task {
+    Help(Topic),
+    Version,
+    Solve(Solve),
+    Structure { file: PathBuf, order: Option<PathBuf>, numbers: bool },
+    Convert { from: PathBuf, to: PathBuf, right: Option<PathBuf>, order: Option<PathBuf>, numbers: bool },
+    Picture { file: PathBuf, order: Option<PathBuf>, out: Option<PathBuf>, numbers: bool },
+}
+
+#[derive(Debug, PartialEq)]
+pub struct Solve {
+    pub file: PathBuf,
+    pub form: FormName,
+    pub right: Option<PathBuf>,
+    pub order: Option<PathBuf>,
+    pub hex: bool,
+    pub numbers: bool,
+    pub out: Option<PathBuf>,
+}
+
+#[derive(Clone, Copy, Debug, PartialEq)]
+pub enum FormName {
+    Plain,
+    Shared,
+    Row,
+}
+
+/// What help is asked for.
+#[derive(Clone, Copy, Debug, PartialEq)]
+pub enum Topic {
+    All,
+    Solve,
+    Structure,
+    Convert,
+    Picture,
+}
+
+const HELP: [&str; 2] = ["--help", "-h"];
+
+/// The options of a command that take a word behind them.
+fn valued(topic: Topic) -> &'static [&'static str] {
+    match topic {
+        Topic::All => &[],
+        Topic::Solve => &["--form", "--right", "--order", "--refusals", "--output"],
+        Topic::Structure => &["--order", "--refusals"],
+        Topic::Convert => &["--right", "--order", "--refusals"],
+        Topic::Picture => &["--order", "--refusals", "--output"],
+    }
+}
+
+/// The options that stand alone.
+fn switches(topic: Topic) -> &'static [&'static str] {
+    match topic {
+        Topic::Solve => &["--hex"],
+        _ => &[],
+    }
+}
+
+pub fn parse(words: Vec<OsString>) -> Result<Task, String> {
+    let mut words = words.into_iter();
+    let Some(first) = words.next() else {
+        return Err("say what to do: solve, structure, convert or picture (lilac --help tells more)".to_string());
+    };
+    let rest: Vec<OsString> = words.collect();
+    match first.to_str() {
+        Some("--help" | "-h") => nothing_behind(&rest, Task::Help(Topic::All)),
+        Some("--version") => nothing_behind(&rest, Task::Version),
+        Some("help") => help_on(&rest),
+        Some(name) => match topic_of(name) {
+            Some(topic) => command(topic, rest),
+            None => {
+                Err(format!("{name:?} is no command: solve, structure, convert or picture (lilac --help tells more)"))
+            }
+        },
+        None => Err(format!("{first:?} is no command (lilac --help tells more)")),
+    }
+}
+
+fn topic_of(name: &str) -> Option<Topic> {
+    match name {
+        "solve" => Some(Topic::Solve),
+        "structure" => Some(Topic::Structure),
+        "convert" => Some(Topic::Convert),
+        "picture" => Some(Topic::Picture),
+        _ => None,
+    }
+}
+
+fn name_of(topic: Topic) -> &'static str {
+    match topic {
+        Topic::All => "",
+        Topic::Solve => "solve",
+        Topic::Structure => "structure",
+        Topic::Convert => "convert",
+        Topic::Picture => "picture",
+    }
+}
+
+fn nothing_behind(rest: &[OsString], task: Task) -> Result<Task, String> {
+    match rest.first() {
+        None => Ok(task),
+        Some(word) => Err(format!("{word:?} is one word too many")),
+    }
+}
+
+fn help_on(rest: &[OsString]) -> Result<Task, String> {
+    match rest {
+        [] => Ok(Task::Help(Topic::All)),
+        [name] => match name.to_str().and_then(topic_of) {
+            Some(topic) => Ok(Task::Help(topic)),
+            None => Err(format!("there is no help on {name:?}")),
+        },
+        [_, more, ..] => Err(format!("{more:?} is one word too many")),
+    }
+}
+
+/// The words behind a command, sorted into files and options.
+struct Sorted {
+    topic: Topic,
+    files: Vec<OsString>,
+    options: Vec<(&'static str, OsString)>,
+    help: bool,
+}
+
+fn command(topic: Topic, words: Vec<OsString>) -> Result<Task, String> {
+    let mut sorted = sort(topic, words)?;
+    if sorted.help {
+        return Ok(Task::Help(topic));
+    }
+    let numbers = sorted.numbers()?;
+    match topic {
+        Topic::All => Ok(Task::Help(Topic::All)),
+        Topic::Solve => solve(sorted, numbers),
+        Topic::Structure => Ok(Task::Structure { file: sorted.only_file()?, order: sorted.path("--order"), numbers }),
+        Topic::Picture => Ok(Task::Picture {
+            file: sorted.only_file()?,
+            order: sorted.path("--order"),
+            out: sorted.path("--output"),
+            numbers,
+        }),
+        Topic::Convert => {
+            let (from, to) = sorted.two_files()?;
+            Ok(Task::Convert { from, to, right: sorted.path("--right"), order: sorted.path("--order"), numbers })
+        }
+    }
+}
+
+fn solve(mut sorted: Sorted, numbers: bool) -> Result<Task, String> {
+    let form = match sorted.take("--form") {
+        None => FormName::Plain,
+        Some(word) => match word.to_str() {
+            Some("plain") => FormName::Plain,
+            Some("shared") => FormName::Shared,
+            Some("row") => FormName::Row,
+            _ => return Err(format!("--form is plain, shared or row, not {word:?}")),
+        },
+    };
+    Ok(Task::Solve(Solve {
+        file: sorted.only_file()?,
+        form,
+        right: sorted.path("--right"),
+        order: sorted.path("--order"),
+        hex: sorted.take("--hex").is_some(),
+        numbers,
+        out: sorted.path("--output"),
+    }))
+}
+
+fn sort(topic: Topic, words: Vec<OsString>) -> Result<Sorted, String> {
+    let mut sorted = Sorted { topic, files: Vec::new(), options: Vec::new(), help: false };
+    let mut words = words.into_iter();
+    while let Some(word) = words.next() {
+        if word == "--" {
+            sorted.files.extend(words);
+            break;
+        }
+        if !is_option(&word) {
+            sorted.files.push(word);
+        } else if HELP.iter().any(|&help| word == help) {
+            sorted.help = true;
+        } else {
+            sorted.option(&word, &mut words)?;
+        }
+    }
+    Ok(sorted)
+}
+
+/// A lone `-` is the name of standard input, not an option.
+fn is_option(word: &OsStr) -> bool {
+    word.as_encoded_bytes().starts_with(b"-") && word.len() > 1
+}
+
+impl Sorted {
+    fn option(&mut self, word: &OsStr, rest: &mut impl Iterator<Item = OsString>) -> Result<(), String> {
+        let Some(text) = word.to_str() else { return Err(self.unknown(word)) };
+        let (name, joined) = match text.split_once('=') {
+            Some((name, value)) => (name, Some(OsString::from(value))),
+            None => (text, None),
+        };
+        let name = if name == "-o" { "--output" } else { name };
+        if let Some(&known) = switches(self.topic).iter().find(|&&known| known == name) {
+            return match joined {
+                None => self.put(known, OsString::new()),
+                Some(_) => Err(format!("{known} takes no value")),
+            };
+        }
+        let Some(&known) = valued(self.topic).iter().find(|&&known| known == name) else {
+            return Err(self.unknown(word));
+        };
+        match joined.or_else(|| rest.next()) {
+            Some(value) if !value.is_empty() => self.put(known, value),
+            _ => Err(format!("{known} needs a word behind it")),
+        }
+    }
+
+    fn unknown(&self, word: &OsStr) -> String {
+        let name = name_of(self.topic);
+        format!("{word:?} is no option of {name} (lilac {name} --help tells more)")
+    }
+
+    fn put(&mut self, name: &'static str, value: OsString) -> Result<(), String> {
+        if self.options.iter().any(|&(given, _)| given == name) {
+            return Err(format!("{name} is given twice"));
+        }
+        self.options.push((name, value));
+        Ok(())
+    }
+
+    fn take(&mut self, name: &str) -> Option<OsString> {
+        let at = self.options.iter().position(|&(given, _)| given == name)?;
+        Some(self.options.remove(at).1)
+    }
+
+    fn path(&mut self, name: &str) -> Option<PathBuf> {
+        self.take(name).map(PathBuf::from)
+    }
+
+    fn numbers(&mut self) -> Result<bool, String> {
+        match self.take("--refusals") {
+            None => Ok(false),
+            Some(word) if word == "words" => Ok(false),
+            Some(word) if word == "numbers" => Ok(true),
+            Some(word) => Err(format!("--refusals is words or numbers, not {word:?}")),
+        }
+    }
+
+    fn only_file(&mut self) -> Result<PathBuf, String> {
+        match &self.files[..] {
+            [file] => Ok(PathBuf::from(file)),
+            [] => Err(format!("{} needs a file", name_of(self.topic))),
+            [_, more, ..] => Err(format!("{} takes one file; {more:?} is one too many", name_of(self.topic))),
+        }
+    }
+
+    fn two_files(&mut self) -> Result<(PathBuf, PathBuf), String> {
+        match &self.files[..] {
+            [from, to] => Ok((PathBuf::from(from), PathBuf::from(to))),
+            _ => Err(format!("convert needs two files, not {}", self.files.len())),
+        }
+    }
+}
+
+#[cfg(test)]
+mod tests {
+    use super::*;
+
+    fn parsed(line: &str) -> Result<Task, String> {
+        parse(line.split_whitespace().map(OsString::from).collect())
+    }
+
+    #[test]
+    fn options_may_stand_anywhere() {
+        let expected = Task::Solve(Solve {
+            file: "a.lp".into(),
+            form: FormName::Row,
+            right: None,
+            order: Some("r.txt".into()),
+            hex: true,
+            numbers: true,
+            out: Some("x.txt".into()),
+        });
+        assert_eq!(
+            parsed("solve --hex a.lp --form row -o x.txt --order=r.txt --refusals numbers").as_ref(),
+            Ok(&expected)
+        );
+        assert_eq!(
+            parsed("solve --form=row --order r.txt --refusals=numbers --hex --output x.txt -- a.lp"),
+            Ok(expected)
+        );
+    }
+
+    #[test]
+    fn help_is_found_everywhere() {
+        assert_eq!(parsed("--help"), Ok(Task::Help(Topic::All)));
+        assert_eq!(parsed("help picture"), Ok(Task::Help(Topic::Picture)));
+        assert_eq!(parsed("convert --help"), Ok(Task::Help(Topic::Convert)));
+    }
+
+    #[test]
+    fn bad_usage_is_said() {
+        let bad = [
+            "",
+            "sovle a",
+            "solve",
+            "solve a b",
+            "solve a --form",
+            "solve a --form wide",
+            "solve a --hex=1",
+            "solve a --hex --hex",
+            "structure a --hex",
+            "convert a",
+            "convert a b c",
+            "picture a --form row",
+            "solve a --refusals x",
+            "--help x",
+        ];
+        for line in bad {
+            assert!(parsed(line).is_err(), "{line}");
+        }
+    }
+}

@@ -1,0 +1,81 @@
+//! What `--help` prints.
+use crate::arguments::Topic;
+
+pub fn text(topic: Topic) -> &'static str {
+    match topic {
+        Topic::All => ALL,
+        Topic::Solve => SOLVE,
+        Topic::Structure => STRUCTURE,
+        Topic::Convert => CONVERT,
+        Topic::Picture => PICTURE,
+    }
+}
+
+const ALL: &str = "\
+lilac solves sparse systems M x = b with the proved library Lilacpliers.
+
+  lilac solve FILE       print the solution
+  lilac structure FILE   print how much the elimination fills in, and the slots of each form
+  lilac convert A B      turn a Matrix Market file (.mtx) into a matrix file (.lp), or back
+  lilac picture FILE     draw the fill as an SVG picture
+
+FILE is a matrix file or a Matrix Market file; its contents tell which. The name - is standard input.
+A matrix has up to 4096 rows and 65536 entries. lilac COMMAND --help says more about a command.
+
+Exit status: 0 done; 1 the library refused the system; 2 bad usage, or a file that cannot be read or written.
+Places, rows and columns count from 0, but lines, rows and columns of a Matrix Market file from 1.
+Messages go to standard error, and so do signs of life when the work takes over a second.
+";
+
+const SOLVE: &str = "\
+lilac solve FILE [options]
+
+Solves M x = b and prints x, one number a line, by own column. A printed number reads back to the same bits.
+
+  --form plain|shared|row     how the factors are stored (plain); the answer is the same, bit for bit
+  --right FILE                b: n plain numbers, or a Matrix Market file of one column
+                              (that of the matrix file; all ones for a Matrix Market file)
+  --order FILE                one order for rows and columns: the numbers 0 to n - 1, place by place
+                              (that of the matrix file; 0, 1, .. for a Matrix Market file)
+  --hex                       print the 16 hexadecimal digits of each number's bits
+  --refusals words|numbers    say a refusal in plain words (the default) or as `refused NUMBER PLACE`
+  -o FILE                     write to FILE instead of standard output
+
+A refusal has exit status 1 and prints no number.
+";
+
+const STRUCTURE: &str = "\
+lilac structure FILE [options]
+
+Prints the counts of the elimination, the slots that its lists use in the plain and in the shared form, and what
+sharing saves in per cent.
+
+  --order FILE                one order for rows and columns: the numbers 0 to n - 1, place by place
+  --refusals words|numbers    say a refusal in plain words (the default) or as `refused NUMBER PLACE`
+";
+
+const CONVERT: &str = "\
+lilac convert A B [options]
+
+Turns A.mtx into B.lp, or A.lp into B.mtx; the names of the files tell which.
+
+  --right FILE                from .mtx: read the right side from FILE (all ones without it)
+                              from .lp: write the right side to FILE
+  --order FILE                from .mtx: read one order for rows and columns from FILE (0, 1, .. without it)
+                              from .lp: write the order to FILE
+  --refusals words|numbers    say a refusal in plain words (the default) or as `refused NUMBER PLACE`
+
+A Matrix Market file holds neither right side nor order: what is left behind is said on standard error.
+";
+
+const PICTURE: &str = "\
+lilac picture FILE [options]
+
+Draws the matrix in elimination order, row k being place k, as an SVG picture: stored entries dark, fill lighter, and
+upper lists that share index slots in the shared form in one hue. Counts and slots stand beside it. Beyond 200 places
+a cell is a square of positions, the darker the denser.
+
+  --order FILE                one order for rows and columns: the numbers 0 to n - 1, place by place
+  --refusals words|numbers    say a refusal in plain words (the default) or as `refused NUMBER PLACE`
+  -o FILE                     write to FILE instead of standard output
+";

@@ -1,0 +1,53 @@
+//! The command `lilac`: solves sparse systems with the proved library, shows their fill, converts their files.
+mod arguments;
+mod commands;
+mod facts;
+mod fault;
+mod help;
+mod input;
+mod output;
+mod picture;
+mod progress;
+
+use arguments::Task;
+use fault::Fault;
+use output::Place;
+use std::process::ExitCode;
+
+fn main() -> ExitCode {
+    let (numbers, end) = match arguments::parse(std::env::args_os().skip(1).collect()) {
+        Ok(task) => (refusals_as_numbers(&task), run(task)),
+        Err(line) => (false, Err(Fault::Bad(line))),
+    };
+    match end {
+        Ok(()) => ExitCode::SUCCESS,
+        Err(fault) => {
+            fault.tell(numbers);
+            ExitCode::from(fault.status())
+        }
+    }
+}
+
+fn refusals_as_numbers(task: &Task) -> bool {
+    match task {
+        Task::Help(_) | Task::Version => false,
+        Task::Solve(solve) => solve.numbers,
+        Task::Structure { numbers, .. } | Task::Convert { numbers, .. } | Task::Picture { numbers, .. } => *numbers,
+    }
+}
+
+fn run(task: Task) -> Result<(), Fault> {
+    match task {
+        Task::Help(topic) => Ok(output::write(Place::Standard, help::text(topic).as_bytes())?),
+        Task::Version => {
+            let line = concat!("lilac ", env!("CARGO_PKG_VERSION"), "\n");
+            Ok(output::write(Place::Standard, line.as_bytes())?)
+        }
+        Task::Solve(solve) => commands::solve(&solve),
+        Task::Structure { file, order, .. } => commands::structure(&file, order.as_deref()),
+        Task::Convert { from, to, right, order, .. } => {
+            commands::convert(&from, &to, right.as_deref(), order.as_deref())
+        }
+        Task::Picture { file, order, out, .. } => commands::picture(&file, order.as_deref(), out.as_deref()),
+    }
+}

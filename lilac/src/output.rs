@@ -1,0 +1,148 @@
+//! Numbers as text, and writing that loses nothing silently.
+use std::fs::File;
+use std::io::{self, Write};
+use std::os::fd::AsFd;
+use std::os::unix::fs::MetadataExt;
+use std::path::Path;
+use std::sync::atomic::{AtomicBool, Ordering};
+
+/// Where output goes.
+pub enum Place<'a> {
+    Standard,
+    File(&'a Path),
+}
+
+/// A number that reads back to the same bits: plain digits at ordinary sizes, an exponent elsewhere.
+pub fn decimal(number: f64) -> String {
+    let size = number.abs();
+    if size == 0.0 || (1e-5..1e16).contains(&size) {
+        format!("{number}")
+    } else {
+        format!("{number:e}")
+    }
+}
+
+/// The 16 hexadecimal digits of a number's bits.
+pub fn hexadecimal(number: f64) -> String {
+    format!("{:016X}", number.to_bits())
+}
+
+/// One number a line.
+pub fn column(numbers: &[f64], hex: bool) -> String {
+    let line = if hex { hexadecimal } else { decimal };
+    numbers.iter().map(|&number| line(number) + "\n").collect()
+}
+
+/// Writes everything, or says in one line what went wrong.
+pub fn write(place: Place, bytes: &[u8]) -> Result<(), String> {
+    match place {
+        Place::Standard => to_standard(bytes).map_err(|error| format!("cannot write to standard output: {error}")),
+        Place::File(path) => to_file(path, bytes).map_err(|error| format!("cannot write {}: {error}", path.display())),
+    }
+}
+
+/// The library's own handle takes a bad descriptor for success, so the descriptor is written to as a file.
+fn to_standard(bytes: &[u8]) -> io::Result<()> {
+    if CLOSED.load(Ordering::Relaxed) {
+        return Err(io::Error::other("it is closed"));
+    }
+    let mut file = File::from(io::stdout().as_fd().try_clone_to_owned()?);
+    file.write_all(bytes)?;
+    file.flush()
+}
+
+fn to_file(path: &Path, bytes: &[u8]) -> io::Result<()> {
+    let mut file = File::create(path)?;
+    file.write_all(bytes)?;
+    file.flush()?;
+    // A full disk may show only now. Devices and pipes cannot be synced, and need not be.
+    if file.metadata()?.is_file() {
+        file.sync_all()?;
+    }
+    Ok(())
+}
+
+/// Refuses to write a file that is read, or that is written twice: one of the two would be lost.
+pub fn apart(written: &[Option<&Path>], read: &[Option<&Path>]) -> Result<(), String> {
+    let written: Vec<&Path> = written.iter().flatten().copied().collect();
+    let read: Vec<&Path> = read.iter().flatten().copied().collect();
+    for (k, &path) in written.iter().enumerate() {
+        let others = written.iter().skip(k + 1).chain(&read);
+        if others.into_iter().any(|other| one_file(path, other)) {
+            return Err(format!("{} is named twice, and would be overwritten", path.display()));
+        }
+    }
+    Ok(())
+}
+
+/// Whether two names lead to one file. A device may have any number of names.
+fn one_file(first: &Path, second: &Path) -> bool {
+    match (first.metadata(), second.metadata()) {
+        (Ok(one), Ok(other)) => one.is_file() && (one.dev(), one.ino()) == (other.dev(), other.ino()),
+        _ => first == second,
+    }
+}
+
+/// Says one line on standard error. There is nobody to tell when that fails.
+pub fn say(line: &str) {
+    let line: String = line.chars().map(|letter| if letter.is_control() { ' ' } else { letter }).collect();
+    let _ = writeln!(io::stderr(), "lilac: {line}");
+}
+
+/// Says a line as it stands, for other programs to read.
+pub fn say_bare(line: &str) {
+    let _ = writeln!(io::stderr(), "{line}");
+}
+
+static CLOSED: AtomicBool = AtomicBool::new(false);
+
+extern "C" {
+    fn fcntl(descriptor: i32, command: i32, ...) -> i32;
+}
+
+/// Before `main` the Rust runtime puts /dev/null in the place of a closed standard output, and whatever is written
+/// would be lost. So the descriptor is looked at earlier, when the program is loaded.
+extern "C" fn look_at_standard_output() {
+    const GET_FLAGS: i32 = 1;
+    // SAFETY: fcntl with F_GETFD only asks; any descriptor number is allowed.
+    if unsafe { fcntl(1, GET_FLAGS) } == -1 {
+        CLOSED.store(true, Ordering::Relaxed);
+    }
+}
+
+#[used]
+#[link_section = ".init_array"]
+static LOOK_EARLY: extern "C" fn() = look_at_standard_output;
+
+#[cfg(test)]
+mod tests {
+    use super::*;
+
+    #[test]
+    fn numbers_read_back_to_the_same_bits() {
+        let odd = [
+            0.0,
+            -0.0,
+            1.0,
+            0.1,
+            -1.0 / 3.0,
+            1e16,
+            9.999_999_999_999_998e15,
+            1e-5,
+            5e-324,
+            f64::MAX,
+            f64::MIN_POSITIVE,
+            1e300,
+        ];
+        for number in odd {
+            let back: Result<f64, _> = decimal(number).parse();
+            assert_eq!(back.map(f64::to_bits), Ok(number.to_bits()), "{number:e}");
+            assert!(decimal(number).len() < 26);
+        }
+    }
+
+    #[test]
+    fn digits_are_capital_and_sixteen() {
+        assert_eq!(column(&[1.0, 0.0, -0.1], true), "3FF0000000000000\n0000000000000000\nBFB999999999999A\n");
+    }
+}

@@ -1,0 +1,156 @@
+//! Solving: what is printed, in every form, and what is refused.
+mod common;
+use common::{done, example, failed, file, lilac, out, own};
+
+const HEADER: &str = "%%MatrixMarket matrix coordinate real general\n";
+
+#[test]
+fn the_grid_has_nine_numbers() {
+    let numbers = done(&["solve", &example("grid_3_by_3.mtx")]);
+    assert_eq!(numbers.lines().count(), 9);
+    assert!(numbers.lines().all(|line| line.parse::<f64>().is_ok_and(f64::is_finite)), "{numbers}");
+}
+
+#[test]
+fn the_right_side_is_taken() {
+    let right = example("grid_3_by_3_right.txt");
+    let numbers = done(&["solve", &example("grid_3_by_3.mtx"), "--right", &right]);
+    for (k, line) in numbers.lines().enumerate() {
+        let number: f64 = line.parse().expect("a number");
+        assert!((number - (k + 1) as f64).abs() < 1e-12, "{numbers}");
+    }
+    // The matrix file has the same right side in it.
+    assert_eq!(numbers, done(&["solve", &example("grid_3_by_3.lp")]));
+}
+
+#[test]
+fn the_papers_example_has_its_digits() {
+    let digits = "3FF0000000000000\n4000000000000000\n";
+    assert_eq!(done(&["solve", &example("two_by_two.lp"), "--hex"]), digits);
+    assert_eq!(done(&["solve", &example("two_by_two.lp")]), "1\n2\n");
+    let right = example("two_by_two_right.txt");
+    assert_eq!(done(&["solve", "--hex", "--right", &right, &example("two_by_two.mtx")]), digits);
+}
+
+#[test]
+fn all_forms_print_the_same() {
+    let file = example("grid_3_by_3.lp");
+    let plain = done(&["solve", &file, "--hex", "--form", "plain"]);
+    assert_eq!(plain, done(&["solve", &file, "--hex", "--form", "shared"]));
+    assert_eq!(plain, done(&["solve", &file, "--hex", "--form=row"]));
+}
+
+#[test]
+fn printed_numbers_have_the_same_bits() {
+    let grid = example("grid_3_by_3.mtx");
+    let digits: Vec<String> = done(&["solve", &grid])
+        .lines()
+        .map(|line| format!("{:016X}", line.parse::<f64>().expect("a number").to_bits()))
+        .collect();
+    assert_eq!(digits, done(&["solve", &grid, "--hex"]).lines().collect::<Vec<_>>());
+}
+
+#[test]
+fn an_order_turns_a_null_pivot_into_a_solution() {
+    // Rows (0 1), (1 1): in the natural order place 0 has no pivot, in the other one it has.
+    let matrix = file("turned.mtx", format!("{HEADER}2 2 3\n1 2 1\n2 1 1\n2 2 1\n"));
+    let order = file("turned.txt", "1 0\n");
+    assert_eq!(failed(1, &["solve", &matrix, "--refusals", "numbers"]), "refused 9 0\n");
+    // x(0) is +0 times the reciprocal pivot -1: its sign is kept.
+    assert_eq!(done(&["solve", &matrix, "--order", &order]), "-0\n1\n");
+}
+
+#[test]
+fn output_goes_to_a_file() {
+    let path = own("solution.txt");
+    assert_eq!(done(&["solve", &example("two_by_two.lp"), "-o", &path]), "");
+    assert_eq!(std::fs::read_to_string(&path).expect("the file is there"), "1\n2\n");
+}
+
+#[test]
+fn standard_input_is_a_file() {
+    let input = std::fs::File::open(example("two_by_two.lp")).expect("the example is there");
+    let output = common::command().args(["solve", "-"]).stdin(input).output().expect("the command runs");
+    assert_eq!(out(&output), "1\n2\n");
+}
+
+#[test]
+fn long_work_gives_signs_of_life() {
+    use std::{io::Write, process::Stdio, thread::sleep, time::Duration};
+    let mut waiting = common::command();
+    waiting.args(["solve", "-"]).stdin(Stdio::piped()).stdout(Stdio::piped()).stderr(Stdio::piped());
+    let mut child = waiting.spawn().expect("the command runs");
+    sleep(Duration::from_millis(2500));
+    let matrix = std::fs::read(example("two_by_two.lp")).expect("the example is there");
+    child.stdin.take().expect("its input").write_all(&matrix).expect("it reads");
+    let output = child.wait_with_output().expect("it ends");
+    assert_eq!((output.status.code(), out(&output).as_str()), (Some(0), "1\n2\n"));
+    let sign = common::err(&output);
+    assert!(sign.starts_with("lilac: solving standard input, ") && sign.lines().count() == 1, "{sign}");
+}
+
+#[test]
+fn refusals_have_status_1() {
+    let zero = file("zero.mtx", format!("{HEADER}1 1 1\n1 1 -0\n"));
+    let empty_row = file("empty_row.mtx", format!("{HEADER}2 2 1\n1 1 1\n"));
+    let tiny = file("tiny.mtx", format!("{HEADER}1 1 1\n1 1 5e-324\n"));
+    let no_order = file("no_order.txt", "1 1\n");
+    let two = example("two_by_two.lp");
+    let cases: [(&str, &[&str]); 4] = [
+        ("refused 12 0\n", &["solve", &zero]),
+        ("refused 7 1\n", &["solve", &empty_row]),
+        ("refused 13 0\n", &["solve", &tiny]),
+        ("refused 5 1\n", &["solve", &two, "--order", &no_order]),
+    ];
+    for (numbers, words) in cases {
+        for form in ["plain", "shared", "row"] {
+            let with = |refusals| [words, &["--form", form, "--refusals", refusals]].concat();
+            assert_eq!(failed(1, &with("numbers")), numbers);
+            let line = failed(1, &with("words"));
+            assert!(line.starts_with("lilac: ") && !line.contains("refused "), "{line}");
+        }
+    }
+}
+
+#[test]
+fn matrices_out_of_the_limits_are_refused() {
+    for (k, body) in ["0 0 0\n", "4097 4097 1\n1 1 1\n", "4000000000 4000000000 1\n1 1 1\n"].iter().enumerate() {
+        let matrix = file(&format!("limits_{k}.mtx"), format!("{HEADER}{body}"));
+        for name in ["solve", "structure", "picture"] {
+            assert_eq!(failed(1, &[name, &matrix, "--refusals", "numbers"]), "refused 1 0\n");
+        }
+    }
+    // A block of zeros has right checks, and says n = 0.
+    assert_eq!(failed(1, &["solve", &file("zeros.lp", [0; 512]), "--refusals", "numbers"]), "refused 1 0\n");
+    let mut full = format!("{HEADER}257 257 {}\n", 257 * 257);
+    for k in 0..257 * 257 {
+        full.push_str(&format!("{} {} 1\n", k / 257 + 1, k % 257 + 1));
+    }
+    assert_eq!(failed(1, &["solve", &file("full.mtx", full), "--refusals", "numbers"]), "refused 2 0\n");
+}
+
+#[test]
+fn rows_of_a_market_file_are_named_as_it_counts_them() {
+    let matrix = file("second_row.mtx", format!("{HEADER}2 2 1\n1 1 1\n"));
+    assert!(failed(1, &["solve", &matrix]).contains("row 2 of the file"));
+    let words = file("words.txt", "hello\n");
+    assert!(failed(2, &["solve", &words]).contains("%%MatrixMarket"));
+}
+
+#[test]
+fn a_refusal_leaves_no_file() {
+    let zero = file("zero_again.mtx", format!("{HEADER}1 1 1\n1 1 0\n"));
+    let path = own("never.txt");
+    failed(1, &["solve", &zero, "-o", &path]);
+    assert!(!std::path::Path::new(&path).exists());
+}
+
+#[test]
+fn help_is_printed() {
+    for words in
+        [&["--help"][..], &["solve", "--help"], &["structure", "-h"], &["convert", "--help"], &["help", "picture"]]
+    {
+        assert!(done(words).starts_with("lilac "), "{words:?}");
+    }
+    assert!(out(&lilac(&["--version"])).starts_with("lilac "));
+}
