@@ -78,6 +78,7 @@ checks --features library
 checks --features standin --bin planted
 
 package rust
+package command
 
 one "bench" "its solver differs from the reference" sh -c 'cd bench && cargo test --release --offline --quiet'
 one "tools" "the Matrix Market tool fails its tests" sh -c 'cd tools && python3 -B -m unittest test_mtx'
