@@ -1,10 +1,10 @@
 //! Numbers as text, and writing that loses nothing silently.
-use std::fs::File;
+use crate::closed;
+use std::fs::{self, File};
 use std::io::{self, Write};
 use std::os::fd::AsFd;
 use std::os::unix::fs::MetadataExt;
 use std::path::Path;
-use std::sync::atomic::{AtomicBool, Ordering};
 
 /// Where output goes.
 pub enum Place<'a> {
@@ -37,22 +37,24 @@ pub fn column(numbers: &[f64], hex: bool) -> String {
 pub fn write(place: Place, bytes: &[u8]) -> Result<(), String> {
     match place {
         Place::Standard => to_standard(bytes).map_err(|error| format!("cannot write to standard output: {error}")),
-        Place::File(path) => to_file(path, bytes).map_err(|error| format!("cannot write {}: {error}", path.display())),
+        Place::File(path) => to_file(path, bytes).map_err(|words| format!("cannot write {}: {words}", path.display())),
     }
 }
 
 /// The library's own handle takes a bad descriptor for success, so the descriptor is written to as a file.
 fn to_standard(bytes: &[u8]) -> io::Result<()> {
-    if CLOSED.load(Ordering::Relaxed) {
+    if closed::at_start() {
         return Err(io::Error::other("it is closed"));
     }
-    let mut file = File::from(io::stdout().as_fd().try_clone_to_owned()?);
-    file.write_all(bytes)?;
-    file.flush()
+    put(File::from(io::stdout().as_fd().try_clone_to_owned()?), bytes)
 }
 
-fn to_file(path: &Path, bytes: &[u8]) -> io::Result<()> {
-    let mut file = File::create(path)?;
+fn to_file(path: &Path, bytes: &[u8]) -> Result<(), String> {
+    let file = File::create(path).map_err(|error| error.to_string())?;
+    put(file, bytes).map_err(|error| format!("{error}{}", remove_part(path)))
+}
+
+fn put(mut file: File, bytes: &[u8]) -> io::Result<()> {
     file.write_all(bytes)?;
     file.flush()?;
     // A full disk may show only now. Devices and pipes cannot be synced, and need not be.
@@ -60,6 +62,18 @@ fn to_file(path: &Path, bytes: &[u8]) -> io::Result<()> {
         file.sync_all()?;
     }
     Ok(())
+}
+
+/// Part of an answer must not pass for the whole: removes it, or says that it is there. A link stays where it is.
+fn remove_part(path: &Path) -> &'static str {
+    let own = path.symlink_metadata().is_ok_and(|data| data.is_file());
+    if own && fs::remove_file(path).is_ok() {
+        "; the incomplete file is removed"
+    } else if path.is_file() {
+        "; the file is incomplete"
+    } else {
+        ""
+    }
 }
 
 /// Refuses to write a file that is read, or that is written twice: one of the two would be lost.
@@ -93,26 +107,6 @@ pub fn say(line: &str) {
 pub fn say_bare(line: &str) {
     let _ = writeln!(io::stderr(), "{line}");
 }
-
-static CLOSED: AtomicBool = AtomicBool::new(false);
-
-extern "C" {
-    fn fcntl(descriptor: i32, command: i32, ...) -> i32;
-}
-
-/// Before `main` the Rust runtime puts /dev/null in the place of a closed standard output, and whatever is written
-/// would be lost. So the descriptor is looked at earlier, when the program is loaded.
-extern "C" fn look_at_standard_output() {
-    const GET_FLAGS: i32 = 1;
-    // SAFETY: fcntl with F_GETFD only asks; any descriptor number is allowed.
-    if unsafe { fcntl(1, GET_FLAGS) } == -1 {
-        CLOSED.store(true, Ordering::Relaxed);
-    }
-}
-
-#[used]
-#[link_section = ".init_array"]
-static LOOK_EARLY: extern "C" fn() = look_at_standard_output;
 
 #[cfg(test)]
 mod tests {
