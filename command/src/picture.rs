@@ -23,13 +23,13 @@ const LEFT: usize = 76;
 const TOP: usize = 92;
 const GREATEST_SIDE: usize = 720;
 const GREATEST_CELL: usize = 48;
-const PANEL: usize = 370;
-/// Room for the slots of each run, where rows are high enough for a line of text.
+const PANEL: usize = 410;
+/// Room for the slots of each run, where rows are high enough for a line of text: up to 64 rows.
 const RUN_COLUMN: usize = 64;
-const LEAST_LINE: usize = 14;
+const LEAST_LINE: usize = 11;
 /// Steps of a density's shade, and the shade of the thinnest.
-const LEVELS: f64 = 10.0;
-const FAINTEST: f64 = 0.4;
+const LEVELS: f64 = 20.0;
+const FAINTEST: f64 = 0.55;
 
 type Rgb = [f64; 3];
 
@@ -96,14 +96,32 @@ pub fn shared_hues(upper: &[Vec<usize>], runs: &[usize]) -> Vec<Option<usize>> {
 }
 
 fn open(out: &mut String, title: &str, width: usize, height: usize) {
+    let heading = escaped(&fitted(&format!("Fill of {title}"), width - LEFT - 16));
     let title = escaped(title);
     let _ = writeln!(
         out,
         "<svg xmlns=\"http://www.w3.org/2000/svg\" width=\"{width}\" height=\"{height}\" viewBox=\"0 0 {width} {height}\" \
          font-family=\"sans-serif\" font-size=\"13\" fill=\"#222\">\n<title>Fill of {title}</title>\n\
          <rect width=\"{width}\" height=\"{height}\" fill=\"#fff\"/>\n\
-         <text x=\"{LEFT}\" y=\"30\" font-size=\"18\" font-weight=\"bold\">Fill of {title}</text>"
+         <text x=\"{LEFT}\" y=\"30\" font-size=\"18\" font-weight=\"bold\">{heading}</text>"
     );
+}
+
+/// As much of a heading as has room; letters outside ASCII may be wide.
+fn fitted(text: &str, room: usize) -> String {
+    let mut used = 0;
+    let wide = |letter: char| if letter.is_ascii() { 13 } else { 19 };
+    let end = text.char_indices().find(|&(_, letter)| {
+        used += wide(letter);
+        used > room
+    });
+    match end {
+        None => text.to_string(),
+        Some((at, _)) => {
+            let kept: Vec<char> = text[..at].chars().collect();
+            kept[..kept.len().saturating_sub(3)].iter().collect::<String>() + "..."
+        }
+    }
 }
 
 /// Ticks with places along the top and the left edge, each at the middle of its row or column.
@@ -183,12 +201,19 @@ fn single_cells(out: &mut String, subject: &Subject, hues: &[Option<usize>]) {
             );
             // A hint under the pointer, where there are few enough cells to point at one.
             if n <= 64 {
-                let _ = writeln!(out, "><title>row {k}, column {j}: {class}</title></rect>");
+                let slot = upper_slot(subject, k, j);
+                let _ = writeln!(out, "><title>row {k}, column {j}: {class}{slot}</title></rect>");
             } else {
                 out.push_str("/>\n");
             }
         }
     }
+}
+
+/// The upper index slot that holds column j for row k, in words; none on and below the diagonal.
+fn upper_slot(subject: &Subject, k: usize, j: usize) -> String {
+    let found = subject.upper[k].binary_search(&j).ok().zip(subject.runs.get(k));
+    found.map_or(String::new(), |(at, run)| format!(", upper slot {}", run + at))
 }
 
 /// What a square of positions holds.
@@ -267,7 +292,7 @@ fn dark(hue: Option<usize>) -> Rgb {
 }
 
 fn light(hue: Option<usize>) -> Rgb {
-    hue.map_or([196.0, 196.0, 200.0], |number| from_hue(number, 0.70, 0.76))
+    hue.map_or([184.0, 184.0, 188.0], |number| from_hue(number, 0.72, 0.72))
 }
 
 /// The golden angle from hue to hue: any few in a row are well apart.
@@ -320,10 +345,10 @@ fn legend(out: &mut String, hues: &[Option<usize>], x: usize, mut y: usize, bloc
         _ => lines.push((Some(Some(0)), format!("upper lists that share slots, {groups} groups"))),
     }
     if groups > 0 {
-        lines.push((None, "a group has one hue; grey: slots of its own".to_string()));
+        lines.push((None, "one hue a group; grey: slots of its own".to_string()));
     }
     if block > 1 {
-        lines.push((None, format!("a cell is {block} by {block} places; darker is denser")));
+        lines.push((None, format!("{block} by {block} places a cell; darker is denser")));
     }
     for (hue, text) in lines {
         if let Some(hue) = hue {
@@ -339,9 +364,11 @@ fn legend(out: &mut String, hues: &[Option<usize>], x: usize, mut y: usize, bloc
 fn run_column(out: &mut String, subject: &Subject, hues: &[Option<usize>], side: usize) {
     let x = LEFT + side + 10;
     let scale = side as f64 / subject.upper.len().max(1) as f64;
-    let _ = writeln!(out, "<g font-size=\"11\"><text x=\"{x}\" y=\"{}\">upper slots</text>", TOP - 10);
+    let size = (scale * 0.85).min(11.0);
+    let _ = writeln!(out, "<text x=\"{x}\" y=\"{}\" font-size=\"11\">upper slots</text>", TOP - 10);
+    let _ = writeln!(out, "<g font-size=\"{size:.2}\">");
     for (k, (list, run)) in subject.upper.iter().zip(subject.runs).enumerate() {
-        let y = TOP as f64 + (k as f64 + 0.5) * scale + 4.0;
+        let y = TOP as f64 + (k as f64 + 0.5) * scale + 0.36 * size;
         let colour = hex(dark(hues[k]));
         let slots = match list.len() {
             0 => "none".to_string(),
@@ -406,6 +433,13 @@ mod tests {
         let levels = [0, 1, 110, 250, 441].map(|count| level(count, 441));
         assert!(levels.windows(2).all(|pair| pair[0] < pair[1]), "{levels:?}");
         assert_eq!((levels[0], levels[4]), (0.0, 1.0));
+    }
+
+    #[test]
+    fn headings_fit() {
+        assert_eq!(fitted("Fill of a.mtx", 400), "Fill of a.mtx");
+        assert_eq!(fitted(&"a".repeat(100), 130), "aaaaaaa...");
+        assert_eq!(fitted("\u{4e00}\u{4e00}", 19), "...");
     }
 
     #[test]
