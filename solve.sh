@@ -32,6 +32,9 @@ if [ ! -f "$file" ] || [ ! -r "$file" ]; then
 fi
 command -v rt >/dev/null 2>&1 || fail "the Rattle toolchain's command rt is not on the path"
 
+if ! mkdir -p "$root/target" 2>/dev/null || [ ! -w "$root/target" ]; then
+    fail "nothing can be built: the folder $root/target cannot be written"
+fi
 say "proving and building the program (some minutes the first time, seconds afterwards)"
 if ! log=$(cd -- "$root" && rt check solve 2>&1); then
     say "it could not be proved and built; the end of what rt said:"

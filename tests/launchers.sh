@@ -138,10 +138,23 @@ END
     expect "rt fails: what failed" 2 "this failed: rt staticlib capi" "$house/lilac" x
 }
 
+# A file in the place of a folder cannot be written by anybody.
+no_room() {
+    builders
+    rm -rf "$house/target" "$house/command/target"
+    : >"$house/target"
+    expect "no room for the library" 2 "house/target cannot be written" "$house/lilac" x
+    expect "no room for the program" 2 "house/target cannot be written" sh "$house/solve.sh"
+    rm "$house/target"
+    : >"$house/command/target"
+    expect "no room for the command" 2 "command/target cannot be written" "$house/lilac" x
+    rm -r "$house/command/target" "$house/target/staticlib"
+}
+
 # Only what the scripts themselves need is on the path.
 missing_tools() {
     mkdir "$place/few"
-    for tool in sh dirname find tail readlink; do
+    for tool in sh dirname find tail readlink mkdir; do
         ln -s "$(command -v $tool)" "$place/few/$tool"
     done
     expect "no rt" 2 "rt is not on the path" env PATH="$place/few" sh "$house/lilac" x
@@ -154,6 +167,7 @@ solve_sh
 cut_answers
 launcher
 failing_builds
+no_room
 missing_tools
 
 echo "$passed passed, $failed failed"
