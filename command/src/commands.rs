@@ -35,7 +35,7 @@ fn form(name: FormName) -> Form {
 }
 
 fn place(out: Option<&Path>) -> Place<'_> {
-    out.map_or(Place::Standard, Place::File)
+    out.map_or(Place::Standard, Place::of)
 }
 
 pub fn structure(file: &Path, orders: &OrderFiles) -> Result<(), Fault> {

@@ -78,7 +78,7 @@ fn to_market(asked: &Convert) -> Result<(), Fault> {
 }
 
 fn write(path: &Path, text: String) -> Result<(), String> {
-    output::write(Place::File(path), text.as_bytes())
+    output::write(Place::of(path), text.as_bytes())
 }
 
 /// What was not written out and is not what a Matrix Market file is taken to have, and the option that keeps it.

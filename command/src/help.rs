@@ -19,7 +19,8 @@ lilac solves sparse systems M x = b with the proved library Lilacpliers.
   lilac convert A B      turn a Matrix Market file (.mtx) into a matrix file (.lp), or back
   lilac picture FILE     draw the fill as an SVG picture
 
-FILE is a matrix file or a Matrix Market file; its contents tell which. The name - is standard input.
+FILE is a matrix file or a Matrix Market file; its contents tell which. The name - is standard input, and standard
+output where something is written.
 A matrix has up to 4096 rows and 65536 entries. lilac COMMAND --help says more about a command.
 
 Exit status: 0 done; 1 the library refused the system; 2 bad usage, or a file that cannot be read or written.

@@ -12,6 +12,21 @@ pub enum Place<'a> {
     File(&'a Path),
 }
 
+impl Place<'_> {
+    /// The place of a name: - is standard output.
+    pub fn of(path: &Path) -> Place<'_> {
+        if is_standard(path) {
+            Place::Standard
+        } else {
+            Place::File(path)
+        }
+    }
+}
+
+fn is_standard(path: &Path) -> bool {
+    path == Path::new("-")
+}
+
 /// A number that reads back to the same bits: plain digits at ordinary sizes, an exponent elsewhere.
 pub fn decimal(number: f64) -> String {
     let size = number.abs();
@@ -81,8 +96,9 @@ pub fn apart(written: &[Option<&Path>], read: &[Option<&Path>]) -> Result<(), St
     let written: Vec<&Path> = written.iter().flatten().copied().collect();
     let read: Vec<&Path> = read.iter().flatten().copied().collect();
     for (k, &path) in written.iter().enumerate() {
-        let others = written.iter().skip(k + 1).chain(&read);
-        if others.into_iter().any(|other| one_file(path, other)) {
+        // Standard output is not standard input, though both have one name.
+        let sources = if is_standard(path) { &[] } else { &read[..] };
+        if written[k + 1..].iter().chain(sources).any(|other| one_file(path, other)) {
             return Err(format!("{} is named twice, and would be overwritten", path.display()));
         }
     }

@@ -70,8 +70,11 @@ fn output_goes_to_a_file() {
 #[test]
 fn standard_input_is_a_file() {
     let input = std::fs::File::open(example("two_by_two.lp")).expect("the example is there");
-    let output = common::command().args(["solve", "-"]).stdin(input).output().expect("the command runs");
+    let output = common::command().args(["solve", "-", "-o", "-"]).stdin(input).output().expect("the command runs");
     assert_eq!(out(&output), "1\n2\n");
+    let two = example("two_by_two.lp");
+    assert_eq!(done(&["convert", &two, &own("streamed.mtx"), "--right", "-"]), "10\n9\n");
+    failed(2, &["convert", &two, &own("streamed.mtx"), "--right", "-", "--order", "-"]);
 }
 
 /// A pipe with a name, behind which the command waits.
