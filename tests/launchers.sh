@@ -12,7 +12,8 @@ house=$place/house
 mkdir -p "$place/stubs" "$place/elsewhere" "$house/target/bin" "$house/examples" || exit 1
 trap 'rm -rf "${place%/*}"' EXIT
 cp solve.sh lilac "$house" && cp examples/* "$house/examples" || exit 1
-mkdir -p "$house/command/src" "$house/rust/src" && touch "$house/command/Cargo.toml" "$house/rust/Cargo.toml" || exit 1
+mkdir -p "$house/command/src" "$house/rust/src" "$house/include" || exit 1
+touch "$house/command/Cargo.toml" "$house/rust/Cargo.toml" "$house/rust/build.rs" "$house/include/lilacpliers.h" || exit 1
 
 # A program made of the lines on standard input.
 stub() {
@@ -117,7 +118,7 @@ launcher() {
     printed "through links" "<y>"
     expect "from another folder" 0 "" sh -c 'cd "$1" && ../house/lilac z' sh "$place/elsewhere"
     printed "from another folder" "<z>"
-    touch -d '+1 hour' "$house/rust/src"
+    touch -t 209901010000 "$house/rust/src"
     expect "an older command" 0 "building the command" "$house/lilac" z
 }
 
