@@ -58,7 +58,9 @@ pub fn picture(file: &Path, orders: &OrderFiles, out: Option<&Path>) -> Result<(
             stored: &stored(&found.system.matrix, &found.system.orders),
             lower: &lists(&found.plain, Side::Lower, n),
             upper: &lists(&found.shared, Side::Upper, n),
-            runs: &(0..n).map(|k| found.shared.run(Side::Upper, k)).collect::<Vec<usize>>(),
+            runs: &runs(&found.shared, Side::Upper, n),
+            lower_columns: &lists(&found.shared, Side::Lower, n),
+            lower_runs: &runs(&found.shared, Side::Lower, n),
             facts: &found.table(),
         })
     };
@@ -89,6 +91,10 @@ fn found(file: &Path, orders: &OrderFiles) -> Result<Found, Fault> {
 
 fn lists(structure: &Structure, side: Side, n: usize) -> Vec<Vec<usize>> {
     (0..n).map(|k| structure.list(side, k).iter().map(|&j| usize::from(j)).collect()).collect()
+}
+
+fn runs(structure: &Structure, side: Side, n: usize) -> Vec<usize> {
+    (0..n).map(|k| structure.run(side, k)).collect()
 }
 
 /// The stored entries of M' by place. The library has accepted matrix and orders before.

@@ -80,8 +80,9 @@ const PICTURE: &str = "\
 lilac picture FILE [options]
 
 Draws the matrix in elimination order, row k being place k, as an SVG picture: stored entries dark, fill lighter, and
-upper lists that share index slots in the shared form in one hue. Counts and slots stand beside it. Beyond 200 places
-a cell is a square of positions, the darker the denser.
+upper lists (rows) and lower columns that share index slots in the shared form in one hue. Counts and slots stand
+beside it, up to 64 places the slots of each row too. Beyond 200 places a cell is a square of positions, the darker the
+denser.
 
   --order FILE                one order for rows and columns: the numbers 0 to n - 1, place by place
   --rows FILE                 the order of the rows alone, and

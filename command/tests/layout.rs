@@ -115,5 +115,7 @@ fn rows_show_the_slots_of_their_runs() {
     let at = slots.iter().position(|text| text == "upper slots").expect("the column of slots");
     assert_eq!(slots[at + 1..at + 4], ["0 to 1", "1", "none"]);
     assert!(picture.contains("row 1, column 2: fill, upper slot 1<"));
-    assert!(picture.contains("1 group<") && picture.contains("row form, slots"));
+    assert!(picture.contains("row 2, column 1: fill, lower slot 1<"));
+    assert!(picture.contains("upper lists sharing slots: 1 group<"));
+    assert!(picture.contains("lower columns sharing slots: 1 group<") && picture.contains("row form, slots"));
 }
