@@ -87,7 +87,7 @@ fn pipe(name: &str) -> String {
 
 #[test]
 fn long_work_gives_signs_of_life() {
-    use std::{process::Stdio, thread::sleep, time::Duration};
+    use std::{io::Write, process::Stdio, thread::sleep, time::Duration};
     let target = own("slow.lp");
     let cases = [("solve", "solving"), ("structure", "finding"), ("picture", "drawing"), ("convert", "converting")];
     let waiting = cases.map(|(name, word)| {
@@ -100,7 +100,10 @@ fn long_work_gives_signs_of_life() {
     sleep(Duration::from_millis(2500));
     let matrix = std::fs::read(example("two_by_two.mtx")).expect("the example is there");
     for (child, path, word) in waiting {
-        std::fs::write(&path, &matrix).expect("it reads");
+        // Opened both ways a pipe waits for nobody, not even for a command that has ended.
+        let mut pipe = std::fs::File::options().read(true).write(true).open(&path).expect("the pipe");
+        pipe.write_all(&matrix).expect("it reads");
+        drop(pipe);
         let output = child.wait_with_output().expect("it ends");
         let sign = common::err(&output);
         assert_eq!(output.status.code(), Some(0), "{sign}");
