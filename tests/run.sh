@@ -1,7 +1,7 @@
 #!/usr/bin/env bash
 # Runs the tests outside the proofs: solve.sh as the README calls it, another solver against the library and the
-# program, faults planted for that comparison to find, the C header, the Rust crate, the benchmark's own solver, and the
-# Matrix Market tool. Nothing is left out: what is missing counts as failed. Ends with one line 'N passed, M failed'.
+# program, faults planted for that comparison to find, the C header, the Rust crate, the command, the benchmark's own
+# solver, and the launchers. Nothing is left out: what is missing counts as failed. Ends with one line 'N passed, M failed'.
 set -u
 cd "$(dirname "$0")/.." || exit 1
 
@@ -13,17 +13,18 @@ note() {
     failed=$((failed + 1))
 }
 
-# Runs a program of checks, shows what it prints, and adds up its closing line.
-checks() {
-    local log line status m
+# Runs a command, shows what it prints, and adds up its closing line.
+counted() {
+    local name=$1 log line status m
+    shift
     log=$(mktemp)
-    (cd tests && cargo run --release --offline --quiet "$@") >"$log" 2>&1
+    "$@" >"$log" 2>&1
     status=$?
     cat "$log" >&2
     line=$(grep -aE '^[0-9]+ passed, [0-9]+ failed' "$log" | tail -n 1)
     rm -f "$log"
     if [ -z "$line" ]; then
-        note "checks $*" "no closing line"
+        note "$name" "no closing line"
         return
     fi
     passed=$((passed + ${line%% passed*}))
@@ -31,8 +32,13 @@ checks() {
     m=${m%% failed*}
     failed=$((failed + m))
     if [ "$status" -ne 0 ] && [ "$m" -eq 0 ]; then
-        note "checks $*" "ended with status $status"
+        note "$name" "ended with status $status"
     fi
+}
+
+# Runs a program of checks.
+checks() {
+    counted "checks $*" sh -c 'cd tests && cargo run --release --offline --quiet "$@"' sh "$@"
 }
 
 # Runs a command that passes or fails as a whole.
@@ -68,10 +74,20 @@ paper_lines() {
     [ "$(sh solve.sh)" = "$(printf '%s\n' 'n 2 lower 1 upper 1 products 1' 'x 0 3FF0000000000000' 'x 1 4000000000000000')" ]
 }
 
+# The real program behind solve.sh: a refusal is an answer, an answer that is lost is none.
+real_answers() {
+    local status
+    [ "$(sh solve.sh examples/two_by_two.mtx)" = "refused 16 0" ] || return 1
+    sh solve.sh >/dev/full
+    status=$?
+    [ "$status" -eq 2 ]
+}
+
 # The program and the library come first, since the checks run them; an older library must not stand in for one that
 # cannot be built.
 rm -f target/staticlib/libcapi.a
 one "solve.sh" "does not print the paper's three lines" paper_lines
+one "solve.sh" "a refusal is not printed, or lost output is not told" real_answers
 one "capi" "the static library was not built" rt staticlib capi
 
 checks --features library
@@ -81,7 +97,7 @@ package rust
 package command
 
 one "bench" "its solver differs from the reference" sh -c 'cd bench && cargo test --release --offline --quiet'
-one "tools" "the Matrix Market tool fails its tests" sh -c 'cd tools && python3 -B -m unittest test_mtx'
+counted "launchers" sh tests/launchers.sh
 
 echo "$passed passed, $failed failed"
 [ "$failed" -eq 0 ]

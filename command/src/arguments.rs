@@ -1,6 +1,6 @@
 //! What the command line asks for. Names of files may be any bytes, so words stay `OsString`.
 use std::ffi::{OsStr, OsString};
-use std::path::PathBuf;
+use std::path::{Path, PathBuf};
 
 /// What to do.
 #[derive(Debug, PartialEq)]
@@ -8,9 +8,9 @@ pub enum Task {
     Help(Topic),
     Version,
     Solve(Solve),
-    Structure { file: PathBuf, order: Option<PathBuf>, numbers: bool },
-    Convert { from: PathBuf, to: PathBuf, right: Option<PathBuf>, order: Option<PathBuf>, numbers: bool },
-    Picture { file: PathBuf, order: Option<PathBuf>, out: Option<PathBuf>, numbers: bool },
+    Structure { file: PathBuf, orders: OrderFiles, numbers: bool },
+    Convert(Convert),
+    Picture { file: PathBuf, orders: OrderFiles, out: Option<PathBuf>, numbers: bool },
 }
 
 #[derive(Debug, PartialEq)]
@@ -18,10 +18,33 @@ pub struct Solve {
     pub file: PathBuf,
     pub form: FormName,
     pub right: Option<PathBuf>,
-    pub order: Option<PathBuf>,
+    pub orders: OrderFiles,
     pub hex: bool,
     pub numbers: bool,
     pub out: Option<PathBuf>,
+}
+
+#[derive(Debug, PartialEq)]
+pub struct Convert {
+    pub from: PathBuf,
+    pub to: PathBuf,
+    pub right: Option<PathBuf>,
+    pub orders: OrderFiles,
+    pub numbers: bool,
+}
+
+/// The files of the orders: one for rows and columns both, or one for either.
+#[derive(Debug, Default, PartialEq)]
+pub struct OrderFiles {
+    pub both: Option<PathBuf>,
+    pub rows: Option<PathBuf>,
+    pub columns: Option<PathBuf>,
+}
+
+impl OrderFiles {
+    pub fn paths(&self) -> [Option<&Path>; 3] {
+        [self.both.as_deref(), self.rows.as_deref(), self.columns.as_deref()]
+    }
 }
 
 #[derive(Clone, Copy, Debug, PartialEq)]
@@ -47,10 +70,10 @@ const HELP: [&str; 2] = ["--help", "-h"];
 fn valued(topic: Topic) -> &'static [&'static str] {
     match topic {
         Topic::All => &[],
-        Topic::Solve => &["--form", "--right", "--order", "--refusals", "--output"],
-        Topic::Structure => &["--order", "--refusals"],
-        Topic::Convert => &["--right", "--order", "--refusals"],
-        Topic::Picture => &["--order", "--refusals", "--output"],
+        Topic::Solve => &["--form", "--right", "--order", "--rows", "--columns", "--refusals", "--output"],
+        Topic::Structure => &["--order", "--rows", "--columns", "--refusals"],
+        Topic::Convert => &["--right", "--order", "--rows", "--columns", "--refusals"],
+        Topic::Picture => &["--order", "--rows", "--columns", "--refusals", "--output"],
     }
 }
 
@@ -134,24 +157,22 @@ fn command(topic: Topic, words: Vec<OsString>) -> Result<Task, String> {
         return Ok(Task::Help(topic));
     }
     let numbers = sorted.numbers()?;
+    let orders = sorted.orders()?;
     match topic {
         Topic::All => Ok(Task::Help(Topic::All)),
-        Topic::Solve => solve(sorted, numbers),
-        Topic::Structure => Ok(Task::Structure { file: sorted.only_file()?, order: sorted.path("--order"), numbers }),
-        Topic::Picture => Ok(Task::Picture {
-            file: sorted.only_file()?,
-            order: sorted.path("--order"),
-            out: sorted.path("--output"),
-            numbers,
-        }),
+        Topic::Solve => solve(sorted, orders, numbers),
+        Topic::Structure => Ok(Task::Structure { file: sorted.only_file()?, orders, numbers }),
+        Topic::Picture => {
+            Ok(Task::Picture { file: sorted.only_file()?, orders, out: sorted.path("--output"), numbers })
+        }
         Topic::Convert => {
             let (from, to) = sorted.two_files()?;
-            Ok(Task::Convert { from, to, right: sorted.path("--right"), order: sorted.path("--order"), numbers })
+            Ok(Task::Convert(Convert { from, to, right: sorted.path("--right"), orders, numbers }))
         }
     }
 }
 
-fn solve(mut sorted: Sorted, numbers: bool) -> Result<Task, String> {
+fn solve(mut sorted: Sorted, orders: OrderFiles, numbers: bool) -> Result<Task, String> {
     let form = match sorted.take("--form") {
         None => FormName::Plain,
         Some(word) => match word.to_str() {
@@ -165,7 +186,7 @@ fn solve(mut sorted: Sorted, numbers: bool) -> Result<Task, String> {
         file: sorted.only_file()?,
         form,
         right: sorted.path("--right"),
-        order: sorted.path("--order"),
+        orders,
         hex: sorted.take("--hex").is_some(),
         numbers,
         out: sorted.path("--output"),
@@ -241,6 +262,17 @@ impl Sorted {
         self.take(name).map(PathBuf::from)
     }
 
+    fn orders(&mut self) -> Result<OrderFiles, String> {
+        let files =
+            OrderFiles { both: self.path("--order"), rows: self.path("--rows"), columns: self.path("--columns") };
+        match files.paths() {
+            [Some(_), rows, columns] if rows.or(columns).is_some() => {
+                Err("--order is for rows and columns both, so it goes with neither --rows nor --columns".to_string())
+            }
+            _ => Ok(files),
+        }
+    }
+
     fn numbers(&mut self) -> Result<bool, String> {
         match self.take("--refusals") {
             None => Ok(false),
@@ -280,7 +312,7 @@ mod tests {
             file: "a.lp".into(),
             form: FormName::Row,
             right: None,
-            order: Some("r.txt".into()),
+            orders: OrderFiles { both: Some("r.txt".into()), ..OrderFiles::default() },
             hex: true,
             numbers: true,
             out: Some("x.txt".into()),
@@ -316,6 +348,8 @@ mod tests {
             "structure a --hex",
             "convert a",
             "convert a b c",
+            "convert a b --order r --rows r",
+            "solve a --columns c --order r",
             "picture a --form row",
             "solve a --refusals x",
             "--help x",

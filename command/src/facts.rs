@@ -21,6 +21,9 @@ pub fn facts(n: usize, entries: usize, counts: Counts, plain: Slots, shared: Slo
     slots(&mut table, plain);
     table.push(fact("shared form, slots", ""));
     slots(&mut table, shared);
+    // The row form keeps no lower list, and places the upper ones as the shared form does.
+    table.push(fact("row form, slots", ""));
+    upper_slots(&mut table, shared);
     table.push(fact("sharing saves", ""));
     table.push(fact("lower index", saved(plain.lower_index, shared.lower_index)));
     table.push(fact("upper index", saved(plain.upper_index, shared.upper_index)));
@@ -36,6 +39,10 @@ fn fact(label: &str, value: impl ToString) -> Fact {
 fn slots(table: &mut Vec<Fact>, slots: Slots) {
     table.push(fact("lower index", slots.lower_index));
     table.push(fact("lower values", slots.lower_values));
+    upper_slots(table, slots);
+}
+
+fn upper_slots(table: &mut Vec<Fact>, slots: Slots) {
     table.push(fact("upper index", slots.upper_index));
     table.push(fact("upper values", slots.upper_values));
 }

@@ -19,7 +19,8 @@ lilac solves sparse systems M x = b with the proved library Lilacpliers.
   lilac convert A B      turn a Matrix Market file (.mtx) into a matrix file (.lp), or back
   lilac picture FILE     draw the fill as an SVG picture
 
-FILE is a matrix file or a Matrix Market file; its contents tell which. The name - is standard input.
+FILE is a matrix file or a Matrix Market file; its contents tell which. The name - is standard input, and standard
+output where something is written.
 A matrix has up to 4096 rows and 65536 entries. lilac COMMAND --help says more about a command.
 
 Exit status: 0 done; 1 the library refused the system; 2 bad usage, or a file that cannot be read or written.
@@ -37,6 +38,8 @@ Solves M x = b and prints x, one number a line, by own column. A printed number 
                               (that of the matrix file; all ones for a Matrix Market file)
   --order FILE                one order for rows and columns: the numbers 0 to n - 1, place by place
                               (that of the matrix file; 0, 1, .. for a Matrix Market file)
+  --rows FILE                 the order of the rows alone, and
+  --columns FILE              the order of the columns alone, in place of --order
   --hex                       print the 16 hexadecimal digits of each number's bits
   --refusals words|numbers    say a refusal in plain words (the default) or as `refused NUMBER PLACE`
   -o FILE                     write to FILE instead of standard output
@@ -47,10 +50,12 @@ A refusal has exit status 1 and prints no number.
 const STRUCTURE: &str = "\
 lilac structure FILE [options]
 
-Prints the counts of the elimination, the slots that its lists use in the plain and in the shared form, and what
+Prints the counts of the elimination, the slots that its lists use in the plain, the shared and the row form, and what
 sharing saves in per cent.
 
   --order FILE                one order for rows and columns: the numbers 0 to n - 1, place by place
+  --rows FILE                 the order of the rows alone, and
+  --columns FILE              the order of the columns alone, in place of --order
   --refusals words|numbers    say a refusal in plain words (the default) or as `refused NUMBER PLACE`
 ";
 
@@ -60,22 +65,28 @@ lilac convert A B [options]
 Turns A.mtx into B.lp, or A.lp into B.mtx; the names of the files tell which.
 
   --right FILE                from .mtx: read the right side from FILE (all ones without it)
-                              from .lp: write the right side to FILE
+                              from .lp: write the right side to FILE, as Matrix Market where FILE ends in .mtx
   --order FILE                from .mtx: read one order for rows and columns from FILE (0, 1, .. without it)
                               from .lp: write the order to FILE
+  --rows FILE                 the order of the rows alone, and
+  --columns FILE              the order of the columns alone, in place of --order
   --refusals words|numbers    say a refusal in plain words (the default) or as `refused NUMBER PLACE`
 
 A Matrix Market file holds neither right side nor order: what is left behind is said on standard error.
+Orders that are none, and in a Matrix Market file a row with a column twice, are not converted.
 ";
 
 const PICTURE: &str = "\
 lilac picture FILE [options]
 
 Draws the matrix in elimination order, row k being place k, as an SVG picture: stored entries dark, fill lighter, and
-upper lists that share index slots in the shared form in one hue. Counts and slots stand beside it. Beyond 200 places
-a cell is a square of positions, the darker the denser.
+upper lists (rows) and lower columns that share index slots in the shared form in one hue. Counts and slots stand
+beside it, up to 64 places the slots of each row too. Beyond 200 places a cell is a square of positions, the darker the
+denser.
 
   --order FILE                one order for rows and columns: the numbers 0 to n - 1, place by place
+  --rows FILE                 the order of the rows alone, and
+  --columns FILE              the order of the columns alone, in place of --order
   --refusals words|numbers    say a refusal in plain words (the default) or as `refused NUMBER PLACE`
   -o FILE                     write to FILE instead of standard output
 ";

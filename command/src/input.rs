@@ -1,4 +1,5 @@
 //! Files read, and told apart by their contents.
+use crate::arguments::OrderFiles;
 use crate::fault::Fault;
 use lilacpliers::{order_from_text, vector_from_text, Error, Matrix, Orders, Refusal, System};
 use std::fs::File;
@@ -68,8 +69,8 @@ impl Loaded {
     }
 }
 
-/// The system of a file of either kind, with the right side and the order that are given besides.
-pub fn load(path: &Path, right: Option<&Path>, order: Option<&Path>) -> Result<Loaded, Fault> {
+/// The system of a file of either kind, with the right side and the orders that are given besides.
+pub fn load(path: &Path, right: Option<&Path>, orders: &OrderFiles) -> Result<Loaded, Fault> {
     let bytes = bytes(path)?;
     let market = is_market(&bytes);
     let mut system = if market {
@@ -77,7 +78,7 @@ pub fn load(path: &Path, right: Option<&Path>, order: Option<&Path>) -> Result<L
     } else {
         from_matrix_file(path, &bytes).map_err(|fault| fault.with_hint(neither_kind))?
     };
-    complete(&mut system, right, order)?;
+    complete(&mut system, right, orders)?;
     Ok(Loaded { system, name: shown(path), market })
 }
 
@@ -87,16 +88,27 @@ fn neither_kind(refusal: &Refusal) -> Option<String> {
     from_start.then(|| "; nor does it begin with %%MatrixMarket".to_string())
 }
 
-/// Takes the right side and the order from files where they are given.
-pub fn complete(system: &mut System, right: Option<&Path>, order: Option<&Path>) -> Result<(), Fault> {
+/// Takes the right side and the orders from files where they are given.
+pub fn complete(system: &mut System, right: Option<&Path>, files: &OrderFiles) -> Result<(), Fault> {
     let n = system.matrix.rows();
     if let Some(right) = right {
         system.right = right_side(right, n)?;
     }
-    if let Some(order) = order {
-        system.orders = orders(order, n)?;
+    if let Some(path) = &files.both {
+        let both = order(path, n)?;
+        system.orders = orders(path, &both, &both)?;
+    }
+    if let Some(path) = &files.rows {
+        system.orders = orders(path, &order(path, n)?, &wide(system.orders.columns()))?;
+    }
+    if let Some(path) = &files.columns {
+        system.orders = orders(path, &wide(system.orders.rows()), &order(path, n)?)?;
     }
     Ok(())
+}
+
+fn wide(order: &[u16]) -> Vec<usize> {
+    order.iter().map(|&number| usize::from(number)).collect()
 }
 
 /// A Matrix Market file holds no right side and no orders: all ones, and 0, 1, ..
@@ -122,12 +134,16 @@ fn right_side(path: &Path, n: usize) -> Result<Vec<f64>, Fault> {
     Ok(right)
 }
 
-/// One order for rows and columns.
-fn orders(path: &Path, n: usize) -> Result<Orders, Fault> {
+fn order(path: &Path, n: usize) -> Result<Vec<usize>, Fault> {
     let name = shown(path);
     let order = order_from_text(&text(path)?).map_err(|error| Fault::about(&name, error))?;
     due(&name, order.len(), n)?;
-    Orders::new(&order, &order).map_err(|error| Fault::about(&name, error))
+    Ok(order)
+}
+
+/// The two orders, the path being that of the one just read.
+fn orders(path: &Path, rows: &[usize], columns: &[usize]) -> Result<Orders, Fault> {
+    Orders::new(rows, columns).map_err(|error| Fault::about(&shown(path), error))
 }
 
 fn due(name: &str, found: usize, n: usize) -> Result<(), Fault> {

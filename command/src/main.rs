@@ -1,6 +1,11 @@
 //! The command `lilac`: solves sparse systems with the proved library, shows their fill, converts their files.
+#![deny(unsafe_code)]
+
 mod arguments;
+#[allow(unsafe_code)]
+mod closed;
 mod commands;
+mod convert;
 mod facts;
 mod fault;
 mod help;
@@ -32,7 +37,8 @@ fn refusals_as_numbers(task: &Task) -> bool {
     match task {
         Task::Help(_) | Task::Version => false,
         Task::Solve(solve) => solve.numbers,
-        Task::Structure { numbers, .. } | Task::Convert { numbers, .. } | Task::Picture { numbers, .. } => *numbers,
+        Task::Convert(convert) => convert.numbers,
+        Task::Structure { numbers, .. } | Task::Picture { numbers, .. } => *numbers,
     }
 }
 
@@ -44,10 +50,8 @@ fn run(task: Task) -> Result<(), Fault> {
             Ok(output::write(Place::Standard, line.as_bytes())?)
         }
         Task::Solve(solve) => commands::solve(&solve),
-        Task::Structure { file, order, .. } => commands::structure(&file, order.as_deref()),
-        Task::Convert { from, to, right, order, .. } => {
-            commands::convert(&from, &to, right.as_deref(), order.as_deref())
-        }
-        Task::Picture { file, order, out, .. } => commands::picture(&file, order.as_deref(), out.as_deref()),
+        Task::Structure { file, orders, .. } => commands::structure(&file, &orders),
+        Task::Convert(convert) => convert::convert(&convert),
+        Task::Picture { file, orders, out, .. } => commands::picture(&file, &orders, out.as_deref()),
     }
 }

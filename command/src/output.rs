@@ -1,15 +1,30 @@
 //! Numbers as text, and writing that loses nothing silently.
-use std::fs::File;
+use crate::closed;
+use std::fs::{self, File};
 use std::io::{self, Write};
 use std::os::fd::AsFd;
 use std::os::unix::fs::MetadataExt;
 use std::path::Path;
-use std::sync::atomic::{AtomicBool, Ordering};
 
 /// Where output goes.
 pub enum Place<'a> {
     Standard,
     File(&'a Path),
+}
+
+impl Place<'_> {
+    /// The place of a name: - is standard output.
+    pub fn of(path: &Path) -> Place<'_> {
+        if is_standard(path) {
+            Place::Standard
+        } else {
+            Place::File(path)
+        }
+    }
+}
+
+fn is_standard(path: &Path) -> bool {
+    path == Path::new("-")
 }
 
 /// A number that reads back to the same bits: plain digits at ordinary sizes, an exponent elsewhere.
@@ -37,22 +52,24 @@ pub fn column(numbers: &[f64], hex: bool) -> String {
 pub fn write(place: Place, bytes: &[u8]) -> Result<(), String> {
     match place {
         Place::Standard => to_standard(bytes).map_err(|error| format!("cannot write to standard output: {error}")),
-        Place::File(path) => to_file(path, bytes).map_err(|error| format!("cannot write {}: {error}", path.display())),
+        Place::File(path) => to_file(path, bytes).map_err(|words| format!("cannot write {}: {words}", path.display())),
     }
 }
 
 /// The library's own handle takes a bad descriptor for success, so the descriptor is written to as a file.
 fn to_standard(bytes: &[u8]) -> io::Result<()> {
-    if CLOSED.load(Ordering::Relaxed) {
+    if closed::at_start() {
         return Err(io::Error::other("it is closed"));
     }
-    let mut file = File::from(io::stdout().as_fd().try_clone_to_owned()?);
-    file.write_all(bytes)?;
-    file.flush()
+    put(File::from(io::stdout().as_fd().try_clone_to_owned()?), bytes)
 }
 
-fn to_file(path: &Path, bytes: &[u8]) -> io::Result<()> {
-    let mut file = File::create(path)?;
+fn to_file(path: &Path, bytes: &[u8]) -> Result<(), String> {
+    let file = File::create(path).map_err(|error| error.to_string())?;
+    put(file, bytes).map_err(|error| format!("{error}{}", remove_part(path)))
+}
+
+fn put(mut file: File, bytes: &[u8]) -> io::Result<()> {
     file.write_all(bytes)?;
     file.flush()?;
     // A full disk may show only now. Devices and pipes cannot be synced, and need not be.
@@ -62,13 +79,26 @@ fn to_file(path: &Path, bytes: &[u8]) -> io::Result<()> {
     Ok(())
 }
 
+/// Part of an answer must not pass for the whole: removes it, or says that it is there. A link stays where it is.
+fn remove_part(path: &Path) -> &'static str {
+    let own = path.symlink_metadata().is_ok_and(|data| data.is_file());
+    if own && fs::remove_file(path).is_ok() {
+        "; the incomplete file is removed"
+    } else if path.is_file() {
+        "; the file is incomplete"
+    } else {
+        ""
+    }
+}
+
 /// Refuses to write a file that is read, or that is written twice: one of the two would be lost.
 pub fn apart(written: &[Option<&Path>], read: &[Option<&Path>]) -> Result<(), String> {
     let written: Vec<&Path> = written.iter().flatten().copied().collect();
     let read: Vec<&Path> = read.iter().flatten().copied().collect();
     for (k, &path) in written.iter().enumerate() {
-        let others = written.iter().skip(k + 1).chain(&read);
-        if others.into_iter().any(|other| one_file(path, other)) {
+        // Standard output is not standard input, though both have one name.
+        let sources = if is_standard(path) { &[] } else { &read[..] };
+        if written[k + 1..].iter().chain(sources).any(|other| one_file(path, other)) {
             return Err(format!("{} is named twice, and would be overwritten", path.display()));
         }
     }
@@ -93,26 +123,6 @@ pub fn say(line: &str) {
 pub fn say_bare(line: &str) {
     let _ = writeln!(io::stderr(), "{line}");
 }
-
-static CLOSED: AtomicBool = AtomicBool::new(false);
-
-extern "C" {
-    fn fcntl(descriptor: i32, command: i32, ...) -> i32;
-}
-
-/// Before `main` the Rust runtime puts /dev/null in the place of a closed standard output, and whatever is written
-/// would be lost. So the descriptor is looked at earlier, when the program is loaded.
-extern "C" fn look_at_standard_output() {
-    const GET_FLAGS: i32 = 1;
-    // SAFETY: fcntl with F_GETFD only asks; any descriptor number is allowed.
-    if unsafe { fcntl(1, GET_FLAGS) } == -1 {
-        CLOSED.store(true, Ordering::Relaxed);
-    }
-}
-
-#[used]
-#[link_section = ".init_array"]
-static LOOK_EARLY: extern "C" fn() = look_at_standard_output;
 
 #[cfg(test)]
 mod tests {

@@ -1,5 +1,6 @@
 //! The fill of a matrix as an SVG picture. Everything here is a pure function of what is drawn.
 use crate::facts::Fact;
+use std::cmp::Ordering;
 use std::collections::HashMap;
 use std::fmt::Write;
 
@@ -14,6 +15,9 @@ pub struct Subject<'a> {
     pub upper: &'a [Vec<usize>],
     /// Where T(k) begins in the shared form's upper index store.
     pub runs: &'a [usize],
+    /// Column k: its filled places below k, and where they begin in the shared form's lower index store.
+    pub lower_columns: &'a [Vec<usize>],
+    pub lower_runs: &'a [usize],
     pub facts: &'a [Fact],
 }
 
@@ -23,13 +27,13 @@ const LEFT: usize = 76;
 const TOP: usize = 92;
 const GREATEST_SIDE: usize = 720;
 const GREATEST_CELL: usize = 48;
-const PANEL: usize = 370;
-/// Room for the slots of each run, where rows are high enough for a line of text.
+const PANEL: usize = 410;
+/// Room for the slots of each run, where rows are high enough for a line of text: up to 64 rows.
 const RUN_COLUMN: usize = 64;
-const LEAST_LINE: usize = 14;
+const LEAST_LINE: usize = 11;
 /// Steps of a density's shade, and the shade of the thinnest.
-const LEVELS: f64 = 10.0;
-const FAINTEST: f64 = 0.4;
+const LEVELS: f64 = 20.0;
+const FAINTEST: f64 = 0.55;
 
 type Rgb = [f64; 3];
 
@@ -39,11 +43,11 @@ const WHITE: Rgb = [255.0, 255.0, 255.0];
 pub fn draw(subject: &Subject) -> String {
     let n = subject.upper.len();
     let side = GREATEST_SIDE.min(n * GREATEST_CELL).max(1);
-    let hues = shared_hues(subject.upper, subject.runs);
+    let hues = Hues::of(subject);
     let named_runs = side >= LEAST_LINE * n;
     let panel_at = LEFT + side + if named_runs { RUN_COLUMN } else { 0 };
     let mut out = String::new();
-    open(&mut out, subject.title, panel_at + PANEL, TOP + side.max(600) + 40);
+    open(&mut out, subject.title, panel_at + PANEL, TOP + side.max(620) + 40);
     axes(&mut out, n, side);
     let _ = writeln!(
         out,
@@ -69,14 +73,42 @@ pub fn draw(subject: &Subject) -> String {
     out
 }
 
+/// The hue of each upper list and of each lower column; the two stores have no hue in common.
+struct Hues {
+    upper: Vec<Option<usize>>,
+    lower: Vec<Option<usize>>,
+    upper_groups: usize,
+    lower_groups: usize,
+}
+
+impl Hues {
+    fn of(subject: &Subject) -> Hues {
+        let upper = shared_hues(subject.upper, subject.runs);
+        let lower = shared_hues(subject.lower_columns, subject.lower_runs);
+        let count = |hues: &[Option<usize>]| hues.iter().flatten().max().map_or(0, |last| last + 1);
+        let (upper_groups, lower_groups) = (count(&upper), count(&lower));
+        let lower = lower.into_iter().map(|hue| hue.map(|number| number + upper_groups)).collect();
+        Hues { upper, lower, upper_groups, lower_groups }
+    }
+
+    /// The hue of the list that row k, column j belongs to; the diagonal belongs to none.
+    fn at(&self, k: usize, j: usize) -> Option<usize> {
+        match j.cmp(&k) {
+            Ordering::Greater => self.upper.get(k).copied().flatten(),
+            Ordering::Less => self.lower.get(j).copied().flatten(),
+            Ordering::Equal => None,
+        }
+    }
+}
+
 /// A group number for each list whose run overlaps the run of another list, the same for both; none for the others.
-pub fn shared_hues(upper: &[Vec<usize>], runs: &[usize]) -> Vec<Option<usize>> {
-    let mut places: Vec<usize> = (0..upper.len().min(runs.len())).filter(|&k| !upper[k].is_empty()).collect();
+fn shared_hues(lists: &[Vec<usize>], runs: &[usize]) -> Vec<Option<usize>> {
+    let mut places: Vec<usize> = (0..lists.len().min(runs.len())).filter(|&k| !lists[k].is_empty()).collect();
     places.sort_by_key(|&k| runs[k]);
     let mut groups: Vec<Vec<usize>> = Vec::new();
     let mut end = 0;
     for k in places {
-        let after = runs[k].saturating_add(upper[k].len());
+        let after = runs[k].saturating_add(lists[k].len());
         match groups.last_mut() {
             Some(group) if runs[k] < end => group.push(k),
             _ => groups.push(vec![k]),
@@ -86,7 +118,7 @@ pub fn shared_hues(upper: &[Vec<usize>], runs: &[usize]) -> Vec<Option<usize>> {
     groups.retain(|group| group.len() > 1);
     // Numbered by first place, so that neighbours in the picture get hues far apart.
     groups.sort_by_key(|group| group.iter().min().copied());
-    let mut hues = vec![None; upper.len()];
+    let mut hues = vec![None; lists.len()];
     for (number, group) in groups.iter().enumerate() {
         for &k in group {
             hues[k] = Some(number);
@@ -96,14 +128,32 @@ pub fn shared_hues(upper: &[Vec<usize>], runs: &[usize]) -> Vec<Option<usize>> {
 }
 
 fn open(out: &mut String, title: &str, width: usize, height: usize) {
+    let heading = escaped(&fitted(&format!("Fill of {title}"), width - LEFT - 16));
     let title = escaped(title);
     let _ = writeln!(
         out,
         "<svg xmlns=\"http://www.w3.org/2000/svg\" width=\"{width}\" height=\"{height}\" viewBox=\"0 0 {width} {height}\" \
          font-family=\"sans-serif\" font-size=\"13\" fill=\"#222\">\n<title>Fill of {title}</title>\n\
          <rect width=\"{width}\" height=\"{height}\" fill=\"#fff\"/>\n\
-         <text x=\"{LEFT}\" y=\"30\" font-size=\"18\" font-weight=\"bold\">Fill of {title}</text>"
+         <text x=\"{LEFT}\" y=\"30\" font-size=\"18\" font-weight=\"bold\">{heading}</text>"
     );
+}
+
+/// As much of a heading as has room; letters outside ASCII may be wide.
+fn fitted(text: &str, room: usize) -> String {
+    let mut used = 0;
+    let wide = |letter: char| if letter.is_ascii() { 13 } else { 19 };
+    let end = text.char_indices().find(|&(_, letter)| {
+        used += wide(letter);
+        used > room
+    });
+    match end {
+        None => text.to_string(),
+        Some((at, _)) => {
+            let kept: Vec<char> = text[..at].chars().collect();
+            kept[..kept.len().saturating_sub(3)].iter().collect::<String>() + "..."
+        }
+    }
 }
 
 /// Ticks with places along the top and the left edge, each at the middle of its row or column.
@@ -166,13 +216,13 @@ fn is_stored(subject: &Subject, k: usize) -> Vec<bool> {
     marks
 }
 
-fn single_cells(out: &mut String, subject: &Subject, hues: &[Option<usize>]) {
+fn single_cells(out: &mut String, subject: &Subject, hues: &Hues) {
     let n = subject.upper.len();
-    for (k, &upper_hue) in hues.iter().enumerate() {
+    for k in 0..n {
         let stored = is_stored(subject, k);
         for j in filled_row(subject, k) {
             let own = stored.get(j).copied().unwrap_or(false);
-            let hue = if j > k { upper_hue } else { None };
+            let hue = hues.at(k, j);
             let colour = hex(if own { dark(hue) } else { light(hue) });
             let class = if own { "stored" } else { "fill" };
             let _ = write!(
@@ -183,12 +233,23 @@ fn single_cells(out: &mut String, subject: &Subject, hues: &[Option<usize>]) {
             );
             // A hint under the pointer, where there are few enough cells to point at one.
             if n <= 64 {
-                let _ = writeln!(out, "><title>row {k}, column {j}: {class}</title></rect>");
+                let slot = slot(subject, k, j);
+                let _ = writeln!(out, "><title>row {k}, column {j}: {class}{slot}</title></rect>");
             } else {
                 out.push_str("/>\n");
             }
         }
     }
+}
+
+/// The index slot that holds row k, column j in the shared form, in words; none on the diagonal.
+fn slot(subject: &Subject, k: usize, j: usize) -> String {
+    let (name, lists, runs, own, other) = match j > k {
+        true => ("upper", subject.upper, subject.runs, k, j),
+        false => ("lower", subject.lower_columns, subject.lower_runs, j, k),
+    };
+    let at = lists.get(own).and_then(|list| list.binary_search(&other).ok());
+    at.zip(runs.get(own)).map_or(String::new(), |(at, run)| format!(", {name} slot {}", run + at))
 }
 
 /// What a square of positions holds.
@@ -200,7 +261,7 @@ struct Square {
 }
 
 /// Squares of block by block positions, shaded by density; one path for each colour keeps the file small.
-fn dense_cells(out: &mut String, subject: &Subject, hues: &[Option<usize>], block: usize) {
+fn dense_cells(out: &mut String, subject: &Subject, hues: &Hues, block: usize) {
     let n = subject.upper.len();
     let mut paths: Vec<(String, String)> = Vec::new();
     let mut known: HashMap<String, usize> = HashMap::new();
@@ -226,10 +287,10 @@ fn dense_cells(out: &mut String, subject: &Subject, hues: &[Option<usize>], bloc
 }
 
 /// The squares of the rows from top on, from left to right.
-fn squares(subject: &Subject, hues: &[Option<usize>], top: usize, height: usize, block: usize) -> Vec<Square> {
+fn squares(subject: &Subject, hues: &Hues, top: usize, height: usize, block: usize) -> Vec<Square> {
     let mut found: Vec<Square> = Vec::new();
     found.resize_with(subject.upper.len().div_ceil(block), Square::default);
-    for (k, &upper_hue) in hues.iter().enumerate().skip(top).take(height) {
+    for k in top..top + height {
         let stored = is_stored(subject, k);
         for j in filled_row(subject, k) {
             let Some(square) = found.get_mut(j / block) else { continue };
@@ -238,7 +299,7 @@ fn squares(subject: &Subject, hues: &[Option<usize>], top: usize, height: usize,
             } else {
                 square.filled += 1;
             }
-            if let (true, Some(hue)) = (j > k, upper_hue) {
+            if let Some(hue) = hues.at(k, j) {
                 *square.votes.entry(hue).or_default() += 1;
             }
         }
@@ -267,7 +328,7 @@ fn dark(hue: Option<usize>) -> Rgb {
 }
 
 fn light(hue: Option<usize>) -> Rgb {
-    hue.map_or([196.0, 196.0, 200.0], |number| from_hue(number, 0.70, 0.76))
+    hue.map_or([184.0, 184.0, 188.0], |number| from_hue(number, 0.72, 0.72))
 }
 
 /// The golden angle from hue to hue: any few in a row are well apart.
@@ -291,7 +352,7 @@ fn hex(colour: Rgb) -> String {
 }
 
 /// Counts and slots, and what the colours mean.
-fn panel(out: &mut String, subject: &Subject, hues: &[Option<usize>], x: usize, block: usize) {
+fn panel(out: &mut String, subject: &Subject, hues: &Hues, x: usize, block: usize) {
     let mut y = TOP + 12;
     for fact in subject.facts {
         if fact.value.is_empty() {
@@ -311,19 +372,20 @@ fn panel(out: &mut String, subject: &Subject, hues: &[Option<usize>], x: usize, 
     legend(out, hues, x, y + 16, block);
 }
 
-fn legend(out: &mut String, hues: &[Option<usize>], x: usize, mut y: usize, block: usize) {
-    let groups = hues.iter().flatten().max().map_or(0, |last| last + 1);
+fn legend(out: &mut String, hues: &Hues, x: usize, mut y: usize, block: usize) {
     let mut lines = vec![(Some(None), "stored entry, fill".to_string())];
-    match groups {
-        0 => lines.push((None, "no upper list shares its slots".to_string())),
-        1 => lines.push((Some(Some(0)), "upper lists that share slots, 1 group".to_string())),
-        _ => lines.push((Some(Some(0)), format!("upper lists that share slots, {groups} groups"))),
+    for (groups, first, what) in
+        [(hues.upper_groups, 0, "upper lists"), (hues.lower_groups, hues.upper_groups, "lower columns")]
+    {
+        let plural = if groups == 1 { "" } else { "s" };
+        let text = format!("{what} sharing slots: {groups} group{plural}");
+        lines.push((if groups > 0 { Some(Some(first)) } else { None }, text));
     }
-    if groups > 0 {
-        lines.push((None, "a group has one hue; grey: slots of its own".to_string()));
+    if hues.upper_groups + hues.lower_groups > 0 {
+        lines.push((None, "one hue a group; grey: slots of its own".to_string()));
     }
     if block > 1 {
-        lines.push((None, format!("a cell is {block} by {block} places; darker is denser")));
+        lines.push((None, format!("{block} by {block} places a cell; darker is denser")));
     }
     for (hue, text) in lines {
         if let Some(hue) = hue {
@@ -336,13 +398,15 @@ fn legend(out: &mut String, hues: &[Option<usize>], x: usize, mut y: usize, bloc
 }
 
 /// Beside each row the upper index slots that its run reads.
-fn run_column(out: &mut String, subject: &Subject, hues: &[Option<usize>], side: usize) {
+fn run_column(out: &mut String, subject: &Subject, hues: &Hues, side: usize) {
     let x = LEFT + side + 10;
     let scale = side as f64 / subject.upper.len().max(1) as f64;
-    let _ = writeln!(out, "<g font-size=\"11\"><text x=\"{x}\" y=\"{}\">upper slots</text>", TOP - 10);
+    let size = (scale * 0.85).min(11.0);
+    let _ = writeln!(out, "<text x=\"{x}\" y=\"{}\" font-size=\"11\">upper slots</text>", TOP - 10);
+    let _ = writeln!(out, "<g font-size=\"{size:.2}\">");
     for (k, (list, run)) in subject.upper.iter().zip(subject.runs).enumerate() {
-        let y = TOP as f64 + (k as f64 + 0.5) * scale + 4.0;
-        let colour = hex(dark(hues[k]));
+        let y = TOP as f64 + (k as f64 + 0.5) * scale + 0.36 * size;
+        let colour = hex(dark(hues.upper[k]));
         let slots = match list.len() {
             0 => "none".to_string(),
             1 => format!("{run}"),
@@ -406,6 +470,13 @@ mod tests {
         let levels = [0, 1, 110, 250, 441].map(|count| level(count, 441));
         assert!(levels.windows(2).all(|pair| pair[0] < pair[1]), "{levels:?}");
         assert_eq!((levels[0], levels[4]), (0.0, 1.0));
+    }
+
+    #[test]
+    fn headings_fit() {
+        assert_eq!(fitted("Fill of a.mtx", 400), "Fill of a.mtx");
+        assert_eq!(fitted(&"a".repeat(100), 130), "aaaaaaa...");
+        assert_eq!(fitted("\u{4e00}\u{4e00}", 19), "...");
     }
 
     #[test]

@@ -179,6 +179,75 @@ fn a_full_device_has_status_2() {
     failed(2, &["solve", &example("two_by_two.lp"), "-o", &(own("no_folder") + "/x")]);
 }
 
+/// A link to the full device has an ending that convert takes.
+#[test]
+fn a_full_device_stops_convert() {
+    let link = |name: &str| {
+        let path = own(name);
+        std::os::unix::fs::symlink("/dev/full", &path).expect("a link");
+        path
+    };
+    let (two, text) = (example("two_by_two.lp"), example("two_by_two.mtx"));
+    failed(2, &["convert", &text, &link("full.lp")]);
+    failed(2, &["convert", &two, &link("full.mtx")]);
+    for option in ["--right", "--order", "--rows", "--columns"] {
+        let line = failed(2, &["convert", &two, &own("full_rest.mtx"), option, "/dev/full"]);
+        assert!(line.contains("cannot write /dev/full"), "{line}");
+    }
+}
+
+/// Runs the command with files limited to one block, and the signal that goes with it ignored.
+fn limited(words: &[&str]) -> (Option<i32>, String) {
+    let mut shell = std::process::Command::new("sh");
+    let script = "trap '' XFSZ && ulimit -f 1 && exec \"$0\" \"$@\"";
+    let output = shell.args(["-c", script, env!("CARGO_BIN_EXE_lilac")]).args(words).output().expect("the shell runs");
+    (output.status.code(), err(&output))
+}
+
+#[test]
+fn no_part_of_a_file_is_left() {
+    let matrix = file("part.mtx", tridiagonal(300));
+    let whole = own("part_whole.lp");
+    common::done(&["convert", &matrix, &whole]);
+    let cases: [&[&str]; 4] = [
+        &["solve", &matrix, "-o", &own("part.txt")],
+        &["picture", &matrix, "-o", &own("part.svg")],
+        &["convert", &matrix, &own("part.lp")],
+        &["convert", &whole, &own("part_back.mtx")],
+    ];
+    for words in cases {
+        let (status, line) = limited(words);
+        assert_eq!((status, line.lines().count()), (Some(2), 1), "{line}");
+        assert!(line.contains("the incomplete file is removed"), "{line}");
+        let path = words.last().expect("a name");
+        assert!(!std::path::Path::new(path).exists(), "{path}");
+    }
+    // A link stays, and what it leads to is said to be incomplete.
+    let (target, link) = (own("part_target.txt"), own("part_link.txt"));
+    std::os::unix::fs::symlink(&target, &link).expect("a link");
+    let (status, line) = limited(&["solve", &matrix, "-o", &link]);
+    assert_eq!(status, Some(2));
+    assert!(line.contains("the file is incomplete") && std::path::Path::new(&target).exists(), "{line}");
+}
+
+/// Standard output plays no part where a file is named.
+#[test]
+fn a_closed_standard_output_does_not_matter_to_a_file() {
+    let two = example("two_by_two.lp");
+    let cases: [(&[&str], &[u8]); 3] = [
+        (&["solve", &two, "-o", &own("closed.txt")], b"1\n2\n"),
+        (&["picture", &two, "-o", &own("closed.svg")], b"<svg"),
+        (&["convert", &two, "--right", "/dev/null", &own("closed.mtx")], b"%%MatrixMarket"),
+    ];
+    for (words, start) in cases {
+        let mut shell = std::process::Command::new("sh");
+        shell.args(["-c", "exec \"$0\" \"$@\" >&-", env!("CARGO_BIN_EXE_lilac")]).args(words);
+        assert_eq!(shell.output().expect("the command runs").status.code(), Some(0), "{words:?}");
+        let found = std::fs::read(words.last().expect("a name")).expect("the file is there");
+        assert!(found.starts_with(start), "{words:?}");
+    }
+}
+
 /// Closed, and open for reading only: neither may pass for success.
 #[test]
 fn a_closed_standard_output_has_status_2() {

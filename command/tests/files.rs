@@ -56,6 +56,8 @@ fn no_file_is_overwritten_by_mistake() {
     failed(2, &["picture", &matrix, "-o", &matrix]);
     failed(2, &["convert", &matrix, &other, "--right", &other]);
     failed(2, &["convert", &matrix, &other, "--order", &matrix]);
+    failed(2, &["convert", &matrix, &other, "--rows", &own("order.txt"), "--columns", &own("order.txt")]);
+    failed(2, &["picture", &matrix, "--rows", &matrix, "-o", &matrix]);
     assert!(read(&matrix) == read(&example("two_by_two.lp")));
     done(&["convert", &matrix, &other, "--right", "/dev/null", "--order", "/dev/null"]);
 }

@@ -70,23 +70,84 @@ fn output_goes_to_a_file() {
 #[test]
 fn standard_input_is_a_file() {
     let input = std::fs::File::open(example("two_by_two.lp")).expect("the example is there");
-    let output = common::command().args(["solve", "-"]).stdin(input).output().expect("the command runs");
+    let output = common::command().args(["solve", "-", "-o", "-"]).stdin(input).output().expect("the command runs");
     assert_eq!(out(&output), "1\n2\n");
+    let two = example("two_by_two.lp");
+    assert_eq!(done(&["convert", &two, &own("streamed.mtx"), "--right", "-"]), "10\n9\n");
+    failed(2, &["convert", &two, &own("streamed.mtx"), "--right", "-", "--order", "-"]);
+}
+
+/// A pipe with a name, behind which the command waits.
+fn pipe(name: &str) -> String {
+    let path = own(name);
+    let made = std::process::Command::new("mkfifo").arg(&path).status().expect("mkfifo runs");
+    assert!(made.success());
+    path
 }
 
 #[test]
 fn long_work_gives_signs_of_life() {
     use std::{io::Write, process::Stdio, thread::sleep, time::Duration};
-    let mut waiting = common::command();
-    waiting.args(["solve", "-"]).stdin(Stdio::piped()).stdout(Stdio::piped()).stderr(Stdio::piped());
-    let mut child = waiting.spawn().expect("the command runs");
+    let target = own("slow.lp");
+    let cases = [("solve", "solving"), ("structure", "finding"), ("picture", "drawing"), ("convert", "converting")];
+    let waiting = cases.map(|(name, word)| {
+        let path = pipe(&format!("slow_{name}.mtx"));
+        let mut command = common::command();
+        command.args([name, &path]).stdout(Stdio::piped()).stderr(Stdio::piped());
+        command.args((name == "convert").then_some(&target));
+        (command.spawn().expect("the command runs"), path, word)
+    });
     sleep(Duration::from_millis(2500));
-    let matrix = std::fs::read(example("two_by_two.lp")).expect("the example is there");
-    child.stdin.take().expect("its input").write_all(&matrix).expect("it reads");
-    let output = child.wait_with_output().expect("it ends");
-    assert_eq!((output.status.code(), out(&output).as_str()), (Some(0), "1\n2\n"));
-    let sign = common::err(&output);
-    assert!(sign.starts_with("lilac: solving standard input, ") && sign.lines().count() == 1, "{sign}");
+    let matrix = std::fs::read(example("two_by_two.mtx")).expect("the example is there");
+    for (child, path, word) in waiting {
+        // Opened both ways a pipe waits for nobody, not even for a command that has ended.
+        let mut pipe = std::fs::File::options().read(true).write(true).open(&path).expect("the pipe");
+        pipe.write_all(&matrix).expect("it reads");
+        drop(pipe);
+        let output = child.wait_with_output().expect("it ends");
+        let sign = common::err(&output);
+        assert_eq!(output.status.code(), Some(0), "{sign}");
+        assert!(sign.starts_with(&format!("lilac: {word} ")) && sign.lines().count() == 1, "{sign}");
+    }
+}
+
+#[test]
+fn every_kind_of_market_file_is_solved() {
+    let kinds = [
+        ("coordinate real symmetric", "2 2 3\n1 1 2\n2 1 1\n2 2 3\n", "0.4\n0.2\n"),
+        ("coordinate integer symmetric", "2 2 3\n1 1 2\n2 1 1\n2 2 3\n", "0.4\n0.2\n"),
+        ("coordinate integer general", "2 2 3\n1 1 +2\n1 2 -1\n2 2 4\n", "0.625\n0.25\n"),
+        ("coordinate pattern general", "2 2 3\n1 1\n1 2\n2 2\n", "0\n1\n"),
+        ("coordinate pattern symmetric", "3 3 4\n1 1\n2 1\n3 2\n3 3\n", "0.5\n0.5\n0.5\n"),
+        ("array real general", "2 2\n2\n0\n-1\n4\n", "0.625\n0.25\n"),
+        ("array integer symmetric", "2 2\n2\n1\n3\n", "0.4\n0.2\n"),
+    ];
+    for (k, (kind, body, due)) in kinds.iter().enumerate() {
+        let matrix = file(&format!("kind_{k}.mtx"), format!("%%MatrixMarket matrix {kind}\n{body}"));
+        let numbers = |text: &str| text.lines().map(|line| line.parse().expect("a number")).collect::<Vec<f64>>();
+        let (found, due) = (numbers(&done(&["solve", &matrix])), numbers(due));
+        assert_eq!(found.len(), due.len(), "{kind}");
+        assert!(found.iter().zip(&due).all(|(a, b)| (a - b).abs() < 1e-15), "{kind}: {found:?}");
+    }
+}
+
+#[test]
+fn numbers_of_every_size_read_back_to_the_same_bits() {
+    let numbers =
+        ["-0", "5e-324", "2.2250738585072014e-308", "1.7976931348623157e308", "-1e-5", "1e16", "0.1", "-123.5"];
+    let n = numbers.len();
+    let unit: String = (1..=n).map(|k| format!("{k} {k} 1\n")).collect();
+    let matrix = file("unit.mtx", format!("{HEADER}{n} {n} {n}\n{unit}"));
+    let right = file("unit.txt", numbers.join("\n"));
+    let read = |text: &str| format!("{:016X}", text.parse::<f64>().expect("a number").to_bits());
+    let digits = done(&["solve", &matrix, "--right", &right, "--hex"]);
+    let printed = done(&["solve", &matrix, "--right", &right]);
+    assert_eq!(printed.lines().map(read).collect::<Vec<_>>(), digits.lines().collect::<Vec<_>>());
+    // The unit matrix gives its right side back, but for the sign of a zero.
+    assert_eq!(
+        digits.lines().skip(1).collect::<Vec<_>>(),
+        numbers[1..].iter().map(|word| read(word)).collect::<Vec<_>>()
+    );
 }
 
 #[test]
@@ -153,4 +214,20 @@ fn help_is_printed() {
         assert!(done(words).starts_with("lilac "), "{words:?}");
     }
     assert!(out(&lilac(&["--version"])).starts_with("lilac "));
+}
+
+#[test]
+fn help_names_every_option() {
+    let orders = ["--order", "--rows", "--columns", "--refusals"];
+    let more: [(&str, &[&str]); 4] = [
+        ("solve", &["--form", "--right", "--hex", "-o FILE"]),
+        ("structure", &[]),
+        ("convert", &["--right"]),
+        ("picture", &["-o FILE"]),
+    ];
+    for (name, own) in more {
+        let text = done(&[name, "--help"]);
+        assert!(orders.iter().chain(own).all(|option| text.contains(&format!("  {option}"))), "{text}");
+        assert!(text.lines().all(|line| line.len() <= 120), "{name}");
+    }
 }

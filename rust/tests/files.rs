@@ -63,6 +63,35 @@ fn damaged_files() {
 }
 
 #[test]
+fn every_damaged_byte_is_found() {
+    for at in 0..SMALL.len() {
+        for change in [1, 0x80, 0xFF] {
+            let mut bytes = SMALL.to_vec();
+            bytes[at] ^= change;
+            let found = refusal(&bytes);
+            assert_eq!((found.0, found.1), (17, 0), "byte {at}");
+        }
+    }
+}
+
+#[test]
+fn special_numbers() {
+    let values = vec![-0.0, f64::INFINITY, f64::from_bits(0xFFF8_0000_0000_0001)];
+    let matrix = Matrix::from_rows(vec![0, 1, 2, 3], vec![0, 1, 2], values).unwrap();
+    let system = System { matrix, orders: Orders::natural(3), right: vec![f64::NAN, 5e-324, -f64::MAX] };
+    let file = system.write().unwrap();
+    let back = System::read(&file).unwrap();
+    assert_eq!(back.matrix.values()[0].to_bits(), (-0.0f64).to_bits());
+    assert_eq!(back.matrix.values()[1], f64::INFINITY);
+    assert!(back.matrix.values()[2].is_nan() && back.right[0].is_nan());
+    assert_eq!(back.right[1..], system.right[1..]);
+    // Every NaN is written as the same one: three values at 30, six orders of 2 bytes, then the right side.
+    let nan = 0x7FF8_0000_0000_0000_u64.to_le_bytes();
+    assert_eq!((&file[46..54], &file[66..74]), (&nan[..], &nan[..]));
+    assert_eq!(back.write().unwrap(), file);
+}
+
+#[test]
 fn lengths_that_do_not_fit() {
     let mut system = System::read(SMALL).unwrap();
     system.right.push(1.0);

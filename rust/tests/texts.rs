@@ -26,6 +26,8 @@ fn coordinate_texts() {
     assert_eq!(read(text), [(0, 0, -3.0), (1, 1, 4.0)]);
     let text = "%%MatrixMarket matrix coordinate pattern symmetric\n2 2 2\n1 1\n2 1\n";
     assert_eq!(read(text), [(0, 0, 1.0), (0, 1, 1.0), (1, 0, 1.0)]);
+    let text = "%%MatrixMarket matrix coordinate integer symmetric\n2 2 2\n1 1 4\n2 1 -1\n";
+    assert_eq!(read(text), [(0, 0, 4.0), (0, 1, -1.0), (1, 0, -1.0)]);
 }
 
 #[test]
@@ -47,6 +49,7 @@ fn wrong_headers() {
     assert_eq!(header("dense real general"), "line 1: the layout \"dense\" is not taken, only coordinate and array");
     assert!(header("coordinate complex general").contains("\"complex\" is not taken, only real, integer and pattern"));
     assert!(header("coordinate real hermitian").contains("\"hermitian\" is not taken, only general and symmetric"));
+    assert!(header("coordinate real skew-symmetric").contains("\"skew-symmetric\" is not taken"));
     assert_eq!(header("array pattern general"), "line 1: an array has values, so it is no pattern");
 }
 
@@ -76,6 +79,7 @@ fn wrong_entries() {
     assert_eq!(lines("1 1 1\n2 2 1\n1 2 1\n"), "line 5: an entry beyond the 2 that line 2 announces");
     assert_eq!(lines("1 1 1\n3 2 1\n"), "line 4: row 3 is out of range, rows are 1 to 2");
     assert_eq!(lines("1 0 1\n"), "line 3: column 0 is out of range, columns are 1 to 2");
+    assert_eq!(lines("1 x 1\n"), "line 3: \"x\" is no whole number that can be taken");
     assert_eq!(lines("1 1 one\n"), "line 3: \"one\" is no number");
     let text = "%%MatrixMarket matrix coordinate integer general\n1 1 1\n1 1 1.5\n";
     assert_eq!(words(text), "line 3: \"1.5\" is no whole number");
