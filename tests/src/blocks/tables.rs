@@ -1,7 +1,8 @@
-//! The tables of docs/GUIDE.md: memory is what the library needs, found by running it; refusals are those of the header.
+//! The tables of docs/GUIDE.md: memory is what the library needs, found by running it; refusals and limits are those of
+//! the header.
 use super::text_of;
 use crate::checks::{Library, Solver, Tally};
-use crate::compare::{self, differ, Compared, Difference};
+use crate::compare::{self, Compared, Difference};
 use crate::load;
 use crate::model::*;
 
@@ -112,34 +113,45 @@ fn memory() -> Compared {
     same_rows(&text_of(GUIDE)?, |line| line.starts_with("| test load,") || line.starts_with("| grid of"), &rows)
 }
 
-/// The refusals of the header: number and name.
-fn refusals() -> Result<Vec<(u32, String)>, Difference> {
-    let header = text_of(HEADER)?;
-    let lines = header.lines().filter_map(|line| line.strip_prefix("#define LP_"));
-    let mut found: Vec<(u32, String)> = Vec::new();
-    for words in lines.map(|line| line.split_whitespace().collect::<Vec<_>>()) {
-        if let [name, number, "/*", ..] = words[..] {
-            match number.parse() {
-                Ok(number) => found.push((number, format!("LP_{name}"))),
-                Err(_) => return differ(HEADER, number, "the number of a refusal"),
+/// The numbers that the header names, in order: those with a comment behind them are the refusals.
+fn named(refusals: bool) -> Result<Vec<(String, usize)>, Difference> {
+    let mut found = Vec::new();
+    for line in text_of(HEADER)?.lines() {
+        let words: Vec<&str> = line.split_whitespace().collect();
+        if let ["#define", name, number, rest @ ..] = &words[..] {
+            if let Ok(number) = number.parse() {
+                found.extend((refusals != rest.is_empty()).then(|| (name.to_string(), number)));
             }
         }
     }
-    compare::same("refusals of the header", &found.len(), &18)?;
     Ok(found)
 }
 
 /// The table of refusals begins each row with the header's number and name, in order.
-fn refusal_table() -> Compared {
-    let expected: Vec<String> = refusals()?.iter().map(|(number, name)| format!("| {number} | `{name}` |")).collect();
-    let guide = text_of(GUIDE)?;
-    let cells = |line: &str| line.split_inclusive('|').take(3).collect::<String>();
-    let begins: String = guide.lines().map(|line| cells(line) + "\n").collect();
-    same_rows(&begins, |line| line.contains("`LP_") && line.starts_with('|'), &expected)
+fn refusals() -> Compared {
+    let named = named(true)?;
+    compare::same("refusals of the header", &named.len(), &18)?;
+    let expected: Vec<String> = named.iter().map(|(name, number)| format!("| {number} | `{name}` |")).collect();
+    let cells = |line: &str| line.split_inclusive('|').take(3).collect::<String>() + "\n";
+    let begins: String = text_of(GUIDE)?.lines().map(cells).collect();
+    same_rows(&begins, |line| line.ends_with("` |") && line.contains("| `LP_"), &expected)
 }
 
-/// Checks both tables.
+/// The table of limits ends each row with the header's number and name, in order.
+fn limits() -> Compared {
+    let named: Vec<_> = named(false)?.into_iter().filter(|(name, _)| name.starts_with("LP_MAX_")).collect();
+    compare::same("limits of the header", &named.len(), &3)?;
+    let row = |(name, number): &(String, usize)| format!("| {} | `{name}` |", grouped(*number));
+    let expected: Vec<String> = named.iter().map(row).collect();
+    let guide = text_of(GUIDE)?;
+    let cut = |line: &str| line.split_once(" | ").map(|(_, rest)| format!("| {rest}\n"));
+    let ends: String = guide.lines().filter(|line| line.contains("`LP_MAX_")).filter_map(cut).collect();
+    same_rows(&ends, |_| true, &expected)
+}
+
+/// Checks the three tables.
 pub fn run(tally: &mut Tally) {
     tally.add(|| format!("memory table of {GUIDE}"), memory());
-    tally.add(|| format!("refusals of {GUIDE}"), refusal_table());
+    tally.add(|| format!("refusals of {GUIDE}"), refusals());
+    tally.add(|| format!("limits of {GUIDE}"), limits());
 }
