@@ -1,7 +1,8 @@
 //! Faults planted in documents: each must be told.
-use super::run_text;
+use super::scratch::Scratch;
+use super::{rattle, run_text};
 use crate::checks::Tally;
-use crate::compare;
+use crate::compare::{self, Compared};
 
 /// Documents without a fault.
 const SOUND: [&str; 3] = [
@@ -33,6 +34,36 @@ fn failures(text: &str) -> u64 {
     tally.failed
 }
 
+const SHAPE: &str = "let shape = matrix_file::matrix_file_shape(file);\n";
+
+/// A program for one call, which then checks that this holds.
+fn program_for_shape(holds: bool) -> String {
+    format!(
+        "fn shape(file: &[u8]) {{\n    //@ matrix_file::matrix_file_shape\n    check::expect({holds});\n}}\n\n\
+         fn main() {{\n    let file = [0u8; 1];\n    shape(&file);\n}}\n"
+    )
+}
+
+/// The outcome of a call in Rattle, in a program whose check holds or not.
+fn rattle_run(holds: bool) -> Compared {
+    let scratch = Scratch::new().or_else(|error| compare::differ("scratch", error.to_string(), "a folder"))?;
+    rattle::run(&scratch, SHAPE, &program_for_shape(holds))
+}
+
+/// A fault that was told.
+fn told(result: Compared) -> Compared {
+    compare::same("a fault is told", &result.is_err(), &true)
+}
+
+fn rattle_faults(tally: &mut Tally) {
+    let alike = |list: &str| rattle::arguments_alike("matrix_file::read_matrix", &format!("let end = read({list});"));
+    tally.add(|| "a sound call".into(), alike("file, starts, columns, values, r, c, b"));
+    tally.add(|| "planted: two arguments exchanged".into(), told(alike("file, starts, columns, values, c, r, b")));
+    tally.add(|| "planted: an argument too few".into(), told(alike("file, starts, columns, values, r, c")));
+    tally.add(|| "a sound call in Rattle".into(), rattle_run(true));
+    tally.add(|| "planted: a check in Rattle that fails".into(), told(rattle_run(false)));
+}
+
 /// Checks that a sound document passes and that each planted fault is told.
 pub fn run(tally: &mut Tally) {
     for text in SOUND {
@@ -41,4 +72,5 @@ pub fn run(tally: &mut Tally) {
     for (name, text) in FAULTY {
         tally.add(|| format!("planted: {name}"), compare::same("failures", &failures(text), &1));
     }
+    rattle_faults(tally);
 }

@@ -1,8 +1,9 @@
-//! The Rattle calls of a document, run: they fill the places of a program, which `rt try` runs without proof.
+//! The Rattle calls of a document, run: they fill the places of a program, which `rt try` runs without proof. Arguments
+//! are called as the parameters that they stand for, so that an exchange of two of one type is told too.
 use super::scratch::{link_all, Scratch};
-use super::tail;
+use super::{tail, text_of};
 use crate::checks::header::repository;
-use crate::compare::{differ, Compared, Difference};
+use crate::compare::{self, differ, Compared, Difference};
 use std::collections::{BTreeMap, BTreeSet};
 use std::fs;
 use std::io;
@@ -24,6 +25,34 @@ fn statements(text: &str) -> Result<BTreeMap<String, String>, Difference> {
         };
     }
     Ok(found)
+}
+
+/// The parts of a list between commas.
+fn parts(list: &str) -> Vec<&str> {
+    list.split(',').map(str::trim).filter(|part| !part.is_empty()).collect()
+}
+
+/// The parameters of a public function, with their types.
+fn parameters<'a>(text: &'a str, name: &str) -> Vec<&'a str> {
+    let declared = text.split("pub fn ").find(|part| part.split(['(', '<']).next() == Some(name));
+    let list = declared.and_then(|part| part.split_once('(')?.1.split_once(')'));
+    parts(list.map_or("", |(list, _)| list))
+}
+
+/// Checks that the arguments of a call that are names are those of the parameters in their places.
+pub fn arguments_alike(called: &str, statement: &str) -> Compared {
+    let (home, name) = called.split_once("::").unwrap_or(("", called));
+    let text = text_of(&format!("crates/{home}/src/lib.rt"))?;
+    let list = statement.split_once('(').and_then(|(_, rest)| rest.rsplit_once(')'));
+    let (arguments, parameters) = (parts(list.map_or("", |(list, _)| list)), parameters(&text, name));
+    compare::same(&format!("arguments of {called}"), &arguments.len(), &parameters.len())?;
+    for (argument, parameter) in arguments.into_iter().zip(parameters) {
+        if argument.chars().all(|c| c == '_' || c.is_ascii_lowercase()) {
+            let parameter = parameter.split(':').next().unwrap_or(parameter);
+            compare::same(&format!("argument of {called}"), &argument, &parameter)?;
+        }
+    }
+    Ok(())
 }
 
 /// The program with each place filled by its statement, none left over on either side.
@@ -61,7 +90,9 @@ fn repository_with(scratch: &Scratch, program: &str, filled: &str) -> io::Result
 
 /// Runs the calls of a document's blocks in the program.
 pub fn run(scratch: &Scratch, blocks: &str, program: &str) -> Compared {
-    let filled = fill(program, statements(blocks)?)?;
+    let statements = statements(blocks)?;
+    statements.iter().try_for_each(|(called, statement)| arguments_alike(called, statement))?;
+    let filled = fill(program, statements)?;
     let tried = repository_with(scratch, program, &filled).and_then(|()| scratch.run("tour", &["rt", "try", "tour"]));
     match tried {
         Ok(output) if output.status.success() => Ok(()),
