@@ -1,4 +1,10 @@
 /* Lilacpliers: sparse elimination. The C interface of the static library libcapi.a, which is for x86-64 only.
+ * `rt staticlib capi` makes the library; a program rank.c is compiled and linked by
+ *
+ *   cc -Iinclude -c rank.c
+ *   cc rank.o target/staticlib/libcapi.a -o rank
+ *
+ * docs/GUIDE.md has a whole program.
  *
  * Every buffer is lent by the caller as a pointer and a length in slots; a buffer of length 0 may be NULL. A buffer
  * that a call writes, the report too, must overlap no other buffer of that call. Buffers that it only reads may
@@ -28,7 +34,8 @@
  *   Shared: lower column k and upper list k stand at lower_runs[k] and upper_runs[k] of the index store, and at
  *   lower_starts[k] and upper_starts[k] of the value store.
  *
- * Scratch: scratch_f64 has 3n slots, scratch_u32 has 8n + 8. Its contents on entry do not matter.
+ * Scratch: scratch_f64 has 3n slots, scratch_u32 has 8n + 8. Its contents on entry do not matter. LP_STARTS_LEN,
+ * LP_SCRATCH_F64, LP_SCRATCH_U32 and LP_FILE_BYTES, below, give these lengths.
  *
  * The answer: each call returns 0 for done or the number of the question answered with no (LP_..., below), and
  * fills `report` as far as report_len goes: report[0] is the place that the refusal names, 0 where it names none.
@@ -61,6 +68,13 @@ extern "C" {
 #define LP_MAX_ROWS 4096
 #define LP_MAX_ENTRIES 65536
 #define LP_MAX_SLOTS 1048576
+
+/* Lengths that n and e fix, as size_t; an argument is evaluated once. LP_STARTS_LEN: slots of starts, lower_starts and
+ * upper_starts. LP_SCRATCH_F64 and LP_SCRATCH_U32: slots of scratch. LP_FILE_BYTES: bytes of a matrix file. */
+#define LP_STARTS_LEN(n) ((size_t)(n) + 1)
+#define LP_SCRATCH_F64(n) (3 * (size_t)(n))
+#define LP_SCRATCH_U32(n) (8 * (size_t)(n) + 8)
+#define LP_FILE_BYTES(n, e) (512 * ((12 + 16 * (size_t)(n) + 10 * (size_t)(e) + 503) / 504))
 
 /* What a call returns: the number of each refusal, and behind the colon the place it names. */
 #define LP_DONE 0
@@ -323,7 +337,8 @@ uint32_t lp_read_matrix(
     double *b, size_t b_len,
     uint64_t *report, size_t report_len);
 
-/* Writes a matrix file. Its length is 512 times the quotient (12 + 16n + 10e) / 504 rounded up; e is columns_len.
+/* Writes a matrix file. Its length is LP_FILE_BYTES(n, e), 512 times the quotient (12 + 16n + 10e) / 504 rounded up;
+ * e is columns_len.
  * Asks 1, 18 (e over its limit) and 2 (any length, the file's too); what the matrix holds is not judged, and every
  * NaN is written as 7FF8000000000000. A refusal writes nothing but the report. */
 uint32_t lp_write_matrix(

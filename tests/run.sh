@@ -1,7 +1,8 @@
 #!/usr/bin/env bash
 # Runs the tests outside the proofs: solve.sh as the README calls it, another solver against the library and the
-# program, faults planted for that comparison to find, the C header, the Rust crate, the command, the benchmark's own
-# solver, and the launchers. Nothing is left out: what is missing counts as failed. Ends with one line 'N passed, M failed'.
+# program, faults planted for that comparison to find, the C header, the Rust crate, the command, every block of the
+# documents, the benchmark's own solver, and the launchers. Nothing is left out: what is missing counts as failed. Ends
+# with one line 'N passed, M failed'.
 set -u
 cd "$(dirname "$0")/.." || exit 1
 
@@ -95,6 +96,8 @@ checks --features standin --bin planted
 
 package rust
 package command
+
+checks --features library --bin blocks
 
 one "bench" "its solver differs from the reference" sh -c 'cd bench && cargo test --release --offline --quiet'
 counted "launchers" sh tests/launchers.sh

@@ -1,5 +1,5 @@
-/* Solves the paper's 2 by 2 file through the C interface, tries NULL for buffers of length 0, and shows what another
- * floating-point environment changes. The exit status is 0 if every answer is as the header promises. */
+/* Solves the paper's 2 by 2 file through the C interface, holds the length macros to the lengths that the calls take,
+ * tries NULL for buffers of length 0, and shows what another floating-point environment changes. The exit status is 0 if every answer is as the header promises. */
 #include "lilacpliers.h"
 
 #include <setjmp.h>
@@ -29,7 +29,7 @@ static void expect(int holds, const char *what)
 }
 
 /* Rows (2, 4), (1, 4), b = (10, 9), orders 0, 1. */
-static const uint32_t starts[N + 1] = {0, 2, 4};
+static const uint32_t starts[LP_STARTS_LEN(N)] = {0, 2, 4};
 static const uint16_t columns[E] = {0, 1, 0, 1};
 static const double values[E] = {2, 4, 1, 4};
 static const uint16_t order[N] = {0, 1};
@@ -37,15 +37,15 @@ static const double right[N] = {10, 9};
 
 /* One side's buffers. */
 struct side {
-    uint32_t starts[N + 1];
+    uint32_t starts[LP_STARTS_LEN(N)];
     uint32_t runs[N];
     uint16_t index[SLOTS];
     double values[SLOTS];
 };
 
 static struct side lower, upper;
-static double d[N], x[N], scratch_f64[3 * N];
-static uint32_t scratch_u32[8 * N + 8];
+static double d[N], x[N], scratch_f64[LP_SCRATCH_F64(N)];
+static uint32_t scratch_u32[LP_SCRATCH_U32(N)];
 static uint64_t report[4];
 
 static void expect_solution(const char *what)
@@ -62,8 +62,8 @@ static void expect_counts(const char *what)
 
 static void file_and_back(void)
 {
-    static uint8_t file[512];
-    uint32_t s[N + 1];
+    static uint8_t file[LP_FILE_BYTES(N, E)];
+    uint32_t s[LP_STARTS_LEN(N)];
     uint16_t j[E], r[N], c[N];
     double v[E], b[N];
     expect(lp_write_matrix(N, LENT(starts), LENT(columns), LENT(values), LENT(order), LENT(order), LENT(right),
@@ -173,6 +173,60 @@ static void row_form(void)
     expect_counts("counts of the row solve");
     expect_solution("x of the row solve");
     expect(d[0] == 0.0 && upper.values[0] == 0.0 && upper.index[0] == 0, "the row form leaves zeros");
+}
+
+/* The most rows and entries that the length macros are tried with. */
+enum { ROWS = 40, ENTRIES = 160 };
+
+/* Solves the n by n identity with b = 0, lent buffers of these lengths. */
+static uint32_t solve_identity(size_t n, size_t starts_len, size_t lists_len, size_t f64_len, size_t u32_len)
+{
+    static uint32_t row_starts[LP_STARTS_LEN(ROWS) + 1], marks[LP_SCRATCH_U32(ROWS) + 1];
+    static uint32_t lower_starts[LP_STARTS_LEN(ROWS) + 1], upper_starts[LP_STARTS_LEN(ROWS) + 1];
+    static uint16_t natural[ROWS];
+    static double ones[ROWS], zeros[ROWS], pivots[ROWS], solution[ROWS], work[LP_SCRATCH_F64(ROWS) + 1];
+    for (size_t i = 0; i < n; i++) {
+        row_starts[i + 1] = (uint32_t)(i + 1);
+        natural[i] = (uint16_t)i;
+        ones[i] = 1.0;
+    }
+    return lp_solve_plain(n, row_starts, starts_len, natural, n, ones, n, natural, n, natural, n, zeros, n,
+                          lower_starts, lists_len, NONE, NONE, upper_starts, lists_len, NONE, NONE, pivots, n,
+                          solution, n, work, f64_len, marks, u32_len, NONE);
+}
+
+/* Writes the file of a matrix of zeros, whose contents are not judged, into so many bytes. */
+static uint32_t write_zeros(size_t n, size_t e, size_t file_len)
+{
+    static const uint32_t row_starts[LP_STARTS_LEN(ROWS)];
+    static const uint16_t numbers[ENTRIES];
+    static const double zeros[ENTRIES];
+    static uint8_t file[LP_FILE_BYTES(ROWS, ENTRIES) + 512];
+    return lp_write_matrix(n, row_starts, LP_STARTS_LEN(n), numbers, e, zeros, e, numbers, n, numbers, n, zeros, n,
+                           file, file_len, NONE);
+}
+
+/* What the length macros give is taken, and one more is refused. */
+static void lengths(void)
+{
+    for (size_t n = 1; n <= ROWS; n++) {
+        size_t s = LP_STARTS_LEN(n), f = LP_SCRATCH_F64(n), u = LP_SCRATCH_U32(n);
+        expect(solve_identity(n, s, s, f, u) == LP_DONE, "the lengths of the macros");
+        expect(solve_identity(n, s + 1, s, f, u) == LP_LENGTHS, "one row start more");
+        expect(solve_identity(n, s, s + 1, f, u) == LP_LENGTHS, "one list start more");
+        expect(solve_identity(n, s, s, f + 1, u) == LP_LENGTHS, "one slot of scratch_f64 more");
+        expect(solve_identity(n, s, s, f, u + 1) == LP_LENGTHS, "one slot of scratch_u32 more");
+        for (size_t e = 0; e <= ENTRIES; e++) {
+            expect(write_zeros(n, e, LP_FILE_BYTES(n, e)) == LP_DONE, "the bytes of a file");
+            expect(write_zeros(n, e, LP_FILE_BYTES(n, e) + 1) == LP_LENGTHS, "one byte more");
+            expect(write_zeros(n, e, LP_FILE_BYTES(n, e) + 512) == LP_LENGTHS, "one block more");
+        }
+    }
+    const uint32_t many = UINT32_MAX;
+    expect(LP_STARTS_LEN(many) == 4294967296 && LP_SCRATCH_U32(many) == 34359738368, "sums beyond 32 bits");
+    expect(LP_SCRATCH_F64(many) == 12884901885 && LP_FILE_BYTES(many, 0) == 69810262528, "products beyond 32 bits");
+    expect(LP_FILE_BYTES(1 + 1, 40 + 6) == 512 && 2 * LP_STARTS_LEN(1 + 1) == 6, "arguments that are sums");
+    expect(LP_SCRATCH_F64(1 + 1) == 6 && 2 * LP_SCRATCH_U32(1 + 1) == 48, "arguments that are sums");
 }
 
 /* Solves value * x = b, which needs no slots: all four stores are NULL. */
@@ -293,6 +347,7 @@ int main(void)
     plain_form();
     shared_form();
     row_form();
+    lengths();
     nulls();
     environments();
     return failures == 0 ? 0 : 1;

@@ -1,5 +1,6 @@
 //! Tests of the solver from outside: another solver written from the paper, a generator of cases,
-//! and the comparison of the library with that solver, buffer by buffer and bit by bit.
+//! and the comparison of the library with that solver, buffer by buffer and bit by bit. The documents' blocks are run too.
+pub mod blocks;
 pub mod checks;
 pub mod compare;
 #[cfg(any(feature = "library", feature = "standin"))]
