@@ -37,10 +37,7 @@ nodesFrom n = 6 * n
 abbrev pub regionsEnd : ℕ → ℕ
 regionsEnd n = 8 * n
 
--- ---- binary64: the working row is the first n slots
-
-abbrev pub yFrom : ℕ → ℕ
-yFrom n = n
+-- ---- binary64: the working row is the first n slots, y the next n
 
 abbrev pub zFrom : ℕ → ℕ
 zFrom n = 2 * n

@@ -13,13 +13,14 @@ use Rattle.base.specs.declared.Side.{Side}
 use Rattle.base.specs.declared.Side.the-variants.{Lower, Upper}
 use Rattle.lent.specs.Reading.{Below, Distinct, orderOf}
 use Rattle.lent.specs.ReadingLaws.{placed-length, placed-at, placed-is}
+use Rattle.questions.specs.Lent.{Inverse}
 use Rattle.questions.specs.SettledLaws.{columns-under}
 use Rattle.matrix.specs.Input.{Input, ic, stored}
 use Rattle.matrix.specs.OrderLaws.{order-below, place-hits}
 use Rattle.marks.specs.Marks.{Room, stamped, Fresh, Holds}
 use Rattle.marks.specs.MarkLaws.{holds-kept, holds-same, holds-list}
 use Rattle.columns.specs.Columns.{Given, placesByRow, consIf, hits, bare, column}
-use Rattle.columns.specs.Sides.{sidePattern, sideRow, SideLoaded, Inverse, Sound, rowsIn}
+use Rattle.columns.specs.Sides.{sidePattern, sideRow, SideLoaded, Sound, rowsIn}
 use Rattle.columns.proofs.ColumnLaws.{hits-bit, hits-none, column-zero, column-suc, bare-length}
 use Rattle.columns.proofs.SideLaws.{side-marks, side-below}
 

@@ -7,9 +7,10 @@ use Rattle.base.specs.Lists.{listAt}
 use Rattle.base.specs.First.{first}
 use Rattle.matrix.specs.Input.{Input, ic, isOf}
 use Rattle.lent.specs.Reading.{orderOf, placed}
+use Rattle.questions.specs.Lent.{Inverse}
 use Rattle.questions.proofs.Witness.{holds}
 use Rattle.columns.specs.Columns.{Given, placesByRow, hits, bare, column, none, node, Ready}
-use Rattle.columns.specs.Sides.{Inverse, Sound, rowsIn}
+use Rattle.columns.specs.Sides.{Sound, rowsIn}
 use Rattle.columns.proofs.Stored.{given-sound}
 
 abbrev one : Input

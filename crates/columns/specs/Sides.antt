@@ -32,10 +32,6 @@ abbrev pub SideLoaded : Side → ℕ → ℕ → ℕ → ℕ → ℕ → (ℕ �
 SideLoaded Upper n t k hi₀ hi R s₀ s = (s ≡ stamped n t s₀ (R k)) × (hi ≡ hi₀)
 SideLoaded Lower n t k hi₀ hi R s₀ s = Loaded n t k hi R s₀ s
 
--- slots n to 2n hold the inverse of the column order
-pub record Inverse (i : Input) (s : List ℕ) : Type 0 where
-  pub place : (j : ℕ) → j < i .n → getD (orderOf (i .n) s) j 0 ≡ ic (i .c) (i .n) j
-
 -- the places of the entries of the rows of M', by the inverse order in scratch
 abbrev pub rowsIn : Input → List ℕ → ℕ → List ℕ
 rowsIn i s = placesByRow (orderOf (i .n) s) (i .starts) (i .columns) (i .r)

@@ -19,7 +19,8 @@ use Rattle.fill.specs.Fill.{Pattern, filled, upperRow, lowerRow, flip}
 use Rattle.matrix.specs.Input.{Input, inputOf, stored}
 use Rattle.marks.specs.Marks.{Fresh}
 use Rattle.columns.specs.Columns.{Ready}
-use Rattle.columns.specs.Sides.{Inverse, rowsIn}
+use Rattle.questions.specs.Lent.{Inverse}
+use Rattle.columns.specs.Sides.{rowsIn}
 use Rattle.outcome.specs.Buffers.{Buffers, allBuffers, sideBuffers}
 use Rattle.outcome.specs.Placed.{PlacedSide}
 use Rattle.outcome.specs.Refactor.{askPresented}

@@ -14,12 +14,13 @@ use Rattle.base.specs.declared.Side.the-variants.{Lower, Upper}
 use Rattle.fill.specs.Fill.{reach, filled, upper, upperRow, lowerRow}
 use Rattle.matrix.specs.Input.{Input, inputOf, isOf, ic, stored}
 use Rattle.matrix.specs.Questions.{badStart, badColumn, badIndex, notFinite, emptyRow, noEntry, repeatRow, repeats, seenAt, ask3, ask4, ask5, ask6, ask7, ask8, askFinite, askPattern, askRows, askSolve}
-use Rattle.questions.specs.Lent.{SolveLent}
+use Rattle.lent.specs.Reading.{orderOf}
+use Rattle.questions.specs.Lent.{SolveLent, Inverse}
 use Rattle.questions.specs.SettledLaws.{settled}
 use Rattle.placement.specs.Placing.{countAbove, tails, bestFrom, firstAt, agree, appendAll, fresh, meets, overlap, tailOr, shared, plain, after, placed, startOf}
 use Rattle.outcome.specs.Forms.{placedTo, indexNeed, valueNeed}
 use Rattle.outcome.specs.Placed.{PlacedSide}
-use Rattle.factor.specs.Factoring.{lists, written, Starts, Inverse, Factorable}
+use Rattle.factor.specs.Factoring.{lists, written, Starts, Factorable}
 
 -- rows (2, 4), (1, 4), b = (10, 9), orders 0, 1
 abbrev example : Input
@@ -59,8 +60,8 @@ abbrev scratch : List ℕ
 scratch = 0 ∷ 0 ∷ 0 ∷ 1 ∷ replicate 12 0
 
 inverse : Inverse example scratch
-unfolding ic first isOf
-inverse j h = elim (decLt j 1) [ yes q ↦ (let e : j ≡ 0 = omega arith in rw e) | no q ↦ (let e : j ≡ 1 = omega arith in rw e) ]
+unfolding orderOf ic first isOf
+inverse = record { place = λ j h. elim (decLt j 1) [ yes q ↦ (let e : j ≡ 0 = omega arith in rw e) | no q ↦ (let e : j ≡ 1 = omega arith in rw e) ] }
 
 pub plain-met : Factorable Plain example (lists (0 ∷ 0 ∷ 1 ∷ []) (0 ∷ []) (0 ∷ 1 ∷ 1 ∷ []) (0 ∷ 1 ∷ 1 ∷ []) (1 ∷ [])) (written (zeros 1) (zeros 1) (zeros 2) (zeros 6) scratch)
 plain-met = record { lent = lent; settled = settled example passed; lower-side = sides .3; upper-side = sides .0; reciprocals = refl; scratch = refl; slots = omega arith; inverse = inverse }

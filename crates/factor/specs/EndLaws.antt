@@ -34,7 +34,9 @@ use Rattle.numeric.specs.Rows.{uOf, lOf, columnOf}
 use Rattle.numeric.specs.KeepLaws.{columns-start, columns-end}
 use Rattle.numeric.specs.StoreLaws.{sets-part, stacked-none, stacked-all}
 use Rattle.numeric.specs.PassLaws.{held-start, held-y, held-solved, held-stopped}
-use Rattle.factor.specs.Factoring.{Factors, FactoredAs, PlacedLists, Workspace, LowerPlaced, Factorable, Inverse, zeroed, freshMarks, LowerHeld, Finding, Going, backAs, BackReady}
+use Rattle.questions.specs.Lent.{Inverse}
+use Rattle.questions.specs.ScatterLaws.{inverse-same}
+use Rattle.factor.specs.Factoring.{Factors, FactoredAs, PlacedLists, Workspace, LowerPlaced, Factorable, zeroed, freshMarks, LowerHeld, Finding, Going, backAs, BackReady}
 use Rattle.factor.specs.SystemLaws.{placed-shape}
 use Rattle.factor.specs.TurnLaws.{SameSizes, none-left, same-given}
 use Rattle.factor.specs.ColumnLaws.{shared-side, shared-fits, column-is}
@@ -107,8 +109,8 @@ module _ (i : Input) (L : PlacedLists) {w : Workspace} (x : Workspace) (s : Same
   cursor-at j b = getD-drop (cursorsFrom (i .n)) (x .marks) j 0 ∙ rw em (zeroed-in (i .n) (cursorsFrom (i .n)) (zeroed (i .n) 0 (w .marks)) j (omega (arith, zeroed-length (i .n) 0 (w .marks))) b)
 
   inverse-kept : Inverse i (w .marks) → Inverse i (x .marks)
-  inverse-kept h j b =
-      rw em (zeroed-out (i .n) (cursorsFrom (i .n)) (zeroed (i .n) 0 (w .marks)) (inverseFrom (i .n) + j) (λ q. absurd (omega arith)) ∙ zeroed-out (i .n) 0 (w .marks) (inverseFrom (i .n) + j) (λ q. omega arith) ∙ h j b)
+  inverse-kept =
+      inverse-same (λ j b. rw em (zeroed-out (i .n) (cursorsFrom (i .n)) (zeroed (i .n) 0 (w .marks)) (inverseFrom (i .n) + j) (λ q. absurd (omega arith)) ∙ zeroed-out (i .n) 0 (w .marks) (inverseFrom (i .n) + j) (λ q. omega arith)))
 
   finding-start : (f : Form) → Finding f i L 0 (x .marks)
   finding-start Plain = tt

@@ -17,7 +17,7 @@ use Rattle.arithmetic.specs.Arith.{Out, ok, met, zeroPivot, overflow, System, R
 use Rattle.outcome.specs.Forms.{valueNeed}
 use Rattle.outcome.specs.Placed.{PlacedSide}
 use Rattle.outcome.specs.Solve.{system, listed, valuesKept, pivotsKept}
-use Rattle.questions.specs.Lent.{SolveLent}
+use Rattle.questions.specs.Lent.{SolveLent, Inverse}
 use Rattle.questions.specs.Settled.{Settled}
 use Rattle.marks.specs.Marks as marking
 use Rattle.marks.specs.Rows as found
@@ -77,10 +77,6 @@ abbrev pub LowerPlaced : Form → Pattern → ℕ → PlacedLists → List Float
 LowerPlaced Plain P n L l = PlacedSide Plain Lower P n (L .lower-starts) (L .lower-starts) (L .lower-index) (length l)
 LowerPlaced Shared P n L l = Starts Shared P n (L .lower-starts) (length l)
 LowerPlaced ByRow P n L l = l ≡ []
-
--- slots n to 2n hold the inverse of the column order
-abbrev pub Inverse : Input → List ℕ → Type 0
-Inverse i s = (j : ℕ) → j < i .n → getD s (inverseFrom (i .n) + j) 0 ≡ ic (i .c) (i .n) j
 
 -- questions 1 to 11 are passed, the lists of every place stand in their stores, and the inverse order in scratch
 pub record Factorable (f : Form) (i : Input) (L : PlacedLists) (w : Workspace) : Type 0 where

@@ -15,7 +15,7 @@ use Rattle.questions.specs.Settled.{columnsAt}
 use Rattle.questions.specs.SettledLaws.{columns-under}
 use Rattle.outcome.specs.Placed.{PlacedSide, list-at}
 use Rattle.lent.specs.Reading.{But, orderOf, placed}
-use Rattle.lent.specs.ReadingLaws.{order-read, placed-is}
+use Rattle.lent.specs.ReadingLaws.{placed-is}
 use Rattle.marks.specs.Marks.{Holds, Base, Parts, Blocks, members}
 use Rattle.marks.specs.MarkLaws.{holds-same}
 use Rattle.marks.specs.Rows.{Stored, Loaded, LowerListed, Closing, Renewed}
@@ -123,8 +123,8 @@ module _ {f : Form} {i : Input} {L : PlacedLists} {k : ℕ} {w : Workspace} (G :
         own-place = omega (arith, G .given .lent .lent .orders .row-order);
         row = g .rows (G .given .lent .lent .starts) own b;
         columns-below = columns-in;
-        inverse = λ j l. rw (← order-read (i .n) (w .marks) j l, G .given .inverse j l) (place-hits (i .c) (i .n) (g .column-order) j l .0);
-        entries = λ j l. ap (λ (x : List ℕ). has x j) (placed-is (orderOf (i .n) (w .marks)) (columnsAt i k) (i .n) (ic (i .c) (i .n)) (λ c b. sym (order-read (i .n) (w .marks) c b) ∙ G .given .inverse c b) columns-in);
+        inverse = λ j l. rw (G .given .inverse .place j l) (place-hits (i .c) (i .n) (g .column-order) j l .0);
+        entries = λ j l. ap (λ (x : List ℕ). has x j) (placed-is (orderOf (i .n) (w .marks)) (columnsAt i k) (i .n) (ic (i .c) (i .n)) (G .given .inverse .place) columns-in);
         held = H;
         store = placed-stored f (stored i) (i .n) k (L .upper-starts) (L .upper-runs) (L .upper-index) (length (w .upper)) h (G .given .upper-side);
       }

@@ -31,8 +31,10 @@ use Rattle.numeric.specs.StoreLaws.{Rising, rises-to, gathered-length, sets-par
 use Rattle.numeric.specs.RowLaws.{has-at}
 use Rattle.numeric.specs.KeepLaws.{stacked-row, column-length, column-below, column-room, columns-more}
 use Rattle.numeric.specs.PassLaws.{forward-length}
-use Rattle.factor.specs.Factoring.{PlacedLists, Workspace, written, Inverse, Finding, LowerHeld, Going, lowerIn, LowerAt, RowAt, LowerFound, readsLower, LowerAsked, LowerGiven, RowReady, Spread, KeepAsked, LowerKept, KeepGiven}
-use Rattle.factor.specs.SystemLaws.{lower-ascends, system-closed}
+use Rattle.questions.specs.Lent.{Inverse}
+use Rattle.questions.specs.ScatterLaws.{inverse-same}
+use Rattle.factor.specs.Factoring.{PlacedLists, Workspace, written, Finding, LowerHeld, Going, lowerIn, LowerAt, RowAt, LowerFound, readsLower, LowerAsked, LowerGiven, RowReady, Spread, KeepAsked, LowerKept, KeepGiven}
+use Rattle.factor.specs.SystemLaws.{lower-ascends, system-closed, lower-is}
 use Rattle.factor.specs.ColumnLaws.{shared-side, shared-fits}
 use Rattle.factor.specs.FindLaws.{findable}
 use Rattle.factor.specs.TurnLaws.{SameSizes, row-at, row-room, lower-in, row-closable, going-more}
@@ -78,7 +80,7 @@ module _ {i : Input} {L : PlacedLists} {k : ℕ} {w : Workspace} (G : Going Plai
   plain-given {m} {below} e = record {
     size = e .0 ∙ ap length lower-read;
     lower = rw (e .1) (sets-part (w .marks) (rowOf (L .lower-starts) (L .lower-index) k) (listFrom (i .n)) below (sym (e .0)) (omega (arith, e .0, plain-asked .1 .room)) ∙ lower-read);
-    inverse = λ j b. rw (e .1) (sets-below (w .marks) (listFrom (i .n)) (rowOf (L .lower-starts) (L .lower-index) k) (i .n + j) (omega arith) ∙ G .given .inverse j b);
+    inverse = inverse-same (λ j b. rw (e .1) (sets-below (w .marks) (listFrom (i .n)) (rowOf (L .lower-starts) (L .lower-index) k) (i .n + j) (omega arith))) (G .given .inverse);
     finding = tt;
   }
 
@@ -108,8 +110,8 @@ lower-given : {i : Input} {L : PlacedLists} {k : ℕ} {w : Workspace} (f : Form)
     → LowerGiven (readsLower f) (i .n) k below (i .starts) (i .columns) (i .r) L (w .marks) m → Lowered f i L k below m
 unfolding LowerGiven
 lower-given Plain G h m below e = plain-given G h e
-lower-given {i = i} Shared G h m below e = let F = e (stored i) (findable G h (G .finding)) in record { size = F .size; lower = F .lower; inverse = λ j l. F .inverse j l ∙ G .given .inverse j l; finding = F .next }
-lower-given {i = i} ByRow G h m below e = let F = e (stored i) (findable G h (G .finding)) in record { size = F .size; lower = F .lower; inverse = λ j l. F .inverse j l ∙ G .given .inverse j l; finding = F .next }
+lower-given {i = i} Shared G h m below e = let F = e (stored i) (findable G h (G .finding)) in record { size = F .size; lower = F .lower; inverse = inverse-same (F .inverse) (G .given .inverse); finding = F .next }
+lower-given {i = i} ByRow G h m below e = let F = e (stored i) (findable G h (G .finding)) in record { size = F .size; lower = F .lower; inverse = inverse-same (F .inverse) (G .given .inverse); finding = F .next }
 
 -- what row k's steps find
 lowered-row : {f : Form} {i : Input} {L : PlacedLists} {k : ℕ} {w : Workspace} {m : List ℕ} {below : ℕ} → Going f i L k w → k < i .n → length m ≡ length (w .marks) → Lowered f i L k below m
@@ -149,17 +151,13 @@ module _ {i : Input} {L : PlacedLists} {k : ℕ} {w : Workspace} (G : Going Shar
   enough = simp length-drop (omega (arith, G .given .slots))
 
   module _ {lower : List ℕ} (el : lower ≡ lowerRow (stored i) k) where
-    lower-of : system i .lower k ≡ lower
-    unfolding system
-    lower-of = sym el
-
     shared-room : (j : ℕ) → has lower j ≡ true → (getD (L .lower-starts) j 0 + getD m (cursorsFrom (i .n) + j) 0 < length (w .lower)) × (getD m (cursorsFrom (i .n) + j) 0 < maxRows)
     unfolding system
     shared-room j q =
         let b = column-below (system i) (L .lower-starts) rising (shared-fits i (L .lower-starts) (length (w .lower)) (G .given .lower-side)) (G .rows) k lower (drop (cursorsFrom (i .n)) m) (w .lower)
-        h (system-closed i k h) lower-of whole enough in-columns j q in
+        h (system-closed i k h) (lower-is i k el) whole enough in-columns j q in
         let r = column-room (system i) (L .lower-starts) rising (shared-fits i (L .lower-starts) (length (w .lower)) (G .given .lower-side)) (G .rows) k lower (drop (cursorsFrom (i .n)) m) (w .lower)
-        h (system-closed i k h) lower-of whole enough in-columns j b in
+        h (system-closed i k h) (lower-is i k el) whole enough in-columns j b in
         let u = sym (getD-drop (cursorsFrom (i .n)) m j 0) ∙ in-columns .used j b in (
           omega (arith, u, rw q at r, rises-to (L .lower-starts) (j + 1) (i .n) (i .n) rising (omega arith) (omega arith), whole),
           omega (arith, u, column-length (system i .lower) (G .rows) k j, count-le (λ q. has (system i .lower q) j) k, G .given .lent .lent .orders .few),
@@ -170,7 +168,7 @@ module _ {i : Input} {L : PlacedLists} {k : ℕ} {w : Workspace} (G : Going Shar
     unfolding system
     shared-kept next g l c en q =
         columns-more (system i) (L .lower-starts) rising (shared-fits i (L .lower-starts) (length (w .lower)) (G .given .lower-side)) (G .rows) k lower (drop (cursorsFrom (i .n)) m) (w .lower)
-        h (system-closed i k h) lower-of whole enough in-columns next g c l (forward-length (system i) k (G .rows) (G .held .done)) en q
+        h (system-closed i k h) (lower-is i k el) whole enough in-columns next g c l (forward-length (system i) k (G .rows) (G .held .done)) en q
 
   -- a slot left in each column
   spread : RowAt i k below (L .upper-starts) (L .upper-runs) (L .upper-index) m (length (w .upper)) (length (w .work)) → Spread (i .n) below (L .lower-starts) (length (w .lower)) m
@@ -245,7 +243,7 @@ module _ {i : Input} {L : PlacedLists} {k : ℕ} {w : Workspace} (f : Form) (G :
     row-kept = record {
       size = D .size;
       lower = lower-stays (i .n) below m x (row-room row-lowered .room) ex (K .same) ∙ D .lower;
-      inverse = λ j b. K .same (i .n + j) (λ q. absurd (omega arith)) ∙ D .inverse j b;
+      inverse = inverse-same (λ j b. K .same (i .n + j) (λ q. absurd (omega arith))) (D .inverse);
       finding = finding-stays f i L k m x h (K .same) (D .finding);
     }
 

@@ -27,7 +27,7 @@ use Rattle.questions.specs.SettledLaws.{columns-under, places-under}
 use Rattle.marks.specs.FillLaws.{upper-below}
 use Rattle.lent.specs.Reading.{Below, ownAt, orderOf, placed}
 use Rattle.numeric.specs.Stores.{Ascending, StoreShape, Reducible}
-use Rattle.lent.specs.ReadingLaws.{list-length, order-read, placed-is}
+use Rattle.lent.specs.ReadingLaws.{list-length, list-entry, placed-is}
 use Rattle.numeric.specs.Rows.{filledRow, Closed, RowLent}
 use Rattle.numeric.specs.RowLaws.{has-at}
 use Rattle.factor.specs.Factoring.{RowAt}
@@ -107,12 +107,13 @@ placed-shape f P n starts runs index size h = record {
 
 -- ---- a row of M
 
+pub lower-is : (i : Input) (k : ℕ) {lower : List ℕ} → lower ≡ lowerRow (stored i) k → system i .lower k ≡ lower
+unfolding system
+lower-is i k e = sym e
+
 module _ (i : Input) (k below : ℕ) (us ur ui marks : List ℕ) (upper work : ℕ) (R : RowAt i k below us ur ui marks upper work) where
   abbrev own : ℕ
   own = getD (i .r) k 0
-
-  order-at : (j : ℕ) → j < i .n → getD (orderOf (i .n) marks) j 0 ≡ ic (i .c) (i .n) j
-  order-at j h = sym (order-read (i .n) marks j h) ∙ R .inverse j h
 
   -- what the code reads: own row r(k), its columns and values, b(r(k)) and lower row k
   module _ (row : OwnNumber) (columns lower : List ℕ) (values : List Float) (b : Float) (er : row ≡ ownAt (i .r) (record { 0 = k })) (rc : columns ≡ rowOf (i .starts) (i .columns) (row .0))
@@ -130,7 +131,7 @@ module _ (i : Input) (k below : ℕ) (us ur ui marks : List ℕ) (upper work : �
     columns-below = rw ec (columns-under i (R .settled .structured .readable) k)
 
     places-are : placed (orderOf (i .n) marks) columns ≡ placesAt i k
-    places-are = placed-is (orderOf (i .n) marks) columns (i .n) (ic (i .c) (i .n)) order-at columns-below ∙ ap (map (ic (i .c) (i .n))) ec
+    places-are = placed-is (orderOf (i .n) marks) columns (i .n) (ic (i .c) (i .n)) (R .inverse .place) columns-below ∙ ap (map (ic (i .c) (i .n))) ec
 
     long : length columns ≡ length values
     long = rw (ec, ev) (list-length (i .starts) (i .starts) (i .columns) own (R .columns) ∙ sym (list-length (i .starts) (i .starts) (i .values) own (R .values)))
@@ -144,7 +145,7 @@ module _ (i : Input) (k below : ℕ) (us ur ui marks : List ℕ) (upper work : �
         slots = omega (arith, R .slots);
         paired = long;
         known = columns-below;
-        inside = λ p g. rw (order-at (getD columns p 0) (columns-below p g))
+        inside = λ p g. rw (R .inverse .place (getD columns p 0) (columns-below p g))
             (place-hits (i .c) (i .n) (R .settled .structured .readable .column-order) (getD columns p 0) (columns-below p g) .0);
       };
       below = rw (el ∙ R .lower) (lower-below (stored i) (i .n) k (omega (arith, R .place)));
@@ -156,7 +157,7 @@ module _ (i : Input) (k below : ℕ) (us ur ui marks : List ℕ) (upper work : �
     value-at p g =
         let s = i .starts in
         let c = rw (length-take, length-drop) at g in
-        rw (getD-take (getD s (own + 1) 0 - getD s own 0) (drop (getD s own 0) (i .values)) p nan (omega arith), getD-drop) (R .settled .values (getD s own 0 + p) (omega arith))
+        rw (list-entry s s (i .values) own p nan (omega arith)) (R .settled .values (getD s own 0 + p) (omega arith))
 
     place-filled : (p : ℕ) → p < length (placesAt i k) → has (filledRow (system i) k) (getD (placesAt i k) p 0) ≡ true
     unfolding system stored

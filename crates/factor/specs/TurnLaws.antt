@@ -28,8 +28,9 @@ use Rattle.numeric.specs.PassLaws.{forward-length, held-more, held-zero, held-o
 use Rattle.factor.specs.declared.Factored.{Factored}
 use Rattle.factor.specs.declared.Factored.the-variants.{Solved}
 use Rattle.factor.specs.declared.Factored.the-variants as done
-use Rattle.factor.specs.Factoring.{FactoredAs, CameTo, isFault, PlacedLists, Workspace, LowerPlaced, Factorable, LowerHeld, Inverse, Finding, Going, RowAt, lowerIn, LowerAt}
-use Rattle.factor.specs.SystemLaws.{lower-below, system-closed, placed-shape}
+use Rattle.questions.specs.Lent.{Inverse}
+use Rattle.factor.specs.Factoring.{FactoredAs, CameTo, isFault, PlacedLists, Workspace, LowerPlaced, Factorable, LowerHeld, Finding, Going, RowAt, lowerIn, LowerAt}
+use Rattle.factor.specs.SystemLaws.{lower-below, system-closed, lower-is, placed-shape}
 use Rattle.base.specs.Scratch.{cursorsFrom}
 
 -- ---- what is lent stays so: but for the inverse order, it depends on what is written by lengths alone
@@ -157,10 +158,6 @@ module _ {f : Form} {i : Input} {L : PlacedLists} {k : ℕ} {w : Workspace} (G :
     many : length (G .rows) ≡ k
     many = forward-length (system i) k (G .rows) (G .held .done)
 
-    lower-is : system i .lower k ≡ lower
-    unfolding system
-    lower-is = sym el
-
     pivot-at : (j : ℕ) → j < k + 1 → getD (x .d) j nan ≡ getD (G .rows ++ (next ∷ [])) j none .d
     pivot-at j b = rw (Q .reciprocals) (elim (decLt j k) [
       | yes q ↦ getD-set-other (w .d) k j (t .reciprocal) nan (omega arith) ∙ G .pivots j q ∙ ap (λ (r : Row). r .d) (sym (List·getD-append (G .rows) (next ∷ []) none j (rw many q)))
@@ -175,7 +172,7 @@ module _ {f : Form} {i : Input} {L : PlacedLists} {k : ℕ} {w : Workspace} (G :
       rows = G .rows ++ (next ∷ []);
       held = held-more (system i) (G .rows) (i .n) k (w .work) (L .upper-starts) (L .upper-runs) (L .upper-index) (w .upper) (G .held) h (G .given .scratch) (system-closed i k h)
           (placed-shape f (stored i) (i .n) (L .upper-starts) (L .upper-runs) (L .upper-index) (length (w .upper)) (G .given .upper-side))
-          lower lower-is g (x .work) (x .upper) (w .d) (x .d) lg t
+          lower (lower-is i k el) g (x .work) (x .upper) (w .d) (x .d) lg t
           (subst (λ (q : Pivot). Reduced (system i) (G .rows) (i .n) k (L .upper-starts) (w .work) g (w .upper) (x .upper) q) ep R) Q;
       pivots = pivot-at;
       lower = kept;

@@ -9,12 +9,16 @@ use Rattle.base.specs.declared.Place.{Place}
 
 -- ---- lists
 
+-- how many entries list i has
+abbrev pub lengthIn : List ℕ → ℕ → ℕ
+lengthIn starts i = getD starts (i + 1) 0 - getD starts i 0
+
 -- list i can be read from a store with so many slots: its starts do not fall, and its run is inside
 pub record ListIn (starts runs : List ℕ) (slots i : ℕ) : Type 0 where
   pub has-run : i < length runs
   pub has-start : i + 1 < length starts
   pub rise : getD starts i 0 ≤ getD starts (i + 1) 0
-  pub inside : getD runs i 0 + (getD starts (i + 1) 0 - getD starts i 0) ≤ slots
+  pub inside : getD runs i 0 + lengthIn starts i ≤ slots
 
 -- each entry of the list is below n
 abbrev pub Below : ℕ → List ℕ → Type 0

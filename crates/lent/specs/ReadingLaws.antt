@@ -10,20 +10,23 @@ use Rattle.base.specs.Lists.{listAt}
 use Rattle.base.specs.Scratch.{blocksFrom}
 use Rattle.base.specs.declared.OwnNumber.{OwnNumber}
 use Rattle.base.specs.declared.Place.{Place}
-use Rattle.lent.specs.Reading.{ListIn, Below, placeAt, orderOf, placed, Outside}
+use Rattle.lent.specs.Reading.{lengthIn, ListIn, Below, placeAt, orderOf, placed, Outside}
 
 -- ---- lists and orders
 
--- a part from a to a + (hi - lo) is the list
-pub part-is : {A : Type 0} (starts runs : List ℕ) (store : List A) (i a lo hi : ℕ) → a ≡ getD runs i 0 → lo ≡ getD starts i 0 → hi ≡ getD starts (i + 1) 0
-    → take (a + (hi - lo) - a) (drop a store) ≡ listAt starts runs store i
+-- a part from its run start on, as long as the starts say, is the list
+pub part-is : {A : Type 0} (starts runs : List ℕ) (store : List A) (i a l : ℕ) → a ≡ getD runs i 0 → l ≡ lengthIn starts i → take (a + l - a) (drop a store) ≡ listAt starts runs store i
 unfolding listAt
-part-is starts runs store i a lo hi ea el eh = let e : a + (hi - lo) - a ≡ hi - lo = omega arith in rw (e, ea, el, eh)
+part-is starts runs store i a l ea el = let e : a + l - a ≡ l = omega arith in rw (e, ea, el)
 
 pub list-length : {A : Type 0} (starts runs : List ℕ) (store : List A) (i : ℕ) → ListIn starts runs (length store) i
-    → length (listAt starts runs store i) ≡ getD starts (i + 1) 0 - getD starts i 0
+    → length (listAt starts runs store i) ≡ lengthIn starts i
 unfolding listAt
 list-length starts runs store i h = length-take-le _ (drop (getD runs i 0) store) (omega (arith, length-drop (getD runs i 0) store, h .inside))
+
+pub list-entry : {A : Type 0} (starts runs : List ℕ) (store : List A) (i p : ℕ) (z : A) → p < lengthIn starts i → getD (listAt starts runs store i) p z ≡ getD store (getD runs i 0 + p) z
+unfolding listAt
+list-entry starts runs store i p z h = getD-take (lengthIn starts i) (drop (getD runs i 0) store) p z h ∙ getD-drop (getD runs i 0) store p z
 
 -- a part from a on is the rest
 pub take-rest : {A : Type 0} (a : ℕ) (l : List A) → take (length l - a) (drop a l) ≡ drop a l
@@ -34,7 +37,7 @@ pub list-below : (n : ℕ) (starts runs store : List ℕ) (i : ℕ) → Below n 
 unfolding listAt
 list-below n starts runs store i h p l =
     let c = rw (length-take, length-drop) at l in
-    rw (getD-take (getD starts (i + 1) 0 - getD starts i 0) (drop (getD runs i 0) store) p 0 (omega arith), getD-drop) (h (getD runs i 0 + p) (omega arith))
+    rw (list-entry starts runs store i p 0 (omega arith)) (h (getD runs i 0 + p) (omega arith))
 
 -- the list of the own row that the order gives
 pub own-in : {starts : List ℕ} {slots j : ℕ} {i : OwnNumber} → _≡_ {A = OwnNumber} i (record { 0 = j }) → ListIn starts starts slots j → ListIn starts starts slots (i .0)

@@ -1,12 +1,12 @@
 // What is lent and only read. Lists are read by their starts and runs; own numbers and places are turned into each other by the orders.
 ghost use mathlib.Core.Path.{_≡_};
-ghost use Prim.Native.Nat.{_<_, _≤_};
+ghost use Prim.Native.Nat.{_+_, _<_, _≤_};
 ghost use lib.ListN.{length, getD};
 ghost use lib.Ieee.{nan};
 ghost use Rattle.base.specs.Lists.{listAt, rowOf};
 ghost use Rattle.base.specs.Limits.{maxRows};
 ghost use Rattle.base.specs.Scratch.{blocksFrom};
-ghost use Rattle.lent.specs.Reading.{ListIn, ownAt, placeAt, orderOf};
+ghost use Rattle.lent.specs.Reading.{lengthIn, ListIn, ownAt, placeAt, orderOf};
 use base::Index;
 use base::OwnNumber;
 use base::Place;
@@ -14,15 +14,21 @@ use base::scratch;
 
 // ---- lists
 
+// Gives how many entries list i has.
+pub fn list_length(starts: &[u32], i: usize) -> usize
+    requires { ⌜ (i + 1 < length (now starts)) × (getD (now starts) i 0 ≤ getD (now starts) (i + 1) 0) ⌝ }
+    ensures { λ r. ⌜ (r ≡ lengthIn (now (starts .entry)) i) × (r < 4294967296) ⌝ }
+{
+    base::slot(starts[i + 1]) - base::slot(starts[i])
+}
+
 // Hands back list i of an index store.
 pub fn list_at<'a>(starts: &[u32], runs: &[u32], index: &'a [Index], i: usize) -> &'a [Index]
     requires { ⌜ ListIn (now starts) (now runs) (length (now index)) i ⌝ }
     ensures { λ list. ⌜ now list ≡ listAt (now (starts .entry)) (now (runs .entry)) (now (index .entry)) i ⌝ }
 {
     let a = base::slot(runs[i]);
-    let lo = base::slot(starts[i]);
-    let hi = base::slot(starts[i + 1]);
-    let e = a + (hi - lo);
+    let e = a + list_length(starts, i);
     &index[a..e]
 }
 

@@ -15,11 +15,11 @@ use Rattle.base.specs.Lists.{count, total, sum, bit}
 use Rattle.base.specs.AscLaws.{asc-ext, asc-at, length-asc, count-le, total-asc, sum-ext, sum-mono, count-none, count-suc, bit-le}
 use Rattle.fill.specs.Fill.{Pattern, filled, upper, upperRow, lowerRow, products}
 use Rattle.fill.specs.ListLaws.{steps, products-steps, products-le}
-use Rattle.lent.specs.Reading.{But}
+use Rattle.lent.specs.Reading.{lengthIn, But}
 use Rattle.marks.specs.Marks.{Room, Holds, chosen, members, visited, unite, partAt, Parts, Merged}
 use Rattle.marks.specs.BlockLaws.{sets-append}
 use Rattle.marks.specs.MarkLaws.{sets-below, sets-above, holds-kept, marks-sets}
-use Rattle.marks.specs.Rows.{Stored, LowerListed, Closing, UpperListed, Listed, rowSteps, lengthIn, Countable}
+use Rattle.marks.specs.Rows.{Stored, LowerListed, Closing, UpperListed, Listed, rowSteps, Countable}
 use Rattle.marks.specs.FillLaws.{upper-length, closed-is}
 use Rattle.base.specs.Scratch.{listFrom}
 use Rattle.base.specs.Limits.{maxRows, maxProducts}

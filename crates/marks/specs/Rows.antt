@@ -76,10 +76,6 @@ pub record Renewed (n t k cuts : ℕ) (starts runs index s₀ s : List ℕ) : Ty
 unfoldable pub rowSteps : Pattern → ℕ → ℕ → ℕ
 rowSteps P n k = total (map (λ i. length (upperRow P n i)) (lowerRow P k))
 
--- how long list i is by the list starts
-abbrev pub lengthIn : List ℕ → ℕ → ℕ
-lengthIn starts i = getD starts (i + 1) 0 - getD starts i 0
-
 -- the list starts of the places of a list can be read, and do not fall there
 pub record Countable (list starts : List ℕ) : Type 0 where
   pub short : length list ≤ maxRows

@@ -5,11 +5,11 @@ ghost use Prim.Native.Nat.{ℕ, _+_, _-_, _*_, _/_, _≤_, _<_};
 ghost use lib.ListN.{length, getD, take, drop, set};
 ghost use lib.Seq.{sets};
 ghost use Rattle.base.specs.Lists.{listAt, rowOf, total};
-ghost use Rattle.lent.specs.Reading.{ListIn, Below, orderOf, placed};
+ghost use Rattle.lent.specs.Reading.{lengthIn, ListIn, Below, orderOf, placed};
 ghost use Rattle.fill.specs.Fill.{Pattern, filled};
 ghost use Rattle.marks.specs.Marks.{Room, Order, markAt, stamped, Blocks, Bare, Holds, marked, members, visited, Merged, Base, partAt, PartIn, Parts, Walk, upto, cutOne};
 ghost use Rattle.marks.specs.MergeLaws.{GoesOn};
-ghost use Rattle.marks.specs.Rows.{Loaded, Closing, UpperListed, Renewed, lengthIn, Countable};
+ghost use Rattle.marks.specs.Rows.{Loaded, Closing, UpperListed, Renewed, Countable};
 ghost use Rattle.base.specs.Scratch.{blocksFrom, upperCuts, listFrom};
 ghost use Rattle.base.specs.Limits.{maxRows};
 use base::Index;
@@ -384,16 +384,6 @@ pub fn renew_cuts(
     open_cut(marks, i, cuts, starts);
 }
 
-// How long list i is.
-fn entries_of(starts: &[u32], i: usize) -> u64
-    requires { ⌜ (i + 1 < length (now starts)) × (getD (now starts) i 0 ≤ getD (now starts) (i + 1) 0) ⌝ }
-    ensures { λ r. ⌜ (r ≡ lengthIn (now (starts .entry)) i) × (r < 4294967296) ⌝ }
-{
-    let lo = base::slot(starts[i]);
-    let hi = base::slot(starts[i + 1]);
-    (hi - lo) as u64
-}
-
 // Counts the products of row k: the entries of T(i) for each i of its lower row, taken together.
 pub fn row_products(list: &[u32], starts: &[u32]) -> u64
     requires { ⌜ Countable (now list) (now starts) ⌝ }
@@ -403,7 +393,7 @@ pub fn row_products(list: &[u32], starts: &[u32]) -> u64
     let mut p = 0;
     while p < list.len() {
         let i = base::slot(list[p]);
-        sum += entries_of(starts, i);
+        sum += lent::list_length(starts, i) as u64;
         p += 1;
     }
     sum

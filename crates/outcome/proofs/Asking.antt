@@ -6,7 +6,9 @@ use Prim.Native.Nat.{ℕ, _+_, _≤_}
 use native.Mathlib.Omega.{arith}
 use Rattle.base.specs.Answers.{numberOf, holds, absent, andThen}
 use Rattle.base.specs.FirstLaws.{stop-pass}
-use Rattle.base.specs.All.{all, allWith}
+use Rattle.base.specs.All.{all}
+use Rattle.base.specs.AllLaws.{all-join}
+use Rattle.base.specs.Tests.{by-test}
 use Rattle.base.specs.declared.Found.{Found}
 use Rattle.base.specs.declared.Found.the-variants.{At, Nothing}
 use Rattle.base.specs.declared.Refusal.{Refusal}
@@ -69,17 +71,5 @@ module _ (lo hi : ℕ) where
 
 -- ---- tests that hold drop out of a list of tests
 
-with-append : (t : Bool) (a b : List Bool) → allWith t (a ++ b) ≡ allWith (allWith t a) b
-with-append t [] b = refl
-with-append t (x ∷ a) b = with-append (t && x) a b
-
-with-false : (b : List Bool) → allWith false b ≡ false
-with-false [] = refl
-with-false (x ∷ b) = with-false b
-
-with-true : (t : Bool) (b : List Bool) → all b ≡ true → allWith t b ≡ t
-with-true true b e = e
-with-true false b e = with-false b
-
 pub all-append : (a b : List Bool) → all b ≡ true → all (a ++ b) ≡ all a
-all-append a b e = with-append true a b ∙ with-true (all a) b e
+all-append a b e = by-test (all a) (λ t. rw (all-join a b, t, e)) (λ t. rw (all-join a b, t))

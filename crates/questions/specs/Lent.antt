@@ -9,7 +9,7 @@ use Rattle.base.specs.Answers.{absent}
 use Rattle.base.specs.declared.Asked.{Asked}
 use Rattle.base.specs.declared.Refusal.the-variants.{Order}
 use Rattle.base.specs.Limits.{maxRows, maxEntries}
-use Rattle.lent.specs.Reading.{ListIn, Below}
+use Rattle.lent.specs.Reading.{ListIn, Below, orderOf}
 use Rattle.matrix.specs.Input.{Input, ic}
 use Rattle.matrix.specs.Questions.{badIndex, IsOrder}
 
@@ -92,6 +92,10 @@ inverted o n s = table (ic o n) n ++ drop n s
 -- and in the n slots after the first n
 unfoldable pub invertedAt : List ℕ → ℕ → List ℕ → List ℕ
 invertedAt o n s = take n s ++ inverted o n (drop n s)
+
+-- slots n to 2n hold the inverse of the column order
+pub record Inverse (i : Input) (s : List ℕ) : Type 0 where
+  pub place : (j : ℕ) → j < i .n → getD (orderOf (i .n) s) j 0 ≡ ic (i .c) (i .n) j
 
 pub record SolutionLent (n : ℕ) (c : List ℕ) (z x : ℕ) : Type 0 where
   pub size : length c ≡ n

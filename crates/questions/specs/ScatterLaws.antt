@@ -10,12 +10,12 @@ use lib.Ieee.{Float, nan}
 use lib.Seq.{getD-set-same, getD-set-other, drop-set-lt, getD-take, ext-getD, take-at, drop-at, take-all, length-take-le}
 use Rattle.base.specs.Lists.{table}
 use Rattle.base.specs.TableLaws.{length-table, getD-table}
-use Rattle.matrix.specs.Input.{ic, ownOrder}
+use Rattle.matrix.specs.Input.{Input, ic, ownOrder}
 use Rattle.matrix.specs.Questions.{IsOrder}
 use Rattle.matrix.specs.OrderLaws.{order-below, order-inj, place-of, place-hits}
-use Rattle.questions.specs.Lent.{inverted, invertedAt}
-use Rattle.base.specs.Scratch.{blocksFrom}
-use Rattle.base.specs.ScratchLaws.{drop-twice}
+use Rattle.lent.specs.ReadingLaws.{order-read}
+use Rattle.questions.specs.Lent.{inverted, invertedAt, Inverse}
+use Rattle.base.specs.Scratch.{inverseFrom}
 
 module _ {A : Type 0} where
   pub record Scattered (o : List ℕ) (n : ℕ) (f : ℕ → A) (d : A) (old l : List A) (k : ℕ) : Type 0 where
@@ -94,8 +94,9 @@ module _ (o : List ℕ) (n : ℕ) (s : List ℕ) (room : n ≤ length s) where
   pub placed-inverse : take n (drop n (invertedAt o n s)) ≡ table (ic o n) n
   placed-inverse = ap (take n) placed-back ∙ inverse-front o n (drop n s)
 
-  pub placed-rest : drop (blocksFrom n) (invertedAt o n s) ≡ drop (blocksFrom n) s
-  placed-rest = sym (drop-twice n (invertedAt o n s)) ∙ ap (drop n) placed-back ∙ inverse-rest o n (drop n s) ∙ drop-twice n s
+-- it stands where its slots are as they were
+pub inverse-same : {i : Input} {s u : List ℕ} → ((j : ℕ) → j < i .n → getD u (inverseFrom (i .n) + j) 0 ≡ getD s (inverseFrom (i .n) + j) 0) → Inverse i s → Inverse i u
+inverse-same {i} {s} {u} e h = record { place = λ j l. sym (order-read (i .n) u j l) ∙ e j l ∙ order-read (i .n) s j l ∙ h .place j l }
 
 -- "x(c(k)) = t": the solution by own column has z(k) at c(k)
 pub x-at : (c : List ℕ) (n : ℕ) (z : List Float) (k : ℕ) → IsOrder c n → k < n → getD (ownOrder c n z) (getD c k 0) nan ≡ getD z k nan

@@ -136,7 +136,7 @@ module _ (way : Way) (i : Input) (ls lr li : List ℕ) (lv : List Float) (us ur 
     (asked : PresentedAsking way i ls lr li lv us ur ui uv d x w m v t a) where
   pub refactor-stops : (r : Ended) → isStop a ≡ true → r ≡ endOf a → RefactorsBy way i ls lr li lv us ur ui uv d x w m r lv uv d x v t
   refactor-stops r h e =
-      stops-call Refused endOf (λ q. refl) _ _ a r _ _ _ _ (asked .answer) h e (λ y. as-was (formOf way) i _ _ d x w v m t (asked .untouched y)) (λ y k. blank-scratch (formOf way) i _ _ d x w v m t (asked .blanked y k))
+      stops-call Refused endOf (λ q. refl) _ _ a r _ _ _ _ (asked .answer) h e (λ y. as-was _ _ d x w v m t (asked .untouched y)) (λ y k. blank-scratch _ _ d x w v m t (asked .blanked y k))
       ∙ refactor-is (formOf way) i _
 
   -- the arithmetic leaves the buffers numbered 1 and scratch numbered 2; clearing gives the others

@@ -43,7 +43,7 @@ use Rattle.stages.specs.Shaped.{sideOf, sizesOf, SolutionDue}
 use Rattle.stages.specs.ShapedLaws.{split, sides-fit, passed}
 use Rattle.stages.specs.Stages.{isStop}
 use Rattle.stages.specs.Branches.{never, pass-of}
-use Rattle.stages.specs.Asking.{Untouched, Blanked}
+use Rattle.stages.specs.Asking.{Blanked, stops-call, goes-on, as-was, blank-scratch}
 use Rattle.resolve.specs.Again.{endOf, againShape, AgainShaped, AgainDue, AgainAsking, AgainReady, Settles, Again}
 
 -- ---- questions 1 and 2
@@ -273,28 +273,10 @@ pub plain-again : (i : Input) (ls li : List ℕ) (lv : List Float) (us ui : List
 plain-again i ls li lv us ui uv d x x' a h = rw (plain-15 (i .n) ls li lv us ui uv d, plain-factors i ls li lv us ui uv d) h
 
 -- the call ends with a refusal of 1, 2, 5 or 6, or goes on
-stops-call : (first rest a : Asked) (r : Ended) (s s₀ t : Buffers) (o : Outcome Ended) → a ≡ andThen first rest → isStop a ≡ true → r ≡ endOf a
-    → (isStop first ≡ true → t ≡ s) → (first ≡ Pass → isStop rest ≡ true → t ≡ s₀) → ended r t ≡ stop Refused first s (stop Refused rest s₀ o)
-stops-call (Stop q) rest a r s s₀ t o e h g x y = rw (g, e, x refl)
-stops-call Pass (Stop q) a r s s₀ t o e h g x y = rw (g, e, y refl refl)
-stops-call Pass Pass a r s s₀ t o e h g x y = never (isStop a) (ap isStop e) h
-
-goes-on : (first rest a : Asked) (s s₀ : Buffers) (o : Outcome Ended) → a ≡ andThen first rest → isStop a ≡ false → o ≡ stop Refused first s (stop Refused rest s₀ o)
-goes-on (Stop q) rest a s s₀ o e h = never (isStop a) h (ap isStop e)
-goes-on Pass (Stop q) a s s₀ o e h = never (isStop a) h (ap isStop e)
-goes-on Pass Pass a s s₀ o e h = refl
-
 module _ (f : Form) (i : Input) (l u : SideBuffers) (d x w v : List Float) (m t : List ℕ) (a : Asked) (g : AgainAsking f i (sizes (allBuffers l u d x w m)) w m v t a) where
-  as-was : Untouched w m v t → allBuffers l u d x v t ≡ allBuffers l u d x w m
-  as-was h = rw (h .0, h .1)
-
-  blank-scratch : Blanked w m v t → allBuffers l u d x v t ≡ scratchCleared (allBuffers l u d x w m)
-  unfolding scratchCleared blank
-  blank-scratch h = rw (h .0, h .1)
-
   pub resolve-stops : (r : Ended) → isStop a ≡ true → r ≡ endOf a → ended r (allBuffers l u d x v t) ≡ resolve f i (allBuffers l u d x w m)
   unfolding resolve
-  resolve-stops r h e = stops-call _ _ a r _ _ _ _ (g .answer) h e (λ y. as-was (g .untouched y)) (λ y k. blank-scratch (g .blanked y k))
+  resolve-stops r h e = stops-call Refused endOf (λ q. refl) _ _ a r _ _ _ _ (g .answer) h e (λ y. as-was l u d x w v m t (g .untouched y)) (λ y k. blank-scratch l u d x w v m t (g .blanked y k))
 
   -- scratch is w₁ and m₁ as the later stages leave it, and then cleared
   module _ (h : isStop a ≡ false) (k : Asked) (x' w₁ w₂ : List Float) (m₁ m₂ : List ℕ) (lw : length w₁ ≡ length w) (lm : length m₁ ≡ length m) (c : Blanked w₁ m₁ w₂ m₂) where
@@ -303,7 +285,8 @@ module _ (f : Form) (i : Input) (l u : SideBuffers) (d x w v : List Float) (m t 
     unfolding resolve withSolution blank
     ends-as e =
         rw (c .0, c .1, lw, lm)
-        (settled-as i (allBuffers l u d x w m) (askFactors f (i .n) (allBuffers l u d x w m)) (judged (wholeAgain (factorsOf f i (allBuffers l u d x w m)))) k x' e ∙ goes-on (againShape f i (sizes (allBuffers l u d x w m))) (askRight (i .n) (i .r) (i .c) (i .b)) a _ (scratchCleared (allBuffers l u d x w m)) _ (g .answer) h)
+        (goes-on Refused (againShape f i (sizes (allBuffers l u d x w m))) (askRight (i .n) (i .r) (i .c) (i .b)) a _ (scratchCleared (allBuffers l u d x w m)) _ _ (g .answer) (pass-of a h)
+        (settled-as i (allBuffers l u d x w m) (askFactors f (i .n) (allBuffers l u d x w m)) (judged (wholeAgain (factorsOf f i (allBuffers l u d x w m)))) k x' e))
 
     pub resolve-ends : Settles i x (askFactors f (i .n) (presented l u d)) (solvedAgain (factorsOf f i (presented l u d))) k x' → (r : Ended) → r ≡ endOf k
         → ended r (allBuffers l u d x' w₂ m₂) ≡ resolve f i (allBuffers l u d x w m)

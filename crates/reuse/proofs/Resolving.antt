@@ -12,7 +12,8 @@ use Rattle.base.specs.Lists.{nought}
 use Rattle.base.specs.First.{first}
 use Rattle.base.specs.FirstLaws.{first-all, first-none}
 use Rattle.base.specs.TableLaws.{table-ext}
-use Rattle.base.specs.All.{all, allWith}
+use Rattle.base.specs.All.{all}
+use Rattle.base.specs.AllLaws.{all-join}
 use Rattle.base.specs.AllLaws.{all-true}
 use Rattle.base.specs.Tests.{and-cases}
 use Rattle.base.specs.Limits.{rowsWithin}
@@ -55,28 +56,16 @@ use Rattle.reuse.proofs.Kept.{FactorsKept, left-kept, filled-in, refact
 
 -- ---- the questions that both put
 
-with-and : (t : Bool) (l : List Bool) → allWith t l ≡ (t && all l)
-with-and true l = refl
-with-and false [] = refl
-with-and false (x ∷ l) = with-and false l
-
-all-and : (a b : List Bool) → all (a ++ b) ≡ (all a && all b)
-all-and a b = go true a ∙ with-and (all a) b
-  where
-    go : (t : Bool) (a : List Bool) → allWith t (a ++ b) ≡ allWith (allWith t a) b
-    go t [] = refl
-    go t (x ∷ a) = go (t && x) a
-
 shape-all : (f : Form) (i : Input) (z : Sizes) → shape f i z ≡ Pass → (rowsWithin (i .n) ≡ true) × (all (matrixTests i) ≡ true) × (all (bufferTests f (i .n) z) ≡ true)
 unfolding shape askShape
 shape-all f i z e =
     let p = both-pass (holds (rowsWithin (i .n)) Rows) (holds (all (matrixTests i ++ bufferTests f (i .n) z)) Lengths) e in
-    let q = and-cases (all (matrixTests i)) (all (bufferTests f (i .n) z)) (sym (all-and (matrixTests i) (bufferTests f (i .n) z)) ∙ holds-pass (all (matrixTests i ++ bufferTests f (i .n) z)) Lengths (p .1)) in
+    let q = and-cases (all (matrixTests i)) (all (bufferTests f (i .n) z)) (sym (all-join (matrixTests i) (bufferTests f (i .n) z)) ∙ holds-pass (all (matrixTests i ++ bufferTests f (i .n) z)) Lengths (p .1)) in
     (holds-pass (rowsWithin (i .n)) Rows (p .0), q .0, q .1)
 
 shape-by : (n : ℕ) (a b : List Bool) → rowsWithin n ≡ true → all a ≡ true → all b ≡ true → askShape n (a ++ b) ≡ Pass
 unfolding askShape
-shape-by n a b e f g = rw (e, all-and a b, f, g)
+shape-by n a b e f g = rw (e, all-join a b, f, g)
 
 finite-pass : (n : ℕ) (b : List Float) (from : ℕ) → FiniteRight n b → askFinite b from ≡ Pass
 unfolding askFinite notFinite

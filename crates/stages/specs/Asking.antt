@@ -102,7 +102,7 @@ goes-on refuse first rest a s s₀ o r e h g = let p = both-pass first rest (sym
 abbrev unanswered : Asked → Answer
 unanswered a = foundAnswer a noCounts
 
-module _ (f : Form) (i : Input) (l u : SideBuffers) (d x w v : List Float) (m t : List ℕ) where
+module _ (l u : SideBuffers) (d x w v : List Float) (m t : List ℕ) where
   pub as-was : Untouched w m v t → allBuffers l u d x v t ≡ allBuffers l u d x w m
   as-was h = rw (h .0, h .1)
 
@@ -110,16 +110,16 @@ module _ (f : Form) (i : Input) (l u : SideBuffers) (d x w v : List Float) (m t 
   unfolding scratchCleared blank
   blank-scratch h = rw (h .0, h .1)
 
-  module _ (a : Asked) (r : Answer) where
-    pub structure-stops : StructureAsking f i (sizes (allBuffers l u d x w m)) w m v t a → isStop a ≡ true → r ≡ foundAnswer a noCounts
-        → ended r (allBuffers l u d x v t) ≡ structure f i (allBuffers l u d x w m)
-    unfolding structure
-    structure-stops g h e = stops-call Refused unanswered (λ q. refl) _ _ a r _ _ _ _ (g .answer) h e (λ y. as-was (g .untouched y)) (λ y k. blank-scratch (g .blanked y k))
+module _ (f : Form) (i : Input) (l u : SideBuffers) (d x w v : List Float) (m t : List ℕ) (a : Asked) (r : Answer) where
+  pub structure-stops : StructureAsking f i (sizes (allBuffers l u d x w m)) w m v t a → isStop a ≡ true → r ≡ foundAnswer a noCounts
+      → ended r (allBuffers l u d x v t) ≡ structure f i (allBuffers l u d x w m)
+  unfolding structure
+  structure-stops g h e = stops-call Refused unanswered (λ q. refl) _ _ a r _ _ _ _ (g .answer) h e (λ y. as-was l u d x w v m t (g .untouched y)) (λ y k. blank-scratch l u d x w v m t (g .blanked y k))
 
-    pub solve-stops : SolveAsking f i (sizes (allBuffers l u d x w m)) w m v t a → isStop a ≡ true → r ≡ foundAnswer a noCounts
-        → ended r (allBuffers l u d x v t) ≡ solve f i (allBuffers l u d x w m)
-    unfolding solve
-    solve-stops g h e = stops-call Refused unanswered (λ q. refl) _ _ a r _ _ _ _ (g .answer) h e (λ y. as-was (g .untouched y)) (λ y k. blank-scratch (g .blanked y k))
+  pub solve-stops : SolveAsking f i (sizes (allBuffers l u d x w m)) w m v t a → isStop a ≡ true → r ≡ foundAnswer a noCounts
+      → ended r (allBuffers l u d x v t) ≡ solve f i (allBuffers l u d x w m)
+  unfolding solve
+  solve-stops g h e = stops-call Refused unanswered (λ q. refl) _ _ a r _ _ _ _ (g .answer) h e (λ y. as-was l u d x w v m t (g .untouched y)) (λ y k. blank-scratch l u d x w v m t (g .blanked y k))
 
 module _ (f : Form) (i : Input) (s : Buffers) (w v : List Float) (m t : List ℕ) (a : Asked) (r : Outcome Answer) where
   pub structure-goes : StructureAsking f i (sizes s) w m v t a → a ≡ Pass → r ≡ structurePlaced f i s → r ≡ structure f i s

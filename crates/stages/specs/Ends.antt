@@ -20,7 +20,7 @@ use Rattle.arithmetic.specs.Arith.{Out, ok, met, Result}
 use Rattle.factor.specs.Factoring.{lists, written, LowerPlaced, Factors, FactoredAs}
 use Rattle.factor.specs.declared.Factored.{Factored}
 use Rattle.factor.specs.declared.Factored.the-variants.{Solved, Zero, Overflow}
-use Rattle.columns.specs.Sides.{Inverse}
+use Rattle.questions.specs.Lent.{Inverse}
 use Rattle.symbolic.specs.Pass.{slotsOf, foundAnswer, Analyzed, AnalyzedBoth}
 use Rattle.base.specs.declared.Form.{Form}
 use Rattle.base.specs.declared.Form.the-variants.{Plain, Shared, ByRow}

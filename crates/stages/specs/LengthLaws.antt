@@ -7,7 +7,8 @@ use native.Mathlib.Omega.{arith}
 use lib.ListN.{length}
 use lib.Dec.{leb, eqb}
 use borrow.Author.Tests.{leb-true}
-use Rattle.base.specs.All.{all, allWith}
+use Rattle.base.specs.All.{all}
+use Rattle.base.specs.AllLaws.{all-join}
 use Rattle.base.specs.Tests.{and-cases}
 use Rattle.base.specs.Answers.{holds, andThen}
 use Rattle.base.specs.Limits.{maxRows, maxEntries, rowsWithin}
@@ -25,21 +26,6 @@ use Rattle.base.specs.declared.Refusal.the-variants.{Rows, Lengths}
 use Rattle.base.specs.declared.Asked.the-variants.{Stop}
 
 -- ---- tests in groups
-
-with-all : (t : Bool) (l : List Bool) → allWith t l ≡ (t && all l)
-with-all true l = refl
-with-all false l = with-false l
-  where
-    with-false : (l : List Bool) → allWith false l ≡ false
-    with-false [] = refl
-    with-false (b ∷ l) = with-false l
-
-with-append : (t : Bool) (a b : List Bool) → allWith t (a ++ b) ≡ allWith (allWith t a) b
-with-append t [] b = refl
-with-append t (x ∷ a) b = with-append (t && x) a b
-
-pub all-join : (a b : List Bool) → all (a ++ b) ≡ (all a && all b)
-all-join a b = with-append true a b ∙ with-all (all a) b
 
 -- a group in front of others
 pub all-next : (a b : List Bool) (s t : Bool) → s ≡ all a → t ≡ all b → (s && t) ≡ all (a ++ b)

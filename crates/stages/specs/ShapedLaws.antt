@@ -21,11 +21,9 @@ use Rattle.outcome.specs.Structure.{fits, askPlace, askPlaces}
 use Rattle.outcome.specs.Solve.{shape}
 use Rattle.base.specs.FirstLaws.{both-pass, holds-pass}
 use Rattle.outcome.specs.Placed.{PlacedSide}
-use Rattle.questions.specs.Lent.{Lent}
+use Rattle.questions.specs.Lent.{Lent, Inverse}
 use Rattle.questions.specs.Settled.{Structured}
 use Rattle.questions.specs.SettledLaws.{settled}
-use Rattle.lent.specs.ReadingLaws.{order-read}
-use Rattle.columns.specs.Sides.{Inverse}
 use Rattle.symbolic.specs.Pass.{slotsOf, MatrixLent, PlainLent, SharedLent, RowLent}
 use Rattle.factor.specs.Factoring.{PlacedLists, Workspace, Starts, LowerPlaced}
 use Rattle.base.specs.declared.Refusal.the-variants.{Rows, Lengths}
@@ -33,7 +31,7 @@ use Rattle.base.specs.declared.Asked.the-variants.{Pass}
 use Rattle.base.specs.declared.Side.the-variants.{Lower, Upper}
 use Rattle.base.specs.declared.Form.{Form}
 use Rattle.base.specs.declared.Form.the-variants.{Plain, Shared, ByRow}
-use Rattle.stages.specs.LengthLaws.{all-join}
+use Rattle.base.specs.AllLaws.{all-join}
 use Rattle.stages.specs.Shaped.{sideOf, sizesOf, structureShape, SideFits, LowerFits, StructureShaped, SolveShaped, pattern, SolveDue, FactorDue, SolutionDue}
 
 -- ---- the lengths, from the tests
@@ -195,7 +193,7 @@ factor-due f i z l w x h em ed ew ex low up inv =
         reciprocals = ed ∙ g .reciprocals;
         scratch = omega (arith, ew, s .work);
         slots = omega (arith, em, s .marks);
-        inverse = λ j b. order-read (i .n) (w .marks) j b ∙ inv .place j b;
+        inverse = inv;
       };
       solution = ex ∙ g .solution;
     }

@@ -5,8 +5,10 @@ use mathlib.Core.List.{List, [], _∷_, List·Memᴰ·eq-of-singleton}
 use native.Mathlib.Omega.{arith}
 use lib.ListN.{take}
 use Rattle.base.specs.Lists.{listAt}
+use Rattle.base.specs.Index.{indexBound}
+use Rattle.lent.specs.Reading.{Below}
 use Rattle.placement.specs.Placing.{countAbove, tails}
-use Rattle.storing.specs.Slices.{Tailed, Small, Ready}
+use Rattle.storing.specs.Slices.{Tailed, Ready}
 use Rattle.storing.specs.declared.Way.the-variants.{OneAfterAnother, Sharing}
 use Rattle.storing.specs.declared.Extent.{Extent}
 
@@ -32,7 +34,7 @@ tailed =
       most = omega arith;
     }
 
-small : Small (2 ∷ [])
+small : Below indexBound (2 ∷ [])
 small j h = let e : j ≡ 0 = omega arith in rw e (omega arith)
 
 ready-sharing : Ready Sharing starts runs index 4 (0 ∷ []) (2 ∷ []) 1 extent

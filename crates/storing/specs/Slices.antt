@@ -7,7 +7,7 @@ use lib.ListN.{length, take, drop, getD, set}
 use lib.Seq.{paste}
 use lib.Dec.{ltb, leb, eqb}
 use Rattle.base.specs.Lists.{listAt}
-use Rattle.lent.specs.Reading.{ListIn}
+use Rattle.lent.specs.Reading.{ListIn, Below}
 use Rattle.placement.specs.Placing.{tails, agree, State}
 use Rattle.placement.specs.Placing as placement
 use Rattle.placement.specs.ListLaws.{Ascends}
@@ -75,10 +75,6 @@ pub record Planned (slots list : List ℕ) (p : placement.Plan) (r : Plan) : Typ
   pub start-in : r .start ≤ length slots
   pub have-in : r .have ≤ length list
 
--- each entry fits a slot of an index store
-abbrev pub Small : List ℕ → Type 0
-Small list = (j : ℕ) → j < length list → getD list j 0 < indexBound
-
 -- what the code asks of the slices before it places or compares the list of place k
 pub record Ready (way : Way) (starts runs index : List ℕ) (values : ℕ) (row list : List ℕ) (k : ℕ) (s : Extent) : Type 0 where
   pub readable : Reads way starts runs (take (s .used) index) k row list
@@ -89,7 +85,7 @@ pub record Ready (way : Way) (starts runs index : List ℕ) (values : ℕ) (row 
   pub start-room : k + 1 < length starts
   pub index-limit : length index < 4294967296
   pub value-limit : values < 4294967296
-  pub small : Small list
+  pub small : Below indexBound list
 
 module _ (way : Way) (starts runs index : List ℕ) (values : ℕ) (row list : List ℕ) (k : ℕ) (s : Extent) where
   -- the plan over the used slots
@@ -121,7 +117,7 @@ pub record Writable (starts index list : List ℕ) (k : ℕ) (s : Extent) (have 
   pub index-room : s .used + (length list - have) ≤ length index
   pub start-room : k + 1 < length starts
   pub entries-limit : s .entries + length list < 4294967296
-  pub small : Small list
+  pub small : Below indexBound list
 
 -- the slots after the used ones hold what the list lacks, list start k + 1 the entries so far; all else is as it was
 pub record WrittenBy (starts index list : List ℕ) (k : ℕ) (s : Extent) (have : ℕ) (starts′ index′ : List ℕ) : Type 0 where

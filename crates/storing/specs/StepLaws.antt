@@ -16,8 +16,9 @@ use Rattle.placement.specs.PlacingLaws.{best-at, best-same, Nested, Kept, after
 use Rattle.placement.specs.ListLaws.{asc-least, asc-weaken, among-asc, among-drop, count-tail, count-le}
 use Rattle.storing.specs.Ways.{wayOf, Suited}
 use Rattle.storing.specs.FillNested.{kept}
-use Rattle.storing.specs.Slices.{Reads, Small, Ready, held, planOver, planOf, fitsOf, extentOf, Writes, WrittenBy}
-use Rattle.lent.specs.Reading.{ListIn}
+use Rattle.storing.specs.Slices.{Reads, Ready, held, planOver, planOf, fitsOf, extentOf, Writes, WrittenBy}
+use Rattle.base.specs.Index.{indexBound}
+use Rattle.lent.specs.Reading.{ListIn, Below}
 use Rattle.lent.specs.ReadingLaws.{take-rest}
 use Rattle.storing.specs.LookLaws.{Looked, fits-room}
 use Rattle.storing.specs.Held.{Holding, RowIs, Turn, Stepped, PlaceEnds, PlainEnds}
@@ -104,7 +105,7 @@ module _ {way : Way} {T R : ℕ → List ℕ} {n values k : ℕ} {index₀ start
   here = kept way T R n (turn .suited) k upto
 
   -- what the code asks holds at a turn, where the stores are within 32 bits
-  pub turn-ready : k < length runs → k + 1 < length starts → length index₀ < 4294967296 → values < 4294967296 → Small list
+  pub turn-ready : k < length runs → k + 1 < length starts → length index₀ < 4294967296 → values < 4294967296 → Below indexBound list
       → Ready way starts runs index values row list k s
   turn-ready a b c d e =
       record {

@@ -1,6 +1,6 @@
 -- Step 2: the first place of the row whose list has as many entries above k as k's list, by one entry of each list.
 use Prim.Native.Nat.{ℕ, zero, suc, _+_, _-_, _≤_, _<_}
-use mathlib.Core.Path.{_≡_, refl, sym, ap}
+use mathlib.Core.Path.{_≡_, refl, sym, ap, _∙_}
 use mathlib.Core.Bool.{false}
 use mathlib.Core.List.{List, [], _∷_, _++_}
 use native.Mathlib.Omega.{arith}
@@ -16,7 +16,9 @@ use Rattle.base.specs.declared.Found.the-variants.{At, Nothing}
 use Rattle.placement.specs.Placing.{countAbove, tails, bestFrom, best}
 use Rattle.placement.specs.ListLaws.{Ascends, count-all, count-tail, count-le}
 use Rattle.base.specs.AscLaws.{mem-at}
-use Rattle.storing.specs.Slices.{Tailed, AllTailed, fullAt, IsTail}
+use Rattle.lent.specs.Reading.{lengthIn}
+use Rattle.lent.specs.ReadingLaws.{list-length, list-entry}
+use Rattle.storing.specs.Slices.{Tailed, AllTailed, TailIn, fullAt, IsTail}
 
 count-append : (k : ℕ) (xs ys : List ℕ) → countAbove k (xs ++ ys) ≡ countAbove k xs + countAbove k ys
 unfolding countAbove
@@ -42,18 +44,24 @@ above-test k c m xs a pos h le =
     let b : Ascends (suc k) (getD xs d 0 ∷ drop (suc d) xs) = rw (e, drop-cons xs d 0 in-list) at (count-tail k m xs a) in
     lt-ltb k (getD xs d 0) (b .0))
 
--- ---- by the list that the code reads
+-- ---- by the length that the starts tell, and one entry
 
-module _ (starts runs slots : List ℕ) (k count i : ℕ) (list : List ℕ) (e : list ≡ listAt starts runs slots i) where
-  pub tail-short : length list < count → false ≡ eqb (tails (listAt starts runs slots) k i) count
-  unfolding tails
-  tail-short h =
-      sym (ne-eqb (countAbove k (listAt starts runs slots i)) count (λ q. absurd (omega (arith, count-le k (listAt starts runs slots i), ap length e))))
+pub tail-long : (starts runs slots : List ℕ) (i most : ℕ) → TailIn starts runs slots i most → length (listAt starts runs slots i) ≡ lengthIn starts i
+tail-long starts runs slots i most t = list-length starts runs slots i (t .readable)
 
-  pub tail-told : Tailed starts runs slots k count i → 0 < count → count ≤ length list → (v : ℕ) → v ≡ getD list (length list - count) 0
-      → ltb k v ≡ eqb (tails (listAt starts runs slots) k i) count
+module _ (starts runs slots : List ℕ) (k count i l : ℕ) (r : Tailed starts runs slots k count i) (e : l ≡ lengthIn starts i) where
+  long : length (listAt starts runs slots i) ≡ l
+  long = list-length starts runs slots i (r .readable) ∙ sym e
+
+  pub tail-short : l < count → false ≡ eqb (tails (listAt starts runs slots) k i) count
   unfolding tails
-  tail-told r pos l v q = rw (q, e) (above-test k count 0 (listAt starts runs slots i) (r .ascends) pos (omega (arith, ap length e)) (r .most))
+  tail-short h = sym (ne-eqb (countAbove k (listAt starts runs slots i)) count (λ q. absurd (omega (arith, count-le k (listAt starts runs slots i), long))))
+
+  pub tail-told : 0 < count → count ≤ l → (a v : ℕ) → a ≡ getD runs i 0 → v ≡ getD slots (a + (l - count)) 0 → ltb k v ≡ eqb (tails (listAt starts runs slots) k i) count
+  unfolding tails
+  tail-told pos h a v ea q =
+      let at : getD (listAt starts runs slots i) (l - count) 0 ≡ v = list-entry starts runs slots i (l - count) 0 (omega arith) ∙ ap (λ (s : ℕ). getD slots (s + (l - count)) 0) (sym ea) ∙ sym q in
+      rw (← at, ← long) (above-test k count 0 (listAt starts runs slots i) (r .ascends) pos (omega (arith, long)) (r .most))
 
 -- ---- the best of a row in which no place has more than c
 

@@ -9,8 +9,10 @@ ghost use lib.ListN.{length, getD};
 ghost use lib.Seq.{paste};
 ghost use Rattle.base.specs.Lists.{listAt};
 ghost use Rattle.base.specs.First.{first};
+ghost use Rattle.base.specs.Index.{indexBound};
+ghost use Rattle.lent.specs.Reading.{Below};
 ghost use Rattle.placement.specs.Placing.{tails, firstAt, agree, fresh, overlap};
-ghost use Rattle.storing.specs.Slices.{Tailed, AllTailed, fullAt, asPlan, TailIn, held, Planning, planOver, Planned, Small, Ready, lookOf, Writable, WrittenBy, Standing, sameAt};
+ghost use Rattle.storing.specs.Slices.{Tailed, AllTailed, fullAt, asPlan, TailIn, held, Planning, planOver, Planned, Ready, lookOf, Writable, WrittenBy, Standing, sameAt};
 ghost use Rattle.storing.specs.Held.{PlaceEnds, PlainEnds, CheckEnds};
 ghost use Rattle.storing.specs.declared.Way.{Way};
 use base::Found;
@@ -29,8 +31,7 @@ fn tail_start(starts: &[u32], runs: &[u32], slots: &[Index], i: Place, most: usi
     ensures { λ r. ⌜ r ≡ getD (now (runs .entry)) (i .0) 0 + (length (listAt (now (starts .entry)) (now (runs .entry)) (now (slots .entry)) (i .0)) - most) ⌝ }
 {
     let p = i.0 as usize;
-    let list = lent::list_at(starts, runs, slots, p);
-    base::slot(runs[p]) + (list.len() - most)
+    base::slot(runs[p]) + (lent::list_length(starts, p) - most)
 }
 
 // Tells whether place i's list has count entries above k. It ascends and has no more of them, so one entry tells.
@@ -39,12 +40,13 @@ fn has_tail(starts: &[u32], runs: &[u32], slots: &[Index], i: Place, k: Place, c
     requires { ⌜ 0 < count ⌝ }
     ensures { λ r. ⌜ r ≡ eqb (tails (listAt (now (starts .entry)) (now (runs .entry)) (now (slots .entry))) (k .0) (i .0)) count ⌝ }
 {
-    let list = lent::list_at(starts, runs, slots, i.0 as usize);
-    if list.len() < count {
+    let p = i.0 as usize;
+    let length = lent::list_length(starts, p);
+    if length < count {
         return false;
     }
-    let first = list.len() - count;
-    k.0 < base::number(list[first])
+    let at = base::slot(runs[p]) + (length - count);
+    k.0 < base::number(slots[at])
 }
 
 // "the first whose T(i) has the most entries above k", where that number is count: its index in the row.
@@ -210,7 +212,7 @@ fn number32(x: usize) -> u32
 // What a list lacks goes after the used slots.
 fn append(index: &mut [Index], used: usize, rest: &[u32])
     requires { ⌜ used + length (now rest) ≤ length (now index) ⌝ }
-    requires { ⌜ Small (now rest) ⌝ }
+    requires { ⌜ Below indexBound (now rest) ⌝ }
     ensures { λ _. ⌜ now (index .exit) ≡ paste (now (index .entry)) used (now (rest .entry)) (length (now (rest .entry))) ⌝ }
 {
     let mut j: usize = 0;

@@ -12,9 +12,9 @@ use Rattle.base.specs.Lists.{sum, total}
 use Rattle.base.specs.AscLaws.{asc-at, length-asc}
 use Rattle.fill.specs.Fill.{Pattern, filled, upperRow, lowerRow, flip}
 use Rattle.placement.specs.PlacingLaws.{room}
-use Rattle.lent.specs.Reading.{ListIn}
+use Rattle.lent.specs.Reading.{lengthIn, ListIn}
 use Rattle.marks.specs.Marks.{members}
-use Rattle.marks.specs.Rows.{Stored, Renewed, rowSteps, lengthIn, Countable}
+use Rattle.marks.specs.Rows.{Stored, Renewed, rowSteps, Countable}
 use Rattle.marks.specs.FillLaws.{upper-below}
 use Rattle.marks.specs.ListLaws.{lower-members, lower-le, upper-le, row-products-is, held-countable, products-fit}
 use Rattle.storing.specs.Ways.{wayOf, Suited}

@@ -11,6 +11,7 @@ use Rattle.base.specs.declared.Side.the-variants.{Lower, Upper}
 use Rattle.fill.specs.Fill.{Pattern, filled}
 use Rattle.matrix.specs.Input.{Input}
 use Rattle.lent.specs.ReadingLaws.{order-read}
+use Rattle.questions.specs.ScatterLaws.{inverse-same}
 use Rattle.lent.specs.Reading.{But, orderOf}
 use Rattle.marks.specs.Marks.{Room, Base, Holds, Unmarked, Parts}
 use Rattle.marks.specs.MarkLaws.{holds-kept, unmarked-stamped}
@@ -74,15 +75,11 @@ foreign-cuts Lower n k q l h f w = let g = f (omega arith) in absurd (omega (ari
 pub apart-cuts : (side : Side) (n k : ℕ) (s u : List ℕ) → length u ≡ length s → k < n → But (cutsOf side n) (cutsOf side n + k + 1) s u → Apart side n s u
 apart-cuts side n k s u e l b = apart-of side n s u e (λ q h f. b q (foreign-cuts side n k q l h f))
 
--- the order that stands in scratch
-pub order-apart : {side : Side} {n : ℕ} {s u : List ℕ} → Apart side n s u → (c : ℕ) → c < n → getD (orderOf n u) c 0 ≡ getD (orderOf n s) c 0
-order-apart {side} {n} {s} {u} a c h = sym (order-read n u c h) ∙ a .order (n + c) (omega arith) (omega arith) ∙ order-read n s c h
-
 pub begun-apart : {side : Side} {i : Input} {s u : List ℕ} → Apart side (i .n) s u → Begun i s → Begun i u
 begun-apart a b = record {
   few = b .few;
   sound = b .sound;
-  inverse = record { place = λ j h. order-apart a j h ∙ b .inverse .place j h };
+  inverse = inverse-same (λ j h. a .order (_) (omega arith) (omega arith)) (b .inverse);
   space = record { small = b .space .small; long = omega (arith, b .space .long, a .size) };
 }
 

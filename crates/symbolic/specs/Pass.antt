@@ -19,7 +19,8 @@ use Rattle.matrix.specs.Input.{Input, inputOf, stored}
 use Rattle.marks.specs.Marks.{Fresh}
 use Rattle.marks.specs.Rows.{rowSteps}
 use Rattle.columns.specs.Columns.{Ready}
-use Rattle.columns.specs.Sides.{Inverse, rowsIn}
+use Rattle.questions.specs.Lent.{Inverse}
+use Rattle.columns.specs.Sides.{rowsIn}
 use Rattle.questions.specs.Settled.{Structured}
 use Rattle.base.specs.declared.SideSizes.{SideSizes}
 use Rattle.base.specs.declared.Sizes.{Sizes}

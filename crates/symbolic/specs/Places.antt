@@ -15,7 +15,8 @@ use Rattle.placement.specs.PlacingLaws.{room}
 use Rattle.marks.specs.Marks.{Room, Base, Fresh, Holds}
 use Rattle.lent.specs.Reading.{But}
 use Rattle.marks.specs.Rows.{Stored, Cuts, PlaceReady, rowSteps}
-use Rattle.columns.specs.Sides.{sidePattern, SideReady, Inverse, Sound, rowsIn}
+use Rattle.questions.specs.Lent.{Inverse}
+use Rattle.columns.specs.Sides.{sidePattern, SideReady, Sound, rowsIn}
 use Rattle.storing.specs.Ways.{wayOf}
 use Rattle.storing.specs.Held.{Holding}
 use Rattle.storing.specs.declared.Way.{Way}

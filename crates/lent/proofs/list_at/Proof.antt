@@ -4,13 +4,10 @@ use Rattle.lent.proofs.list_at.Statement.{statement}
 use Rattle.lent.proofs.list_at.Tie as tie
 
 returns : tie.Need-returns
-returns c =
-    let b = c .before in
-    part-is _ _ _ _ _ _ _ (b .before .before .before .before .slot .ensures .0) (b .before .before .slot2 .ensures .0) (b .slot3 .ensures .0)
+returns c = part-is _ _ _ _ _ _ (c .before .before .slot .ensures .0) (c .before .list-length .ensures .0)
 
 pub list-at-spec : {M : Type 1} → statement M
 list-at-spec =
     tie.close
-    (tie.spec (λ c. search needs) (λ c. search needs) (λ c κs. search needs) (λ c. search needs) (λ c. search needs) (λ c κs. search needs)
-    (λ c. search needs) (λ c. search needs) (λ c. search needs) (λ c κs. search needs) (λ c. search needs) (λ c. search needs) (λ c. search needs)
-    (λ c. search needs) (λ c. search needs) (λ c. search needs) returns)
+    (tie.spec (λ c. search needs) (λ c. search needs) (λ c κs. search needs) (λ c κs. search needs) (λ c. search needs) (λ c. search needs) (λ c. search needs)
+    (λ c. search needs) (λ c. search needs) returns)
