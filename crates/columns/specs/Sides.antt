@@ -1,12 +1,12 @@
 -- M' by side: the rows of M' above the diagonal, its columns below. Definitions only.
 use mathlib.Core.List.{List}
 use mathlib.Core.Path.{_≡_}
-use Prim.Native.Nat.{ℕ, _+_, _<_}
-use lib.ListN.{length, getD}
+use Prim.Native.Nat.{ℕ, _+_}
+use lib.ListN.{length}
 use Rattle.base.specs.declared.Side.{Side}
 use Rattle.base.specs.declared.Side.the-variants.{Lower, Upper}
 use Rattle.fill.specs.Fill.{Pattern, flip}
-use Rattle.matrix.specs.Input.{Input, ic}
+use Rattle.matrix.specs.Input.{Input}
 use Rattle.lent.specs.Reading.{orderOf}
 use Rattle.questions.specs.Settled.{Structured}
 use Rattle.marks.specs.Marks.{stamped}

@@ -1,7 +1,7 @@
 -- Lower row k found anew, in the forms that keep no lower rows: from what its calls leave, and between two rows.
-use mathlib.Core.Path.{_≡_, refl, sym, ap, _∙_}
+use mathlib.Core.Path.{_≡_, sym, ap, _∙_}
 use mathlib.Core.List.{List}
-use Prim.Native.Nat.{ℕ, suc, _+_, _<_, _≤_}
+use Prim.Native.Nat.{ℕ, _+_, _<_, _≤_}
 use native.Mathlib.Omega.{arith}
 use lib.ListN.{length, getD, take, drop, length-drop}
 use lib.Seq.{getD-take, getD-drop, ext-getD, length-take-le}
@@ -24,7 +24,7 @@ use Rattle.marks.specs.ListLaws.{lower-members, lower-marks, lower-read, lower-
 use Rattle.marks.specs.Turn.{loaded-cuts, closed-marks, place-turn}
 use Rattle.factor.specs.Factoring.{PlacedLists, Workspace, Going, RowDue, Findable, LowerFound, lowerIn}
 use Rattle.factor.specs.SystemLaws.{placed-shape}
-use Rattle.base.specs.Scratch.{blocksFrom, upperCuts, cursorsFrom, listFrom, zFrom}
+use Rattle.base.specs.Scratch.{blocksFrom, upperCuts, cursorsFrom, listFrom}
 
 -- ---- one finding, from what its calls leave
 

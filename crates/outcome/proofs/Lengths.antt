@@ -1,8 +1,8 @@
 -- Every buffer is as long at exit as at entry: what the definition says of them can be held.
-use mathlib.Core.Path.{_≡_, refl, sym, ap, ap₂, _∙_}
-use mathlib.Core.Bool.{Bool, true, _&&_}
+use mathlib.Core.Path.{_≡_, refl, sym, ap, _∙_}
+use mathlib.Core.Bool.{true}
 use mathlib.Core.List.{List, [], _∷_, _++_, map}
-use Prim.Native.Nat.{ℕ, zero, suc, _+_, _-_, _*_, _≤_, _<_}
+use Prim.Native.Nat.{ℕ, zero, suc, _+_, _-_, _≤_, _<_}
 use native.Mathlib.Omega.{arith}
 use native.Mathlib.Numerals.{add-one}
 use lib.ListN.{length, getD, replicate, length-append, length-replicate, length-map}
@@ -17,17 +17,16 @@ use Rattle.base.specs.Answers.{holds}
 use Rattle.base.specs.All.{all}
 use Rattle.base.specs.AllLaws.{all-true}
 use Rattle.base.specs.Limits.{rowsWithin}
-use Rattle.outcome.specs.Buffers.{askShape, SideBuffers, Buffers, sideSizes, sizes, sideOf, matrixTests, bufferTests, Outcome, stop, scratchCleared, sideCleared, cleared}
+use Rattle.outcome.specs.Buffers.{askShape, Buffers, sideSizes, sizes, sideOf, matrixTests, bufferTests, stop, scratchCleared, sideCleared, cleared}
 use Rattle.base.specs.declared.SideSizes.{SideSizes}
 use Rattle.base.specs.declared.Sizes.{Sizes}
 use Rattle.base.specs.ZerosLaws.{padded-length}
-use Rattle.fill.specs.Fill.{Pattern, flip, upperRow, lowerRow, upper}
+use Rattle.fill.specs.Fill.{Pattern, flip, upperRow, upper}
 use Rattle.base.specs.Lists.{nought, table, padded, joined}
 use Rattle.base.specs.TableLaws.{length-table}
 use Rattle.placement.specs.Placing.{Way, after, placed, startOf}
-use Rattle.arithmetic.specs.Arith.{Fault, Out, ok, met, System, Row, none, Result, wholeRun}
+use Rattle.arithmetic.specs.Arith.{Out, ok, met, Row, none, Result, wholeRun}
 use Rattle.arithmetic.specs.Meets.{judged-value}
-use Rattle.base.specs.declared.Refusal.{Refusal}
 use Rattle.base.specs.declared.Refusal.the-variants.{Rows, Lengths}
 use Rattle.base.specs.declared.Asked.{Asked}
 use Rattle.base.specs.declared.Asked.the-variants.{Pass, Stop}

@@ -12,7 +12,6 @@ use Rattle.base.specs.All.{all}
 use Rattle.base.specs.AllLaws.{all-true}
 use Rattle.base.specs.Lists.{blank}
 use Rattle.base.specs.Tests.{and-cases}
-use Rattle.base.specs.Answers.{andThen}
 use Rattle.base.specs.Limits.{maxRows, rowsWithin}
 use Rattle.base.specs.declared.Form.{Form}
 use Rattle.base.specs.declared.Form.the-variants.{Plain, Shared}
@@ -30,7 +29,7 @@ use Rattle.arithmetic.specs.Arith.{Out, ok, met, judged}
 use Rattle.arithmetic.specs.Again.{wholeAgain}
 use Rattle.arithmetic.specs.Stopping.{solvedAgain}
 use Rattle.arithmetic.specs.StoppingLaws.{solvedAgain-is}
-use Rattle.outcome.specs.Buffers.{SideBuffers, sideBuffers, Buffers, allBuffers, sizes, rightTests, listTests, vectorTests, scratchTests, bufferTests, askShape, scratchCleared, Outcome, ended, stop}
+use Rattle.outcome.specs.Buffers.{SideBuffers, sideBuffers, Buffers, allBuffers, sizes, rightTests, listTests, vectorTests, scratchTests, bufferTests, askShape, scratchCleared, ended, stop}
 use Rattle.outcome.specs.Resolve.{givenList, givenValues, misplaced, badList, badAt, askFactors, factorsOf, withSolution, resolved, resolve}
 use Rattle.questions.specs.Lent.{RightLent}
 use Rattle.questions.specs.Settled.{Finite}

@@ -1,6 +1,6 @@
 -- Another right side over factors found before gives a solve's x, or its 13.
 use mathlib.Core.Path.{_≡_, refl, sym, ap, _∙_}
-use mathlib.Core.Bool.{Bool, true, false, _&&_}
+use mathlib.Core.Bool.{Bool, true, false}
 use mathlib.Core.List.{List, [], _∷_, _++_, map}
 use Prim.Native.Nat.{ℕ, _+_}
 use native.Mathlib.Omega.{arith}
@@ -10,11 +10,10 @@ use borrow.Author.Tests.{eq-eqb, eqb-true, not-false}
 use lib.Ieee.Scale.{finite}
 use Rattle.base.specs.Lists.{nought}
 use Rattle.base.specs.First.{first}
-use Rattle.base.specs.FirstLaws.{first-all, first-none}
+use Rattle.base.specs.FirstLaws.{first-all, first-none, holds-pass, both-pass}
 use Rattle.base.specs.TableLaws.{table-ext}
 use Rattle.base.specs.All.{all}
-use Rattle.base.specs.AllLaws.{all-join}
-use Rattle.base.specs.AllLaws.{all-true}
+use Rattle.base.specs.AllLaws.{all-join, all-true}
 use Rattle.base.specs.Tests.{and-cases}
 use Rattle.base.specs.Limits.{rowsWithin}
 use Rattle.base.specs.Answers.{numberOf, numberOfAnswer, numberOfEnd, holds, andThen}
@@ -43,7 +42,6 @@ use Rattle.outcome.specs.Structure.{counts}
 use Rattle.outcome.specs.Solve.{system, listed, faultOf, multiplier, valuesOf, valuesKept, pivotsKept, kept, left, concluded, shape, solve}
 use Rattle.outcome.specs.Refactor.{askPresented, refilled, refactor}
 use Rattle.outcome.specs.Resolve.{factorsOf, withSolution, resolved, resolve}
-use Rattle.base.specs.FirstLaws.{holds-pass, both-pass}
 use Rattle.outcome.proofs.Asking.{number-some, all-append}
 use Rattle.outcome.proofs.Answers.{left-x, solve-left}
 use Rattle.outcome.proofs.Meaning.{listed-stops}

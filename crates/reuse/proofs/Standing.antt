@@ -11,7 +11,7 @@ use lib.Ieee.{Float}
 use borrow.Author.Tests.{eqb-true, eq-eqb, leb-true, le-leb, not-false}
 use Rattle.base.specs.Lists.{table, padded}
 use Rattle.base.specs.First.{first}
-use Rattle.base.specs.FirstLaws.{first-all, first-none}
+use Rattle.base.specs.FirstLaws.{first-all, first-none, stop-pass}
 use Rattle.base.specs.TableLaws.{getD-table}
 use Rattle.base.specs.Tests.{and-cases}
 use Rattle.base.specs.Answers.{absent}
@@ -36,7 +36,6 @@ use Rattle.outcome.specs.Structure.{fits, askPlace, askPlaces, runsKept, sidePl
 use Rattle.outcome.specs.Placed.{lists-kept}
 use Rattle.outcome.specs.Refactor.{sameRun, sameAt, passes, differs, askPresented, revalued}
 use Rattle.outcome.specs.Resolve.{runsOf}
-use Rattle.base.specs.FirstLaws.{stop-pass}
 use Rattle.outcome.proofs.Places.{Passes}
 use Rattle.reuse.specs.Reuse.{Keeps}
 

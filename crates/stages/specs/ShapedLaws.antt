@@ -8,7 +8,7 @@ use lib.ListN.{length}
 use lib.Dec.{leb}
 use borrow.Author.Tests.{eqb-true, leb-true}
 use Rattle.base.specs.All.{all}
-use Rattle.base.specs.AllLaws.{all-true}
+use Rattle.base.specs.AllLaws.{all-true, all-join}
 use Rattle.base.specs.Tests.{and-cases}
 use Rattle.base.specs.Answers.{holds, andThen}
 use Rattle.fill.specs.Fill.{Pattern}
@@ -31,7 +31,6 @@ use Rattle.base.specs.declared.Asked.the-variants.{Pass}
 use Rattle.base.specs.declared.Side.the-variants.{Lower, Upper}
 use Rattle.base.specs.declared.Form.{Form}
 use Rattle.base.specs.declared.Form.the-variants.{Plain, Shared, ByRow}
-use Rattle.base.specs.AllLaws.{all-join}
 use Rattle.stages.specs.Shaped.{sideOf, sizesOf, structureShape, SideFits, LowerFits, StructureShaped, SolveShaped, pattern, SolveDue, FactorDue, SolutionDue}
 
 -- ---- the lengths, from the tests

@@ -1,12 +1,10 @@
 use Rattle.factor.proofs.Parts.{keep-ready}
-use mathlib.Core.Path.{sym}
-use lib.Seq.{length-take-le}
+use mathlib.Core.Path.{sym, _∙_, ap₂}
+use lib.Seq.{length-take-le, sets}
 use Rattle.numeric.specs.Stores.{gathered}
 use Prim.Native.Nat.{ℕ}
-use lib.Seq.{sets}
 use lib.ListN.{length, take}
 use mathlib.Core.List.{List}
-use mathlib.Core.Path.{_∙_, ap₂}
 use denote.Ref.{now}
 use borrow.Author.Needs.{needs}
 use Rattle.factor.proofs.keep_plain.Statement.{statement}

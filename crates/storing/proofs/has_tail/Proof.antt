@@ -1,4 +1,3 @@
-use native.Mathlib.Omega.{arith}
 use borrow.Author.Needs.{needs}
 use Rattle.storing.specs.TailLaws.{tail-short, tail-told}
 use Rattle.storing.proofs.has_tail.Statement.{statement}

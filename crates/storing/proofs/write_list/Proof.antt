@@ -1,9 +1,8 @@
 use Prim.Native.Nat.{_+_}
 use mathlib.Core.Path.{ap, _∙_}
 use native.Mathlib.Omega.{arith}
-use lib.ListN.{length}
+use lib.ListN.{length, length-drop}
 use borrow.Author.Needs.{needs}
-use lib.ListN.{length-drop}
 use lib.Seq.{getD-drop}
 use Rattle.lent.specs.ReadingLaws.{take-rest}
 use Rattle.storing.specs.LoopLaws.{paste-rest, set-same}
