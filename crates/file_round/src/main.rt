@@ -42,7 +42,7 @@ fn odd_values() -> [f64; 40] {
 }
 
 fn columns() -> [Index; 40] {
-    let mut out = [0u16; 40];
+    let mut out: [Index; 40] = [0; 40];
     let mut i: Index = 0;
     while i < 40 {
         out[i as usize] = (i * 5 + 3) % 8;
@@ -72,10 +72,10 @@ fn print_digest(bytes: &[u8]) {
 // Reads the file of the matrix below into dirty buffers, and writes what was read over `again`.
 fn copy(file: &[u8], again: &mut [u8]) {
     let mut starts = [9u32; 9];
-    let mut columns = [9u16; 40];
+    let mut columns: [Index; 40] = [9; 40];
     let mut values = [9.0f64; 40];
-    let mut r = [9u16; 8];
-    let mut c = [9u16; 8];
+    let mut r: [Index; 8] = [9; 8];
+    let mut c: [Index; 8] = [9; 8];
     let mut b = [9.0f64; 8];
     print_end(matrix_file::read_matrix(
         file,
