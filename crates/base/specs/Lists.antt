@@ -1,5 +1,5 @@
 -- The words for lists and sets that every definition uses. A set of numbers is a test ℕ → Bool. Definitions only.
-use mathlib.Core.Bool.{Bool, true, false, false, _||_}
+use mathlib.Core.Bool.{Bool, true, false, _||_}
 use mathlib.Core.List.{List, [], _∷_, _++_}
 use Prim.Native.Nat.{ℕ, zero, suc, _+_, _-_}
 use lib.ListN.{length, getD, take, drop, replicate}
