@@ -84,23 +84,23 @@ real_answers() {
     [ "$status" -eq 2 ]
 }
 
-# The program and the library come first, since the checks run them; an older library must not stand in for one that
-# cannot be built.
+# The program comes first, since the checks run it. The library is built beside the checks that do not need it; an older
+# one must not stand in for one that cannot be built.
 rm -f target/staticlib/libcapi.a
 one "solve.sh" "does not print the paper's three lines" paper_lines
 one "solve.sh" "a refusal is not printed, or lost output is not told" real_answers
-one "capi" "the static library was not built" rt staticlib capi
+rt staticlib capi >&2 &
+library=$!
 
-checks --features library
 checks --features standin --bin planted
-
-package rust
-package command
-
-checks --features library --bin blocks
-
 one "bench" "its solver differs from the reference" sh -c 'cd bench && cargo test --release --offline --quiet'
 counted "launchers" sh tests/launchers.sh
+
+one "capi" "the static library was not built" wait "$library"
+checks --features library
+package rust
+package command
+checks --features library --bin blocks
 
 echo "$passed passed, $failed failed"
 [ "$failed" -eq 0 ]
