@@ -75,10 +75,6 @@ module _ (o : List ℕ) (n : ℕ) (s : List ℕ) where
   unfolding inverted
   inverse-front = take-at (table (ic o n) n) (drop n s) n (length-table (ic o n) n)
 
-  pub inverse-rest : drop n (inverted o n s) ≡ drop n s
-  unfolding inverted
-  inverse-rest = drop-at (table (ic o n) n) (drop n s) n (length-table (ic o n) n)
-
 module _ (o : List ℕ) (n : ℕ) (s : List ℕ) (room : n ≤ length s) where
   long : length (take n s) ≡ n
   long = length-take-le n s room
@@ -94,7 +90,7 @@ module _ (o : List ℕ) (n : ℕ) (s : List ℕ) (room : n ≤ length s) where
   pub placed-inverse : take n (drop n (invertedAt o n s)) ≡ table (ic o n) n
   placed-inverse = ap (take n) placed-back ∙ inverse-front o n (drop n s)
 
--- it stands where its slots are as they were
+-- the inverse order stands in scratch as long as its slots are as they were
 pub inverse-same : {i : Input} {s u : List ℕ} → ((j : ℕ) → j < i .n → getD u (inverseFrom (i .n) + j) 0 ≡ getD s (inverseFrom (i .n) + j) 0) → Inverse i s → Inverse i u
 inverse-same {i} {s} {u} e h = record { place = λ j l. sym (order-read (i .n) u j l) ∙ e j l ∙ order-read (i .n) s j l ∙ h .place j l }
 

@@ -79,7 +79,7 @@ pub begun-apart : {side : Side} {i : Input} {s u : List ℕ} → Apart side (i .
 begun-apart a b = record {
   few = b .few;
   sound = b .sound;
-  inverse = inverse-same (λ j h. a .order (_) (omega arith) (omega arith)) (b .inverse);
+  inverse = inverse-same (λ j h. a .order _ (omega arith) (omega arith)) (b .inverse);
   space = record { small = b .space .small; long = omega (arith, b .space .long, a .size) };
 }
 
