@@ -13,6 +13,8 @@ use Rattle.base.specs.declared.Answer.{Answer}
 use Rattle.base.specs.declared.Answer.the-variants.{Done, Refused}
 use Rattle.base.specs.declared.Ended.{Ended}
 use Rattle.base.specs.declared.Ended.the-variants as ends
+use Rattle.base.specs.declared.Made.{Made}
+use Rattle.base.specs.declared.Made.the-variants as makes
 use mathlib.Core.Bool.{Bool, true, false}
 
 -- "Questions, in order": the number of each
@@ -79,6 +81,19 @@ abbrev pub placeOfEnd : Ended → ℕ
 placeOfEnd ends.Done = 0
 placeOfEnd (ends.Refused q) = placeOf q
 
+abbrev pub numberOfMade : Made → ℕ
+numberOfMade (makes.Entries e) = 0
+numberOfMade (makes.Refused q) = numberOf q
+
+abbrev pub placeOfMade : Made → ℕ
+placeOfMade (makes.Entries e) = 0
+placeOfMade (makes.Refused q) = placeOf q
+
+-- "and the entry count is returned"
+abbrev pub entriesOf : Made → ℕ
+entriesOf (makes.Entries e) = e
+entriesOf (makes.Refused q) = 0
+
 -- an own number, and an elimination place
 abbrev pub own : ℕ → OwnNumber
 own i = record { 0 = i }
@@ -102,3 +117,18 @@ absent Nothing f = Pass
 abbrev pub andThen : Asked → Asked → Asked
 andThen (Stop q) next = Stop q
 andThen Pass next = next
+
+-- ---- what a call leaves
+
+-- how a call ends, and what its buffers hold then
+pub record Left (R A : Type 0) : Type 0 where
+  pub answer : R
+  pub held : A
+
+abbrev pub left : {R A : Type 0} → R → A → Left R A
+left a h = record { answer = a; held = h }
+
+-- "refusals write nothing": the new contents, or the old
+abbrev pub orUntouched : {R A : Type 0} → (Refusal → R) → Asked → R → A → A → Left R A
+orUntouched refused Pass done new old = left done new
+orUntouched refused (Stop q) done new old = left (refused q) old

@@ -4,7 +4,7 @@ ghost use Prim.Native.Nat.{_<_};
 ghost use lib.Ieee.Scale.{finite};
 ghost use Rattle.base.specs.Lists.{blank, nought};
 ghost use Rattle.base.specs.Index.{indexBound};
-ghost use Rattle.base.specs.Answers.{numberOf, placeOf, numberOfAnswer, placeOfAnswer, countsOf, numberOfEnd, placeOfEnd};
+ghost use Rattle.base.specs.Answers.{numberOf, placeOf, numberOfAnswer, placeOfAnswer, countsOf, numberOfEnd, placeOfEnd, numberOfMade, placeOfMade, entriesOf};
 
 pub mod scratch;
 
@@ -141,6 +141,12 @@ pub enum Ended {
     Refused(Refusal),
 }
 
+// How a call that makes a matrix ends: with so many entries, or not.
+pub enum Made {
+    Entries(usize),
+    Refused(Refusal),
+}
+
 impl Refusal {
     // Gives the paper's number.
     pub fn number(self) -> u32
@@ -256,6 +262,41 @@ impl Ended {
         match a {
             Ended::Done => 0,
             Ended::Refused(q) => q.place(),
+        }
+    }
+}
+
+impl Made {
+    // Gives 0 for made, else the refusal's number.
+    pub fn number(self) -> u32
+        ensures { λ r. ⌜ r ≡ numberOfMade self ⌝ }
+    {
+        let a = self;
+        match a {
+            Made::Entries(_) => 0,
+            Made::Refused(q) => q.number(),
+        }
+    }
+
+    // Gives 0 for made, else the refusal's place.
+    pub fn place(self) -> u32
+        ensures { λ r. ⌜ r ≡ placeOfMade self ⌝ }
+    {
+        let a = self;
+        match a {
+            Made::Entries(_) => 0,
+            Made::Refused(q) => q.place(),
+        }
+    }
+
+    // Gives the entries, 0 after a refusal.
+    pub fn entries(self) -> usize
+        ensures { λ r. ⌜ r ≡ entriesOf self ⌝ }
+    {
+        let a = self;
+        match a {
+            Made::Entries(e) => e,
+            Made::Refused(_) => 0,
         }
     }
 }

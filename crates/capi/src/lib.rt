@@ -12,8 +12,10 @@ ghost use Rattle.outcome.specs.Solve.{solve};
 ghost use Rattle.outcome.specs.Refactor.{refactor};
 ghost use Rattle.outcome.specs.Resolve.{resolve};
 ghost use Rattle.lookup.specs.Lookup.{sideLists};
-ghost use Rattle.matrix_file.specs.MatrixFile.{matrixLists, opened, readOutcome, writeOutcome};
-ghost use Rattle.report.specs.Report.{Told, ToldEnd, asLeft, numberOfShape, shapeSlots, listSlots};
+ghost use Rattle.load.specs.Load.{loadOutcome};
+ghost use Rattle.matrix.specs.Lists.{matrixLists};
+ghost use Rattle.matrix_file.specs.MatrixFile.{opened, readOutcome, writeOutcome};
+ghost use Rattle.report.specs.Report.{Told, ToldEnd, ToldMade, asLeft, numberOfShape, shapeSlots, listSlots};
 use base::Index;
 
 // Finds the fill and its lists, lower rows and T(k) one after another.
@@ -543,4 +545,23 @@ pub extern "C" fn lp_write_matrix(
         (now (report .entry)) (now (report .exit)) (now (file .exit)) q ⌝ }
 {
     report::write_matrix(n, starts, columns, values, r, c, b, file, report)
+}
+
+// Makes the test load of n rows from a seed.
+#[no_mangle]
+pub extern "C" fn lp_test_load(
+    n: usize,
+    seed: u16,
+    starts: &mut [u32],
+    columns: &mut [Index],
+    values: &mut [f64],
+    r: &mut [Index],
+    c: &mut [Index],
+    b: &mut [f64],
+    report: &mut [u64],
+) -> u32
+    ensures { λ q. ⌜ ToldMade (loadOutcome n seed (matrixLists (now (starts .entry)) (now (columns .entry)) (now (values .entry)) (now (r .entry)) (now (c .entry)) (now (b .entry))))
+        (now (report .entry)) (now (report .exit)) (matrixLists (now (starts .exit)) (now (columns .exit)) (now (values .exit)) (now (r .exit)) (now (c .exit)) (now (b .exit))) q ⌝ }
+{
+    report::test_load(n, seed, starts, columns, values, r, c, b, report)
 }

@@ -2,7 +2,7 @@
 use mathlib.Core.Path.{_≡_, refl, sym, ap, _∙_}
 use mathlib.Core.Bool.{Bool, true, false, _&&_}
 use mathlib.Core.List.{List, []}
-use Prim.Native.Nat.{ℕ, _+_, _-_, _≤_, _<_}
+use Prim.Native.Nat.{ℕ, _+_, _-_, _*_, _≤_, _<_}
 use native.Mathlib.Omega.{arith}
 use borrow.Author.Tests.{le-leb}
 use lib.ListN.{length, getD}
@@ -11,7 +11,7 @@ use lib.Ieee.{Float}
 use Rattle.base.specs.All.{all}
 use Rattle.base.specs.First.{first}
 use Rattle.base.specs.Lists.{listAt}
-use Rattle.base.specs.Answers.{numberOf, numberOfAnswer, numberOfEnd, spot, holds}
+use Rattle.base.specs.Answers.{numberOf, numberOfAnswer, numberOfEnd, numberOfMade, spot, holds, left, orUntouched}
 use Rattle.base.specs.Limits.{maxEntries, rowsWithin}
 use Rattle.matrix.specs.Input.{Input, stored}
 use Rattle.matrix.specs.Shape.{shapeOf}
@@ -19,8 +19,10 @@ use Rattle.matrix.specs.Questions.{askStructure, askSolve, askRight}
 use Rattle.arithmetic.specs.Again.{wholeAgain}
 use Rattle.arithmetic.specs.Arith.{Fault, zeroPivot, overflow, Out, ok, met, judged, Result}
 use Rattle.blocks.specs.Blocks.{askBlocks, wholeBlocks, firstWrong}
-use Rattle.matrix_file.specs.MatrixFile.{nOf, eOf, fitsShape, fileLength, lengthsRight, listsRight, askHead, askFile, shaped, opened, askRead, askLengths, askWrite, left, outcome, MatrixLists, readOutcome, writeOutcome}
+use Rattle.matrix.specs.Lists.{lengthsRight, listsRight, MatrixLists}
+use Rattle.matrix_file.specs.MatrixFile.{nOf, eOf, fitsShape, fileLength, askHead, askFile, shaped, opened, askRead, askLengths, askWrite, readOutcome, writeOutcome}
 use Rattle.lookup.specs.Lookup as lookup
+use Rattle.load.specs.Load.{askLoad, loadOutcome}
 use Rattle.lookup.specs.LookupLaws.{sized-no, span-unfit, part-is}
 use Rattle.outcome.specs.Buffers.{Buffers, sizes, askShape, Outcome, ended, stop}
 use Rattle.outcome.specs.Structure.{askPlaces, structure}
@@ -41,6 +43,7 @@ use Rattle.base.specs.declared.Asked.{Asked}
 use Rattle.base.specs.declared.Asked.the-variants.{Pass, Stop}
 use Rattle.base.specs.declared.Answer.the-variants.{Refused}
 use Rattle.base.specs.declared.Ended.the-variants as ends
+use Rattle.base.specs.declared.Made.the-variants as mades
 
 -- ---- an n that is refused
 
@@ -71,8 +74,12 @@ made-1 : (n e : ℕ) → rowsWithin n ≡ false → shapeOf n e ≡ Unshaped Row
 unfolding shapeOf
 made-1 n e o = rw o
 
-declined : {A : Type 0} (a : Asked) (new old : A) (q : Refusal) → a ≡ Stop q → outcome a new old ≡ left (ends.Refused q) old
-declined a new old q e = rw e
+load-1 : (n : ℕ) (l : MatrixLists) → rowsWithin n ≡ false → askLoad n l ≡ Stop Rows
+unfolding askLoad
+load-1 n l o = rw o
+
+declined : {R A : Type 0} (refused : Refusal → R) (a : Asked) (done : R) (new old : A) (q : Refusal) → a ≡ Stop q → orUntouched refused a done new old ≡ left (refused q) old
+declined refused a done new old q e = rw e
 
 span-1 : (f : Form) (side : Side) (k : Place) (n : ℕ) (l u : lookup.SideLists) → rowsWithin n ≡ false → lookup.spanIn f side k n l u ≡ lookup.spanFrom 0 0
 unfolding lookup.spanIn lookup.bothFit
@@ -89,7 +96,7 @@ module _ (n : ℕ) (o : rowsWithin n ≡ false) where
   out m e = ap rowsWithin e ∙ o
 
   pub refuses : Refuses n
-  unfolding structure solve shape refactor resolve opened readOutcome writeOutcome
+  unfolding structure solve shape refactor resolve opened readOutcome writeOutcome loadOutcome
   refuses =
       record {
         structures = λ f i s e. first-stop Refused _ s _ Rows (shape-1 (i .n) _ (out (i .n) e));
@@ -98,8 +105,9 @@ module _ (n : ℕ) (o : rowsWithin n ≡ false) where
         resolves = λ f i s e. first-stop ends.Refused _ s _ Rows (shape-1 (i .n) _ (out (i .n) e));
         makes = λ e. made-1 n e o;
         opens = λ file p e. ap (λ (a : Asked). shaped a (record { rows = nOf file; entries = eOf file })) (file-1 file p (out (nOf file) e));
-        reads = λ file l p e. declined (askRead file l) _ l Rows (read-1 file l (file-1 file p (out (nOf file) e)));
-        writes = λ i file e. declined (askWrite i (length file)) _ file Rows (write-1 i (length file) (out (i .n) e));
+        reads = λ file l p e. declined ends.Refused (askRead file l) _ _ l Rows (read-1 file l (file-1 file p (out (nOf file) e)));
+        writes = λ i file e. declined ends.Refused (askWrite i (length file)) _ _ file Rows (write-1 i (length file) (out (i .n) e));
+        loads = λ s l. declined mades.Refused (askLoad n l) _ _ l Rows (load-1 n l o);
         looks = λ f side k l u. (span-1 f side k n l u o, none-1 f side k n l u o);
       }
 
@@ -162,10 +170,15 @@ unfolding Within
 not-shaped Pass m w e = let z : _≡_ {A = ℕ} 0 1 = cc in omega arith
 not-shaped (Stop q) m w e = let r : q ≡ Rows = cc in omega (arith, w q refl, ap numberOf r)
 
-not-left : {A : Type 0} (a : Asked) (new old : A) → Later a → numberOfEnd (outcome a new old .answer) ≡ 1 → ⊥
+load-later : (n : ℕ) (l : MatrixLists) → rowsWithin n ≡ true → Later (askLoad n l)
+unfolding askLoad
+load-later n l o = rw o (within-holds 2 18 (listsRight n (4 * n) l) Lengths (omega arith) (omega arith))
+
+not-left : {R A : Type 0} (number : R → ℕ) (refused : Refusal → R) (told : (q : Refusal) → number (refused q) ≡ numberOf q) (a : Asked) (done : R) (new old : A)
+    → number done ≡ 0 → Later a → number (orUntouched refused a done new old .answer) ≡ 1 → ⊥
 unfolding Within
-not-left Pass new old w e = omega arith
-not-left (Stop q) new old w e = omega (arith, w q refl)
+not-left number refused told Pass done new old z w e = omega arith
+not-left number refused told (Stop q) done new old z w e = omega (arith, w q refl, told q)
 
 looked : (f : Form) (side : Side) (k : Place) (n : ℕ) (l u : lookup.SideLists) → lookup.sized f n l ≡ true → lookup.sized f n u ≡ true
     → k .0 < n → (o : lookup.SideLists) → o ≡ lookup.ofSide side l u → getD (o .starts) (k .0) 0 ≤ getD (o .starts) (k .0 + 1) 0
@@ -227,7 +240,7 @@ module _ (n : ℕ) (o : rowsWithin n ≡ true) where
   in-limits m e = ap rowsWithin e ∙ o
 
   pub passes : Passes n
-  unfolding opened readOutcome writeOutcome
+  unfolding opened readOutcome writeOutcome loadOutcome
   passes =
       record {
         structures = λ f i s e. structure-not f i s (in-limits (i .n) e);
@@ -236,7 +249,8 @@ module _ (n : ℕ) (o : rowsWithin n ≡ true) where
         resolves = λ f i s e. resolve-not f i s (in-limits (i .n) e);
         makes = λ e. made n e o;
         opens = λ file e. not-shaped (askFile file) _ (file-later file (in-limits (nOf file) e));
-        reads = λ file l e. not-left (askRead file l) _ l (read-later file l (in-limits (nOf file) e));
-        writes = λ i file e. not-left (askWrite i (length file)) _ file (write-later i (length file) (in-limits (i .n) e));
+        reads = λ file l e. not-left numberOfEnd ends.Refused (λ q. refl) (askRead file l) _ _ l refl (read-later file l (in-limits (nOf file) e));
+        writes = λ i file e. not-left numberOfEnd ends.Refused (λ q. refl) (askWrite i (length file)) _ _ file refl (write-later i (length file) (in-limits (i .n) e));
+        loads = λ s l. not-left numberOfMade mades.Refused (λ q. refl) (askLoad n l) _ _ l refl (load-later n l o);
         looks = λ f side k l u. looked f side k n l u;
       }

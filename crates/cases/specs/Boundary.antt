@@ -6,13 +6,15 @@ use Prim.Native.Nat.{ℕ, suc, _+_, _-_, _≤_, _<_}
 use lib.ListN.{length, getD}
 use Rattle.base.specs.Lists.{listAt}
 use Rattle.base.specs.Limits.{maxRows, maxEntries}
-use Rattle.base.specs.Answers.{numberOfAnswer, numberOfEnd}
+use Rattle.base.specs.Answers.{numberOfAnswer, numberOfEnd, numberOfMade, left}
 use Rattle.matrix.specs.Input.{Input}
 use Rattle.matrix.specs.Shape.{shapeOf}
 use Rattle.blocks.specs.Blocks.{askBlocks}
-use Rattle.matrix_file.specs.MatrixFile.{nOf, opened, left, MatrixLists, readOutcome, writeOutcome, matrixAt, written}
+use Rattle.matrix.specs.Lists.{MatrixLists}
+use Rattle.matrix_file.specs.MatrixFile.{nOf, opened, readOutcome, writeOutcome, matrixAt, written}
 use Rattle.matrix_file.specs.Example.{exampleFile}
 use Rattle.lookup.specs.Lookup as lookup
+use Rattle.load.specs.Load.{loadOutcome}
 use Rattle.outcome.specs.Buffers.{Buffers, ended}
 use Rattle.outcome.specs.Structure.{structure}
 use Rattle.outcome.specs.Solve.{solve}
@@ -27,6 +29,7 @@ use Rattle.base.specs.declared.Refusal.the-variants.{Rows}
 use Rattle.base.specs.declared.Asked.the-variants.{Pass}
 use Rattle.base.specs.declared.Answer.the-variants.{Refused}
 use Rattle.base.specs.declared.Ended.the-variants as ends
+use Rattle.base.specs.declared.Made.the-variants as mades
 
 -- every call refuses this n with 1 and writes nothing, whatever else it is lent
 pub record Refuses (n : ℕ) : Type 0 where
@@ -39,6 +42,7 @@ pub record Refuses (n : ℕ) : Type 0 where
   pub opens : (file : List ℕ) → askBlocks file ≡ Pass → nOf file ≡ n → opened file ≡ Unshaped Rows
   pub reads : (file : List ℕ) (l : MatrixLists) → askBlocks file ≡ Pass → nOf file ≡ n → readOutcome file l ≡ left (ends.Refused Rows) l
   pub writes : (i : Input) (file : List ℕ) → i .n ≡ n → writeOutcome i file ≡ left (ends.Refused Rows) file
+  pub loads : (s : ℕ) (l : MatrixLists) → loadOutcome n s l ≡ left (mades.Refused Rows) l
   -- "the empty part at that store's start"
   pub looks : (f : Form) (side : Side) (k : Place) (l u : lookup.SideLists) → (lookup.spanIn f side k n l u ≡ lookup.spanFrom 0 0) × (lookup.lookup f side k n l u ≡ [])
 
@@ -52,6 +56,7 @@ pub record Passes (n : ℕ) : Type 0 where
   pub opens : (file : List ℕ) → nOf file ≡ n → opened file ≡ Unshaped Rows → ⊥
   pub reads : (file : List ℕ) (l : MatrixLists) → nOf file ≡ n → numberOfEnd (readOutcome file l .answer) ≡ 1 → ⊥
   pub writes : (i : Input) (file : List ℕ) → i .n ≡ n → numberOfEnd (writeOutcome i file .answer) ≡ 1 → ⊥
+  pub loads : (s : ℕ) (l : MatrixLists) → numberOfMade (loadOutcome n s l .answer) ≡ 1 → ⊥
   -- with fitting lengths, a list within its store is handed back
   pub looks : (f : Form) (side : Side) (k : Place) (l u : lookup.SideLists) → lookup.sized f n l ≡ true → lookup.sized f n u ≡ true
       → k .0 < n → (o : lookup.SideLists) → o ≡ lookup.ofSide side l u → getD (o .starts) (k .0) 0 ≤ getD (o .starts) (k .0 + 1) 0

@@ -1,4 +1,6 @@
 pub mod Shape
 pub mod Input
+pub mod Lists
+pub mod ListsLaws
 pub mod Questions
 pub mod OrderLaws

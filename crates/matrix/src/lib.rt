@@ -1,6 +1,8 @@
 // The matrix type: its limits, and the shape of a matrix within them.
 ghost use mathlib.Core.Path.{_≡_};
+ghost use Prim.Native.Nat.{_≤_};
 ghost use Rattle.base.specs.Limits.{maxRows, maxEntries, maxSlots, rowsWithin};
+ghost use Rattle.matrix.specs.Lists.{lengthsRight};
 ghost use Rattle.matrix.specs.Shape.{shapeOf};
 use base::Refusal;
 
@@ -34,6 +36,23 @@ impl Matrix {
         ensures { λ b. ⌜ b ≡ rowsWithin n ⌝ }
     {
         (1 <= n) & (n <= Self::MAX_ROWS)
+    }
+
+    // Asks 2, of the lengths of a matrix's lists: tells whether they are those of n rows and e entries.
+    pub fn lengths_right(
+        n: usize,
+        e: usize,
+        starts: usize,
+        columns: usize,
+        values: usize,
+        r: usize,
+        c: usize,
+        b: usize,
+    ) -> bool
+        requires { ⌜ n ≤ maxRows ⌝ }
+        ensures { λ x. ⌜ x ≡ lengthsRight n e starts columns values r c b ⌝ }
+    {
+        (starts == n + 1) & (columns == e) & (values == e) & (r == n) & (c == n) & (b == n)
     }
 
     // Makes the shape of n rows and e entries: refusal 1 for n, 2 for e.

@@ -11,7 +11,7 @@ use lib.Ieee.{Float}
 use Rattle.base.specs.Lists.{table}
 use Rattle.base.specs.Tests.{and-cases}
 use Rattle.base.specs.FirstLaws.{both-pass, holds-pass}
-use Rattle.base.specs.Answers.{holds, andThen}
+use Rattle.base.specs.Answers.{holds, andThen, left}
 use Rattle.base.specs.declared.Asked.{Asked}
 use Rattle.base.specs.declared.Asked.the-variants.{Pass, Stop}
 use Rattle.base.specs.declared.Ended.the-variants.{Done, Refused}
@@ -19,6 +19,7 @@ use Rattle.base.specs.declared.Refusal.{Refusal}
 use Rattle.base.specs.declared.Refusal.the-variants.{Rows, Lengths, FileShape}
 use Rattle.base.specs.Limits.{maxRows, maxEntries, rowsWithin}
 use Rattle.matrix.specs.Input.{Input}
+use Rattle.matrix.specs.ListsLaws.{Long, long-lists, rows-range}
 use Rattle.matrix.specs.declared.Matrix.{Matrix}
 use Rattle.matrix.specs.declared.Shaped.{Shaped}
 use Rattle.matrix.specs.declared.Shaped.the-variants.{Shape, Unshaped}
@@ -28,43 +29,12 @@ use Rattle.fields.proofs.PartLaws.{stream-append}
 use Rattle.blocks.specs.Blocks.{blocksFor, fileOf, endsAt, askBlocks}
 use Rattle.blocks.proofs.FileLaws.{asked-whole}
 use Rattle.blocks.proofs.AskLaws.{then-no}
-use Rattle.matrix_file.specs.MatrixFile.{matrixParts, orderParts, written, sizeOf, fileLength, nOf, eOf, shapeIn, MatrixLists, matrixLists, listsAt, matrixAt, fitsShape, askHead, askFile, shaped, opened, lengthsRight, listsRight, askRead, askLengths, askWrite, left, readOutcome, writeOutcome}
-
-pub rows-range : (n : ℕ) → rowsWithin n ≡ true → (1 ≤ n) × (n ≤ maxRows)
-rows-range n t = let a = and-cases (leb 1 n) (leb n maxRows) t in (leb-true 1 n (a .0), leb-true n maxRows (a .1))
-
-pub range-of : (n : ℕ) (r : Bool) → r ≡ rowsWithin n → not r ≡ false → n ≤ maxRows
-range-of n r e f = rows-range n (sym e ∙ not-false r f) .1
+use Rattle.matrix.specs.Lists.{MatrixLists, matrixLists, lengthsRight, listsRight}
+use Rattle.matrix_file.specs.MatrixFile.{matrixParts, orderParts, written, sizeOf, fileLength, nOf, eOf, shapeIn, listsAt, matrixAt, fitsShape, askHead, askFile, shaped, opened, askRead, askLengths, askWrite, readOutcome, writeOutcome}
 
 -- 512 bytes hold n and e
 pub head-room : (file : List ℕ) (a : Asked) → a ≡ askBlocks file → a ≡ Pass → 8 ≤ room file
 head-room file a e p = let w = asked-whole file (sym e ∙ p) in omega arith
-
--- ---- the lengths of question 2
-
-pub record Long (n e s j v r c b : ℕ) : Type 0 where
-  pub starts-long : s ≡ n + 1
-  pub columns-long : j ≡ e
-  pub values-long : v ≡ e
-  pub r-long : r ≡ n
-  pub c-long : c ≡ n
-  pub b-long : b ≡ n
-
-pub long-lists : (n e s j v r c b : ℕ) → lengthsRight n e s j v r c b ≡ true → Long n e s j v r c b
-long-lists n e s j v r c b t =
-    let a₅ = and-cases (eqb s (n + 1) && eqb j e && eqb v e && eqb r n && eqb c n) (eqb b n) t in
-    let a₄ = and-cases (eqb s (n + 1) && eqb j e && eqb v e && eqb r n) (eqb c n) (a₅ .0) in
-    let a₃ = and-cases (eqb s (n + 1) && eqb j e && eqb v e) (eqb r n) (a₄ .0) in
-    let a₂ = and-cases (eqb s (n + 1) && eqb j e) (eqb v e) (a₃ .0) in
-    let a₁ = and-cases (eqb s (n + 1)) (eqb j e) (a₂ .0) in
-    record {
-      starts-long = eqb-true s (n + 1) (a₁ .0);
-      columns-long = eqb-true j e (a₁ .1);
-      values-long = eqb-true v e (a₂ .1);
-      r-long = eqb-true r n (a₃ .1);
-      c-long = eqb-true c n (a₄ .1);
-      b-long = eqb-true b n (a₅ .1);
-    }
 
 -- ---- the shape of a file
 

@@ -11,6 +11,7 @@ use lib.Dec.{T}
 use lib.ListN.{length, getD, drop, length-map}
 use lib.Ieee.{Float, binary64, ofBits, toBits, nanBits, fits}
 use lib.Ieee.Bits.{ofBits-toBits, toBits-lt, toBits-ofBits, nanBits-is, ofBits-fits}
+use Rattle.base.specs.Answers.{left}
 use Rattle.base.specs.Lists.{table}
 use Rattle.base.specs.TableLaws.{getD-table}
 use Rattle.base.specs.Tests.{by-test}
@@ -26,7 +27,8 @@ use Rattle.fields.proofs.FloatLaws.{nan-from, toBits-nan}
 use Rattle.fields.proofs.PartLaws.{Fits, parts-back, stream-of-parts, length-stream, length-fieldsAt, fields-fit}
 use Rattle.blocks.specs.Blocks.{blocksFor, fileOf}
 use Rattle.blocks.proofs.FileLaws.{payload-fileOf, fileOf-asked, fileOf-ends, asked-whole, file-back}
-use Rattle.matrix_file.specs.MatrixFile.{partsOf, written, MatrixLists, listsIn, listsRight, left, askRead, readOutcome, sizeOf, fileLength, nOf, eOf, shapeIn, listsAt, listsFor, withRows, matrixAt, askHead, askFile, opened, askLengths, askWrite}
+use Rattle.matrix.specs.Lists.{MatrixLists, listsIn, listsRight, withRows}
+use Rattle.matrix_file.specs.MatrixFile.{partsOf, written, askRead, readOutcome, sizeOf, fileLength, nOf, eOf, shapeIn, listsAt, listsFor, matrixAt, askHead, askFile, opened, askLengths, askWrite}
 use Rattle.matrix_file.proofs.CallLaws.{n-range, e-most, written-long, fitting, opened-pass}
 
 -- ---- the words of the theorems

@@ -5,14 +5,15 @@ use Prim.Native.Nat.{ℕ, _+_, _*_}
 use lib.ListN.{length}
 use lib.Dec.{eqb, leb}
 use lib.Ieee.{Float}
-use Rattle.base.specs.Answers.{holds, andThen}
+use Rattle.base.specs.Answers.{holds, andThen, Left, orUntouched}
 use Rattle.base.specs.declared.Asked.{Asked}
 use Rattle.base.specs.declared.Asked.the-variants.{Pass, Stop}
 use Rattle.base.specs.declared.Ended.{Ended}
 use Rattle.base.specs.declared.Ended.the-variants.{Done, Refused}
 use Rattle.base.specs.declared.Refusal.the-variants.{Rows, Lengths, FileShape}
 use Rattle.base.specs.Limits.{maxEntries, rowsWithin}
-use Rattle.matrix.specs.Input.{Input, inputOf}
+use Rattle.matrix.specs.Input.{Input}
+use Rattle.matrix.specs.Lists.{MatrixLists, matrixLists, listsIn, withRows, lengthsRight, listsRight}
 use Rattle.matrix.specs.declared.Matrix.{Matrix}
 use Rattle.matrix.specs.declared.Shaped.{Shaped}
 use Rattle.matrix.specs.declared.Shaped.the-variants.{Shape, Unshaped}
@@ -52,24 +53,6 @@ eOf file = le 4 (payload file) 4
 
 abbrev pub shapeIn : List ℕ → Matrix
 shapeIn file = record { rows = nOf file; entries = eOf file }
-
--- the lists of a matrix
-pub record MatrixLists : Type 0 where
-  pub starts : List ℕ
-  pub columns : List ℕ
-  pub values : List Float
-  pub r : List ℕ
-  pub c : List ℕ
-  pub b : List Float
-
-abbrev pub matrixLists : List ℕ → List ℕ → List Float → List ℕ → List ℕ → List Float → MatrixLists
-matrixLists s j v r c b = record { starts = s; columns = j; values = v; r = r; c = c; b = b }
-
-abbrev pub listsIn : Input → MatrixLists
-listsIn i = matrixLists (i .starts) (i .columns) (i .values) (i .r) (i .c) (i .b)
-
-abbrev pub withRows : ℕ → MatrixLists → Input
-withRows n l = inputOf n (l .starts) (l .columns) (l .values) (l .r) (l .c) (l .b)
 
 -- the lists of the given lengths that stand one after another from payload byte 8 on
 unfoldable pub listsAt : List ℕ → ℕ → ℕ → ℕ → ℕ → ℕ → ℕ → MatrixLists
@@ -111,13 +94,6 @@ shaped (Stop q) m = Unshaped q
 unfoldable pub opened : List ℕ → Shaped
 opened file = shaped (askFile file) (shapeIn file)
 
--- "Buffers of matching length?": n + 1 starts, e columns and values, n of each of r, c and b
-abbrev pub lengthsRight : ℕ → ℕ → ℕ → ℕ → ℕ → ℕ → ℕ → ℕ → Bool
-lengthsRight n e s j v r c b = eqb s (n + 1) && eqb j e && eqb v e && eqb r n && eqb c n && eqb b n
-
-abbrev pub listsRight : ℕ → ℕ → MatrixLists → Bool
-listsRight n e l = lengthsRight n e (length (l .starts)) (length (l .columns)) (length (l .values)) (length (l .r)) (length (l .c)) (length (l .b))
-
 -- the reader's: 16, 17, 1, 18 and 2
 unfoldable pub askRead : List ℕ → MatrixLists → Asked
 askRead file l = andThen (askFile file) (holds (listsRight (nOf file) (eOf file) l) Lengths)
@@ -134,21 +110,8 @@ askWrite i len = askLengths (i .n) (length (i .columns)) (length (i .starts)) (l
 
 -- ---- the outcomes of `read_matrix` and `write_matrix`
 
--- how a call ends, and what its buffers hold then
-pub record Left (A : Type 0) : Type 0 where
-  pub answer : Ended
-  pub held : A
+unfoldable pub readOutcome : List ℕ → MatrixLists → Left Ended MatrixLists
+readOutcome file l = orUntouched Refused (askRead file l) Done (listsIn (matrixAt file)) l
 
-abbrev pub left : {A : Type 0} → Ended → A → Left A
-left a h = record { answer = a; held = h }
-
--- "refusals write nothing": the new contents, or the old
-abbrev pub outcome : {A : Type 0} → Asked → A → A → Left A
-outcome Pass new old = left Done new
-outcome (Stop q) new old = left (Refused q) old
-
-unfoldable pub readOutcome : List ℕ → MatrixLists → Left MatrixLists
-readOutcome file l = outcome (askRead file l) (listsIn (matrixAt file)) l
-
-unfoldable pub writeOutcome : Input → List ℕ → Left (List ℕ)
-writeOutcome i file = outcome (askWrite i (length file)) (written i) file
+unfoldable pub writeOutcome : Input → List ℕ → Left Ended (List ℕ)
+writeOutcome i file = orUntouched Refused (askWrite i (length file)) Done (written i) file

@@ -3,12 +3,14 @@ ghost use mathlib.Core.Path.{_≡_};
 ghost use mathlib.Core.List.{_++_};
 ghost use Prim.Native.Nat.{ℕ, _+_, _*_, _≤_, _<_};
 ghost use lib.ListN.{length};
+ghost use Rattle.base.specs.Answers.{left};
 ghost use Rattle.base.specs.declared.Asked.the-variants.{Pass};
 ghost use Rattle.base.specs.Limits.{maxRows};
 ghost use Rattle.matrix.specs.Input.{inputOf};
 ghost use Rattle.fields.specs.Numbers.{stream};
 ghost use Rattle.fields.specs.Payload.{room, payloads};
-ghost use Rattle.matrix_file.specs.MatrixFile.{nOf, eOf, shapeIn, shaped, fitsShape, askHead, opened, lengthsRight, matrixLists, listsAt, matrixParts, orderParts, written, askLengths, askWrite, left, readOutcome, writeOutcome};
+ghost use Rattle.matrix.specs.Lists.{matrixLists};
+ghost use Rattle.matrix_file.specs.MatrixFile.{nOf, eOf, shapeIn, shaped, fitsShape, askHead, opened, listsAt, matrixParts, orderParts, written, askLengths, askWrite, readOutcome, writeOutcome};
 use base::Asked;
 use base::Ended;
 use base::Index;
@@ -87,23 +89,6 @@ pub fn matrix_file_shape(file: &[u8]) -> Shaped
     }
 }
 
-// Question 2, of the lengths of what is lent.
-fn lengths_right(
-    n: usize,
-    e: usize,
-    starts: usize,
-    columns: usize,
-    values: usize,
-    r: usize,
-    c: usize,
-    b: usize,
-) -> bool
-    requires { ⌜ n ≤ maxRows ⌝ }
-    ensures { λ x. ⌜ x ≡ lengthsRight n e starts columns values r c b ⌝ }
-{
-    (starts == n + 1) & (columns == e) & (values == e) & (r == n) & (c == n) & (b == n)
-}
-
 // Fills the lists with what stands in the file from payload byte 8 on.
 fn load(
     file: &[u8],
@@ -141,7 +126,7 @@ pub fn read_matrix(
     match found {
         Shaped::Unshaped(q) => Ended::Refused(q),
         Shaped::Shape(m) => {
-            if !lengths_right(
+            if !Matrix::lengths_right(
                 m.rows,
                 m.entries,
                 starts.len(),
@@ -219,7 +204,7 @@ fn ask_write(
     if Matrix::MAX_ENTRIES < e {
         return Asked::Stop(Refusal::FileShape);
     }
-    if !(lengths_right(n, e, starts, e, values, r, c, b)
+    if !(Matrix::lengths_right(n, e, starts, e, values, r, c, b)
         & (len == 512 * ((12 + 16 * n + 10 * e + 503) / 504))) {
         return Asked::Stop(Refusal::Lengths);
     }

@@ -11,7 +11,7 @@ use lib.Seq.{sets, drop-cons, length-take-le}
 use lib.Dec.{leb, eqb}
 use borrow.Author.Tests.{le-leb, lt-leb, leb-true, eq-eqb}
 use lib.Ieee.{Float, nan, binary64, toBits}
-use Rattle.base.specs.Answers.{numberOf, placeOf}
+use Rattle.base.specs.Answers.{numberOf, placeOf, Left, left, orUntouched}
 use Rattle.base.specs.declared.Counts.{Counts}
 use Rattle.base.specs.declared.Refusal.{Refusal}
 use Rattle.base.specs.declared.Answer.{Answer}
@@ -23,11 +23,13 @@ use Rattle.base.specs.declared.Form.the-variants.{Plain}
 use Rattle.base.specs.declared.Asked.{Asked}
 use Rattle.base.specs.declared.Asked.the-variants.{Pass, Stop}
 use Rattle.base.specs.declared.Ended.{Ended}
+use Rattle.base.specs.declared.Ended.the-variants.{Done, Refused}
 use Rattle.matrix.specs.Input.{Input, inputOf}
 use Rattle.matrix.specs.declared.Matrix.{Matrix}
 use Rattle.matrix.specs.declared.Shaped.{Shaped}
 use Rattle.matrix.specs.declared.Shaped.the-variants.{Shape, Unshaped}
-use Rattle.matrix_file.specs.MatrixFile.{MatrixLists, matrixLists, listsIn, nOf, eOf, shapeIn, matrixAt, askFile, askRead, shaped, opened, Left, left, outcome, readOutcome, withRows}
+use Rattle.matrix.specs.Lists.{MatrixLists, matrixLists, listsIn, withRows}
+use Rattle.matrix_file.specs.MatrixFile.{nOf, eOf, shapeIn, matrixAt, askFile, askRead, shaped, opened, readOutcome}
 use Rattle.outcome.specs.Buffers.{Buffers, Outcome, ended, plainBuffers}
 use Rattle.outcome.specs.Solve.{solve}
 use Rattle.program.specs.Program.{valueLines, answerLines, outcomeLines, zeros, noughts, lent, solvedLines, Fitting, printed}
@@ -131,7 +133,7 @@ read-input file n l₀ a s j v r c b f e =
     let en : nOf file ≡ n = ap (λ (m : Matrix). m .rows) (h .1) in
     let ee : eOf file ≡ f .entries = ap (λ (m : Matrix). m .entries) (h .1) in
     let p : askRead file l₀ ≡ Pass = rw (h .0, en, ee, f .lengths) in
-    let q : matrixLists s j v r c b ≡ listsIn (matrixAt file) = ap (λ (x : Left MatrixLists). x .held) (e ∙ ap (λ (x : Asked). outcome x (listsIn (matrixAt file)) l₀) p) in
+    let q : matrixLists s j v r c b ≡ listsIn (matrixAt file) = ap (λ (x : Left Ended MatrixLists). x .held) (e ∙ ap (λ (x : Asked). orUntouched Refused x Done (listsIn (matrixAt file)) l₀) p) in
     ap (withRows n) q ∙ ap (λ (m : ℕ). withRows m (listsIn (matrixAt file))) (sym en)
 
 pub read-lines : (i j : Input) (out p : List ℕ) (r : ℕ) → i ≡ j → Written (solvedLines i) out 0 p r × (r ≤ 4096) → Written (solvedLines j) out 0 p r × (r ≤ 4096)

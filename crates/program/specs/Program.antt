@@ -16,7 +16,8 @@ use Rattle.matrix.specs.declared.Shaped.{Shaped}
 use Rattle.matrix.specs.declared.Shaped.the-variants.{Shape, Unshaped}
 use Rattle.outcome.specs.Buffers.{Buffers, Outcome, plainBuffers}
 use Rattle.outcome.specs.Solve.{solve}
-use Rattle.matrix_file.specs.MatrixFile.{MatrixLists, listsRight, matrixAt, opened}
+use Rattle.matrix.specs.Lists.{MatrixLists, listsRight}
+use Rattle.matrix_file.specs.MatrixFile.{matrixAt, opened}
 use Rattle.printing.specs.Print.{countsLine, valueLine, refusedLine, tooLargeLine}
 
 -- "It gives 2,016 slots a store": what the solve is lent, all zero

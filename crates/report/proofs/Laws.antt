@@ -1,12 +1,12 @@
 -- The slots of a report, one after another, and what a call tells by it.
-use mathlib.Core.Path.{_≡_, refl, _∙_}
+use mathlib.Core.Path.{_≡_, refl, ap, _∙_}
 use mathlib.Core.List.{List, [], _∷_}
 use Prim.Native.Nat.{ℕ, _+_, _≤_, _<_}
 use native.Mathlib.Numerals.{add-one}
 use lib.ListN.{length, getD, set, drop, drop-of-length-le}
 use lib.Seq.{sets, drop-cons}
 use Rattle.base.specs.Limits.{maxRows}
-use Rattle.base.specs.Answers.{numberOf, placeOf, numberOfAnswer, placeOfAnswer, countsOf, numberOfEnd, placeOfEnd, spot}
+use Rattle.base.specs.Answers.{numberOf, placeOf, numberOfAnswer, placeOfAnswer, countsOf, placeOfEnd, placeOfMade, entriesOf, spot, Left, left}
 use Rattle.base.specs.declared.Counts.{Counts}
 use Rattle.base.specs.declared.Form.{Form}
 use Rattle.base.specs.declared.Place.{Place}
@@ -18,13 +18,13 @@ use Rattle.lookup.specs.LookupLaws.{span-in}
 use borrow.Author.Tests.{eq-eqb, ne-eqb, lt-ltb, le-ltb}
 use Rattle.base.specs.declared.Answer.{Answer}
 use Rattle.base.specs.declared.Ended.{Ended}
+use Rattle.base.specs.declared.Made.{Made}
 use Rattle.base.specs.declared.Refusal.{Refusal}
 use Rattle.matrix.specs.declared.Matrix.{Matrix}
 use Rattle.matrix.specs.declared.Shaped.{Shaped}
 use Rattle.matrix.specs.declared.Shaped.the-variants.{Shape, Unshaped}
 use Rattle.outcome.specs.Buffers.{Buffers, Outcome, ended}
-use Rattle.matrix_file.specs.MatrixFile.{Left, left}
-use Rattle.report.specs.Report.{answerSlots, Told, ToldEnd, asLeft, numberOfShape, shapeSlots, spanSlots, sideNumbered, placeIn}
+use Rattle.report.specs.Report.{Reported, asLeft, answerSlots, endSlots, madeSlots, numberOfShape, shapeSlots, spanSlots, sideNumbered, placeIn}
 
 pub slots-turn : (out : List ℕ) (values : List ℕ) (i : ℕ) → i < length values → sets (set out i (getD values i 0)) (i + 1) (drop (i + 1) values) ≡ sets out i (drop i values)
 slots-turn out values i h = rw (add-one i, drop-cons values i 0 h)
@@ -32,25 +32,26 @@ slots-turn out values i h = rw (add-one i, drop-cons values i 0 h)
 pub slots-end : (out : List ℕ) (values : List ℕ) (i : ℕ) → length values ≤ i → out ≡ sets out i (drop i values)
 slots-end out values i h = rw (drop-of-length-le values h)
 
-pub told : (o : Outcome Answer) (a : Answer) (s : Buffers) (report₀ report : List ℕ) (number : ℕ) → ended a s ≡ o
-    → number ≡ numberOfAnswer a → report ≡ sets report₀ 0 (answerSlots a) → Told o report₀ report s number
-told o a s report₀ report number e n r = rw (← e) (record { number-is = n; buffers-are = refl; report-is = r })
+pub reported : {R A : Type 0} {numberIn : R → ℕ} {slotsIn : R → List ℕ} (o : Left R A) (a : R) (h : A) (report₀ report : List ℕ) (number : ℕ) → left a h ≡ o
+    → number ≡ numberIn a → report ≡ sets report₀ 0 (slotsIn a) → Reported numberIn slotsIn o report₀ report h number
+reported o a h report₀ report number e n r = rw (← e) (record { number-is = n; held-is = refl; report-is = r })
 
-pub told-end : {A : Type 0} (o : Left A) (a : Ended) (h : A) (report₀ report : List ℕ) (number : ℕ) → left a h ≡ o
-    → number ≡ numberOfEnd a → report ≡ sets report₀ 0 (placeOfEnd a ∷ []) → ToldEnd o report₀ report h number
-told-end o a h report₀ report number e n r = rw (← e) (record { number-is = n; held-is = refl; report-is = r })
-
-pub told-again : (o : Outcome Ended) (a : Ended) (s : Buffers) (report₀ report : List ℕ) (number : ℕ) → ended a s ≡ o
-    → number ≡ numberOfEnd a → report ≡ sets report₀ 0 (placeOfEnd a ∷ []) → ToldEnd (asLeft o) report₀ report s number
-told-again o a s report₀ report number e n r = rw (← e) (record { number-is = n; held-is = refl; report-is = r })
+-- the same of a call over stores
+pub told : {R : Type 0} {numberIn : R → ℕ} {slotsIn : R → List ℕ} (o : Outcome R) (a : R) (s : Buffers) (report₀ report : List ℕ) (number : ℕ) → ended a s ≡ o
+    → number ≡ numberIn a → report ≡ sets report₀ 0 (slotsIn a) → Reported numberIn slotsIn (asLeft o) report₀ report s number
+told o a s report₀ report number e n r = reported (asLeft o) a s report₀ report number (ap asLeft e) n r
 
 pub answer-put : (a : Answer) (place : ℕ) (counts : Counts) (report₀ report : List ℕ) → place ≡ placeOfAnswer a → counts ≡ countsOf a
     → report ≡ sets report₀ 0 (place ∷ counts .lower ∷ counts .upper ∷ counts .products ∷ []) → report ≡ sets report₀ 0 (answerSlots a)
 unfolding answerSlots
 answer-put a place counts report₀ report e f h = h ∙ rw (e, f)
 
-pub end-put : (a : Ended) (place : ℕ) (report₀ report : List ℕ) → place ≡ placeOfEnd a → report ≡ sets report₀ 0 (place ∷ []) → report ≡ sets report₀ 0 (placeOfEnd a ∷ [])
+pub end-put : (a : Ended) (place : ℕ) (report₀ report : List ℕ) → place ≡ placeOfEnd a → report ≡ sets report₀ 0 (place ∷ []) → report ≡ sets report₀ 0 (endSlots a)
 end-put a place report₀ report e h = h ∙ rw e
+
+pub made-put : (a : Made) (place e : ℕ) (report₀ report : List ℕ) → place ≡ placeOfMade a → e ≡ entriesOf a → report ≡ sets report₀ 0 (place ∷ e ∷ []) → report ≡ sets report₀ 0 (madeSlots a)
+unfolding madeSlots
+made-put a place e report₀ report p f h = h ∙ rw (p, f)
 
 -- ---- the shape of a file
 

@@ -5,11 +5,12 @@ use mathlib.Core.List.{List, [], _∷_}
 use Prim.Native.Nat.{ℕ, _-_}
 use lib.Dec.{eqb, ltb}
 use lib.Seq.{sets}
-use Rattle.base.specs.Answers.{numberOf, placeOf, numberOfAnswer, placeOfAnswer, countsOf, numberOfEnd, placeOfEnd, spot}
+use Rattle.base.specs.Answers.{numberOf, placeOf, numberOfAnswer, placeOfAnswer, countsOf, numberOfEnd, placeOfEnd, numberOfMade, placeOfMade, entriesOf, spot, Left, left}
 use Rattle.base.specs.Limits.{maxRows}
 use Rattle.base.specs.declared.Answer.{Answer}
 use Rattle.base.specs.declared.Ended.{Ended}
 use Rattle.base.specs.declared.Form.{Form}
+use Rattle.base.specs.declared.Made.{Made}
 use Rattle.base.specs.declared.Place.{Place}
 use Rattle.base.specs.declared.Side.{Side}
 use Rattle.base.specs.declared.Side.the-variants.{Lower, Upper}
@@ -18,27 +19,40 @@ use Rattle.matrix.specs.declared.Shaped.the-variants.{Shape, Unshaped}
 use Rattle.outcome.specs.Buffers.{Buffers, Outcome}
 use Rattle.lookup.specs.declared.Span.{Span}
 use Rattle.lookup.specs.Lookup.{SideLists, spanIn}
-use Rattle.matrix_file.specs.MatrixFile.{Left, left}
+
+-- a call that ends as `o` does: its number, what it leaves, and the report, by the answer's number and slots
+pub record Reported {R A : Type 0} (numberIn : R → ℕ) (slotsIn : R → List ℕ) (o : Left R A) (report₀ report : List ℕ) (held : A) (number : ℕ) : Type 0 where
+  pub number-is : number ≡ numberIn (o .answer)
+  pub held-is : held ≡ o .held
+  pub report-is : report ≡ sets report₀ 0 (slotsIn (o .answer))
+
+-- what a call over stores leaves: its buffers
+abbrev pub asLeft : {R : Type 0} → Outcome R → Left R Buffers
+asLeft o = left (o .answer) (o .buffers)
 
 -- place and counts of an answer
 unfoldable pub answerSlots : Answer → List ℕ
 answerSlots a = placeOfAnswer a ∷ countsOf a .lower ∷ countsOf a .upper ∷ countsOf a .products ∷ []
 
 -- a structure call or a solve
-pub record Told (o : Outcome Answer) (report₀ report : List ℕ) (s : Buffers) (number : ℕ) : Type 0 where
-  pub number-is : number ≡ numberOfAnswer (o .answer)
-  pub buffers-are : s ≡ o .buffers
-  pub report-is : report ≡ sets report₀ 0 (answerSlots (o .answer))
+abbrev pub Told : Outcome Answer → List ℕ → List ℕ → Buffers → ℕ → Type 0
+Told o = Reported numberOfAnswer answerSlots (asLeft o)
 
--- a call without counts: reading or writing a file, refactor, another right side. What it leaves, and the place
-pub record ToldEnd {A : Type 0} (o : Left A) (report₀ report : List ℕ) (held : A) (number : ℕ) : Type 0 where
-  pub number-is : number ≡ numberOfEnd (o .answer)
-  pub held-is : held ≡ o .held
-  pub report-is : report ≡ sets report₀ 0 (placeOfEnd (o .answer) ∷ [])
+-- the place alone
+abbrev pub endSlots : Ended → List ℕ
+endSlots a = placeOfEnd a ∷ []
 
--- refactor or another right side: its buffers are what it leaves
-abbrev pub asLeft : Outcome Ended → Left Buffers
-asLeft o = left (o .answer) (o .buffers)
+-- a call without counts: reading or writing a file, refactor, another right side
+abbrev pub ToldEnd : {A : Type 0} → Left Ended A → List ℕ → List ℕ → A → ℕ → Type 0
+ToldEnd o = Reported numberOfEnd endSlots o
+
+-- place and entries
+unfoldable pub madeSlots : Made → List ℕ
+madeSlots a = placeOfMade a ∷ entriesOf a ∷ []
+
+-- a call that makes a matrix
+abbrev pub ToldMade : {A : Type 0} → Left Made A → List ℕ → List ℕ → A → ℕ → Type 0
+ToldMade o = Reported numberOfMade madeSlots o
 
 -- the shape of a file
 abbrev pub numberOfShape : Shaped → ℕ

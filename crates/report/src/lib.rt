@@ -4,15 +4,18 @@ ghost use Prim.Native.Nat.{_≤_};
 ghost use mathlib.Core.List.{[], _∷_};
 ghost use lib.ListN.{set};
 ghost use lib.Seq.{sets};
-ghost use Rattle.base.specs.Answers.{numberOfAnswer, numberOfEnd, placeOfEnd};
+ghost use Rattle.base.specs.Answers.{numberOfAnswer, numberOfEnd, numberOfMade};
 ghost use Rattle.base.specs.declared.Form.{Form};
 ghost use Rattle.matrix.specs.Input.{inputOf};
 ghost use Rattle.lookup.specs.Lookup.{sideLists};
-ghost use Rattle.matrix_file.specs.MatrixFile.{matrixLists, opened, readOutcome, writeOutcome};
-ghost use Rattle.report.specs.Report.{answerSlots, ToldEnd, numberOfShape, shapeSlots, spanSlots, sideNumbered, placeIn, listSlots};
+ghost use Rattle.load.specs.Load.{loadOutcome};
+ghost use Rattle.matrix.specs.Lists.{matrixLists};
+ghost use Rattle.matrix_file.specs.MatrixFile.{opened, readOutcome, writeOutcome};
+ghost use Rattle.report.specs.Report.{answerSlots, endSlots, madeSlots, ToldEnd, ToldMade, numberOfShape, shapeSlots, spanSlots, sideNumbered, placeIn, listSlots};
 use base::Answer;
 use base::Ended;
 use base::Index;
+use base::Made;
 use base::Place;
 use base::Side;
 use lookup::Span;
@@ -62,9 +65,18 @@ pub fn put_answer(report: &mut [u64], a: Answer) -> u32
 // Puts the place of a call without counts into the report, and gives its number.
 pub fn put_end(report: &mut [u64], a: Ended) -> u32
     ensures { λ r. ⌜ r ≡ numberOfEnd a ⌝ }
-    ensures { λ _. ⌜ now (report .exit) ≡ sets (now (report .entry)) 0 (placeOfEnd a ∷ []) ⌝ }
+    ensures { λ _. ⌜ now (report .exit) ≡ sets (now (report .entry)) 0 (endSlots a) ⌝ }
 {
     put_all(report, &[a.place() as u64]);
+    a.number()
+}
+
+// Puts place and entries of a call that makes a matrix into the report, and gives its number.
+fn put_made(report: &mut [u64], a: Made) -> u32
+    ensures { λ r. ⌜ r ≡ numberOfMade a ⌝ }
+    ensures { λ _. ⌜ now (report .exit) ≡ sets (now (report .entry)) 0 (madeSlots a) ⌝ }
+{
+    put_all(report, &[a.place() as u64, a.entries() as u64]);
     a.number()
 }
 
@@ -208,4 +220,25 @@ pub fn write_matrix(
 {
     let a = matrix_file::write_matrix(n, starts, columns, values, r, c, b, file);
     put_end(report, a)
+}
+
+// ---- the test load
+
+// Makes the test load of n rows from a seed.
+pub fn test_load(
+    n: usize,
+    seed: u16,
+    starts: &mut [u32],
+    columns: &mut [Index],
+    values: &mut [f64],
+    r: &mut [Index],
+    c: &mut [Index],
+    b: &mut [f64],
+    report: &mut [u64],
+) -> u32
+    ensures { λ q. ⌜ ToldMade (loadOutcome n seed (matrixLists (now (starts .entry)) (now (columns .entry)) (now (values .entry)) (now (r .entry)) (now (c .entry)) (now (b .entry))))
+        (now (report .entry)) (now (report .exit)) (matrixLists (now (starts .exit)) (now (columns .exit)) (now (values .exit)) (now (r .exit)) (now (c .exit)) (now (b .exit))) q ⌝ }
+{
+    let a = load::test_load(n, seed, starts, columns, values, r, c, b);
+    put_made(report, a)
 }

@@ -1,6 +1,6 @@
 use Rattle.matrix_file.specs.MatrixFile.{askHead}
 use Rattle.blocks.proofs.AskLaws.{then-no, then-yes, holds-no, holds-yes}
-use Rattle.matrix_file.proofs.CallLaws.{range-of}
+use Rattle.matrix.specs.ListsLaws.{range-of}
 use borrow.Author.Needs.{needs}
 use Rattle.matrix_file.proofs.ask_head.Statement.{statement}
 use Rattle.matrix_file.proofs.ask_head.Tie as tie

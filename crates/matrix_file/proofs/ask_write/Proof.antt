@@ -1,4 +1,5 @@
-use Rattle.matrix_file.proofs.CallLaws.{range-of, ask-1, ask-18, ask-2, ask-pass}
+use Rattle.matrix.specs.ListsLaws.{range-of}
+use Rattle.matrix_file.proofs.CallLaws.{ask-1, ask-18, ask-2, ask-pass}
 use native.Mathlib.Omega.{arith}
 use borrow.Author.Needs.{needs}
 use Rattle.matrix_file.proofs.ask_write.Statement.{statement}

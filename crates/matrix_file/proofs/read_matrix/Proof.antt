@@ -1,4 +1,4 @@
-use Rattle.matrix_file.specs.MatrixFile.{matrixLists}
+use Rattle.matrix.specs.Lists.{matrixLists}
 use Rattle.matrix_file.proofs.CallLaws.{rows-most, read-stop, read-lengths, read-room, read-done}
 use borrow.Author.Needs.{needs}
 use Rattle.matrix_file.proofs.read_matrix.Statement.{statement}
