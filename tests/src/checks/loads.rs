@@ -122,8 +122,8 @@ pub fn limits(solver: &dyn Solver, seed: u64, tally: &mut Tally) {
 pub fn run(solver: &dyn Solver, range: Range, tally: &mut Tally) {
     for number in range.numbers() {
         let random = &mut range.random(number);
-        let n = random.pick(&[64, MAX_ROWS]);
-        let n = random.between(1, n);
+        let most = random.pick(&[64, MAX_ROWS]);
+        let n = random.between(1, most);
         let seed = random.bits() as u16;
         let mut lent = lengths(n);
         if random.per_mille(60) {
