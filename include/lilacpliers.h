@@ -35,12 +35,13 @@
  *   lower_starts[k] and upper_starts[k] of the value store.
  *
  * Scratch: scratch_f64 has 3n slots, scratch_u32 has 8n + 8. Its contents on entry do not matter. LP_STARTS_LEN,
- * LP_SCRATCH_F64, LP_SCRATCH_U32 and LP_FILE_BYTES, below, give these lengths.
+ * LP_SCRATCH_F64, LP_SCRATCH_U32, LP_FILE_BYTES and LP_LOAD_SLOTS, below, give the lengths that n and e fix.
  *
  * The answer: each call returns 0 for done or the number of the question answered with no (LP_..., below), and
  * fills `report` as far as report_len goes: report[0] is the place that the refusal names, 0 where it names none.
  * Structure and solve calls put three counts behind it: report[1] and report[2] are the filled positions below and
- * above the diagonal, report[3] the products; they are 0 after a refusal. Slots beyond report[3] are never written.
+ * above the diagonal, report[3] the products; they are 0 after a refusal. What other calls put there is said at each.
+ * Slots beyond report[3] are never written.
  *
  * What the buffers hold afterwards, unless a call says otherwise:
  *   LP_ROWS, LP_LENGTHS                nothing but the report was written
@@ -62,7 +63,7 @@ extern "C" {
 
 /* The version of this interface. It is raised whenever a function, a number or what a buffer holds changes, so that
  * a caller can refuse to be compiled against another one. */
-#define LP_VERSION 2
+#define LP_VERSION 3
 
 /* The limits of n, of e and of the slots of a store. */
 #define LP_MAX_ROWS 4096
@@ -70,11 +71,13 @@ extern "C" {
 #define LP_MAX_SLOTS 1048576
 
 /* Lengths that n and e fix, as size_t; an argument is evaluated once. LP_STARTS_LEN: slots of starts, lower_starts and
- * upper_starts. LP_SCRATCH_F64 and LP_SCRATCH_U32: slots of scratch. LP_FILE_BYTES: bytes of a matrix file. */
+ * upper_starts. LP_SCRATCH_F64 and LP_SCRATCH_U32: slots of scratch. LP_FILE_BYTES: bytes of a matrix file.
+ * LP_LOAD_SLOTS: slots of columns and values of lp_test_load. */
 #define LP_STARTS_LEN(n) ((size_t)(n) + 1)
 #define LP_SCRATCH_F64(n) (3 * (size_t)(n))
 #define LP_SCRATCH_U32(n) (8 * (size_t)(n) + 8)
 #define LP_FILE_BYTES(n, e) (512 * ((12 + 16 * (size_t)(n) + 10 * (size_t)(e) + 503) / 504))
+#define LP_LOAD_SLOTS(n) (4 * (size_t)(n))
 
 /* What a call returns: the number of each refusal, and behind the colon the place it names. */
 #define LP_DONE 0
@@ -350,6 +353,23 @@ uint32_t lp_write_matrix(
     const uint16_t *c, size_t c_len,
     const double *b, size_t b_len,
     uint8_t *file, size_t file_len,
+    uint64_t *report, size_t report_len);
+
+/* Makes a test load from n and a seed: row k gets 4.0 at column k, then three draws. A draw sets the seed to
+ * (seed * 25173 + 13849) % 65536, and its column is (seed / 16) % n: it gets -1.0, or is skipped where the row has that
+ * column already. The seed runs on from row to row. Entries stand as drawn, r and c are 0, 1, ..., b is all 1.0.
+ * Lengths: n + 1 for starts, LP_LOAD_SLOTS(n) for columns and values, n for r, c and b. report[1] is e, 0 after a
+ * refusal, and the last slot written; other calls are lent the first e slots of columns and values, the rest are zero.
+ * Asks 1 and 2. A refusal writes nothing but the report. No claim is made on pivots: a solve may give 12 or 13. */
+uint32_t lp_test_load(
+    size_t n,
+    uint16_t seed,
+    uint32_t *starts, size_t starts_len,
+    uint16_t *columns, size_t columns_len,
+    double *values, size_t values_len,
+    uint16_t *r, size_t r_len,
+    uint16_t *c, size_t c_len,
+    double *b, size_t b_len,
     uint64_t *report, size_t report_len);
 
 #ifdef __cplusplus

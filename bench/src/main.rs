@@ -3,6 +3,8 @@
 //! Options: --quick (fewer repeats), --small (n up to 512).
 use lilacpliers_bench::ordinary;
 #[cfg(any(feature = "library", feature = "standin"))]
+use lilacpliers_tests::checks::{loads, Library};
+#[cfg(any(feature = "library", feature = "standin"))]
 use lilacpliers_tests::ffi::Loan;
 use lilacpliers_tests::load;
 use lilacpliers_tests::model::*;
@@ -13,10 +15,22 @@ struct System {
     input: Input,
 }
 
+/// The test load of seed 1, made by the library's own call.
+#[cfg(any(feature = "library", feature = "standin"))]
+fn test_load(n: usize) -> Input {
+    loads::made(&Library { nulls: false }, n, 1).unwrap_or_else(|fault| panic!("test load {n}: {fault}"))
+}
+
+/// Without the library there is no call: the ordinary solver is timed alone.
+#[cfg(not(any(feature = "library", feature = "standin")))]
+fn test_load(n: usize) -> Input {
+    load::test_load(n, 1)
+}
+
 fn systems(small: bool) -> Vec<System> {
     let mut list: Vec<System> = [256, 512, 1_024, 2_048, 4_096]
         .iter()
-        .map(|&n| System { name: format!("test load {n}"), input: load::test_load(n, 1) })
+        .map(|&n| System { name: format!("test load {n}"), input: test_load(n) })
         .collect();
     list.push(System { name: "tridiagonal 4096".to_string(), input: load::tridiagonal(4_096) });
     list.push(System { name: "grid 64 by 64".to_string(), input: load::grid(64) });

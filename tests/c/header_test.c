@@ -1,5 +1,6 @@
-/* Solves the paper's 2 by 2 file through the C interface, holds the length macros to the lengths that the calls take,
- * tries NULL for buffers of length 0, and shows what another floating-point environment changes. The exit status is 0 if every answer is as the header promises. */
+/* Solves the paper's 2 by 2 file through the C interface, makes a test load, holds the length macros to the lengths
+ * that the calls take, tries NULL for buffers of length 0, and shows what another floating-point environment changes.
+ * The exit status is 0 if every answer is as the header promises. */
 #include "lilacpliers.h"
 
 #include <setjmp.h>
@@ -8,8 +9,8 @@
 #include <string.h>
 #include <xmmintrin.h>
 
-#if LP_VERSION != 2
-#error "this test is written for version 2 of the interface"
+#if LP_VERSION != 3
+#error "this test is written for version 3 of the interface"
 #endif
 
 #define NONE NULL, 0
@@ -175,6 +176,59 @@ static void row_form(void)
     expect(d[0] == 0.0 && upper.values[0] == 0.0 && upper.index[0] == 0, "the row form leaves zeros");
 }
 
+/* The load of n = 5 and seed 1, with its unused slots. */
+enum { FIVE = 5, LOAD_ENTRIES = 16 };
+
+static const uint32_t load_starts[LP_STARTS_LEN(FIVE)] = {0, 3, 6, 9, 13, 16};
+static const uint16_t load_columns[LP_LOAD_SLOTS(FIVE)] = {0, 3, 2, 1, 2, 3, 2, 1, 3, 3, 2, 4, 1, 4, 3, 1};
+static const double load_values[LP_LOAD_SLOTS(FIVE)] = {4, -1, -1, 4, -1, -1, 4, -1, -1, 4, -1, -1, -1, 4, -1, -1};
+static const uint16_t load_order[FIVE] = {0, 1, 2, 3, 4};
+static const double load_right[FIVE] = {1, 1, 1, 1, 1};
+
+/* What a test load is made in. */
+struct load {
+    uint32_t starts[LP_STARTS_LEN(FIVE)];
+    uint16_t columns[LP_LOAD_SLOTS(FIVE)], r[FIVE], c[FIVE];
+    double values[LP_LOAD_SLOTS(FIVE)], b[FIVE];
+};
+
+static struct load made, noise;
+
+/* Makes a load of 5 rows over noise; r is lent so many slots. */
+static uint32_t make_load(size_t n, uint16_t seed, size_t r_len)
+{
+    memset(&noise, 0xA5, sizeof noise);
+    memset(&made, 0xA5, sizeof made);
+    memset(report, 0xA5, sizeof report);
+    return lp_test_load(n, seed, LENT(made.starts), LENT(made.columns), LENT(made.values), made.r, r_len,
+                        LENT(made.c), LENT(made.b), LENT(report));
+}
+
+static void expect_refused(const char *what)
+{
+    expect(memcmp(&made, &noise, sizeof made) == 0 && report[0] == 0 && report[1] == 0, what);
+}
+
+static void test_load(void)
+{
+    expect(make_load(FIVE, 1, FIVE) == LP_DONE && report[0] == 0 && report[1] == LOAD_ENTRIES, "load");
+    expect(report[2] == report[3] && report[2] == 0xA5A5A5A5A5A5A5A5, "a load's report has two slots");
+    expect(memcmp(made.starts, load_starts, sizeof load_starts) == 0, "starts of the load");
+    expect(memcmp(made.columns, load_columns, sizeof load_columns) == 0, "columns of the load");
+    expect(memcmp(made.values, load_values, sizeof load_values) == 0, "values of the load");
+    expect(memcmp(made.r, load_order, sizeof load_order) == 0, "row order of the load");
+    expect(memcmp(made.c, load_order, sizeof load_order) == 0, "column order of the load");
+    expect(memcmp(made.b, load_right, sizeof load_right) == 0, "right side of the load");
+    expect(make_load(FIVE, UINT16_MAX, FIVE) == LP_DONE, "load of the greatest seed");
+    expect(memcmp(made.columns, load_columns, sizeof load_columns) != 0, "another seed is another load");
+    expect(make_load(FIVE, 1, FIVE - 1) == LP_LENGTHS, "load, a row order one slot short");
+    expect_refused("2 writes nothing but the report");
+    expect(make_load(0, 1, FIVE) == LP_ROWS, "load, n = 0");
+    expect_refused("1 writes nothing but the report");
+    expect(make_load(LP_MAX_ROWS + 1, 1, FIVE - 1) == LP_ROWS, "load, n over its limit");
+    expect_refused("1 comes before 2");
+}
+
 /* The most rows and entries that the length macros are tried with. */
 enum { ROWS = 40, ENTRIES = 160 };
 
@@ -206,6 +260,16 @@ static uint32_t write_zeros(size_t n, size_t e, size_t file_len)
                            file, file_len, NONE);
 }
 
+/* Makes a load of n rows, lent so many slots of columns and of values. */
+static uint32_t load_slots(size_t n, size_t columns_len, size_t values_len)
+{
+    static uint32_t row_starts[LP_STARTS_LEN(ROWS)];
+    static uint16_t own_columns[LP_LOAD_SLOTS(ROWS) + 1], rows[ROWS], order_of_columns[ROWS];
+    static double numbers[LP_LOAD_SLOTS(ROWS) + 1], ones[ROWS];
+    return lp_test_load(n, 1, row_starts, LP_STARTS_LEN(n), own_columns, columns_len, numbers, values_len, rows, n,
+                        order_of_columns, n, ones, n, NONE);
+}
+
 /* What the length macros give is taken, and one more is refused. */
 static void lengths(void)
 {
@@ -216,6 +280,10 @@ static void lengths(void)
         expect(solve_identity(n, s, s + 1, f, u) == LP_LENGTHS, "one list start more");
         expect(solve_identity(n, s, s, f + 1, u) == LP_LENGTHS, "one slot of scratch_f64 more");
         expect(solve_identity(n, s, s, f, u + 1) == LP_LENGTHS, "one slot of scratch_u32 more");
+        size_t l = LP_LOAD_SLOTS(n);
+        expect(load_slots(n, l, l) == LP_DONE, "the slots of a load");
+        expect(load_slots(n, l + 1, l) == LP_LENGTHS, "one column of a load more");
+        expect(load_slots(n, l, l + 1) == LP_LENGTHS, "one value of a load more");
         for (size_t e = 0; e <= ENTRIES; e++) {
             expect(write_zeros(n, e, LP_FILE_BYTES(n, e)) == LP_DONE, "the bytes of a file");
             expect(write_zeros(n, e, LP_FILE_BYTES(n, e) + 1) == LP_LENGTHS, "one byte more");
@@ -227,6 +295,7 @@ static void lengths(void)
     expect(LP_SCRATCH_F64(many) == 12884901885 && LP_FILE_BYTES(many, 0) == 69810262528, "products beyond 32 bits");
     expect(LP_FILE_BYTES(1 + 1, 40 + 6) == 512 && 2 * LP_STARTS_LEN(1 + 1) == 6, "arguments that are sums");
     expect(LP_SCRATCH_F64(1 + 1) == 6 && 2 * LP_SCRATCH_U32(1 + 1) == 48, "arguments that are sums");
+    expect(LP_LOAD_SLOTS(many) == 17179869180 && 2 * LP_LOAD_SLOTS(1 + 1) == 16, "slots of a load");
 }
 
 /* Solves value * x = b, which needs no slots: all four stores are NULL. */
@@ -272,6 +341,7 @@ static void nulls(void)
     expect(lp_file_shape(NONE, NONE) == LP_FILE_LENGTH, "shape, all NULL");
     expect(lp_read_matrix(NONE, NONE, NONE, NONE, NONE, NONE, NONE, NONE) == LP_FILE_LENGTH, "read, all NULL");
     expect(lp_write_matrix(1, NONE, NONE, NONE, NONE, NONE, NONE, NONE, NONE) == LP_LENGTHS, "write, all NULL");
+    expect(lp_test_load(1, 1, NONE, NONE, NONE, NONE, NONE, NONE, NONE) == LP_LENGTHS, "load, all NULL");
 }
 
 /* Bits of MXCSR, the register of the floating-point environment. */
@@ -347,6 +417,7 @@ int main(void)
     plain_form();
     shared_form();
     row_form();
+    test_load();
     lengths();
     nulls();
     environments();

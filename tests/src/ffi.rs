@@ -15,6 +15,9 @@ pub mod raw {
         ($name:ident [$($done:tt)*] $arg:ident: number, $($rest:tt)*) => {
             declare! { $name [$($done)* $arg: u32,] $($rest)* }
         };
+        ($name:ident [$($done:tt)*] $arg:ident: short, $($rest:tt)*) => {
+            declare! { $name [$($done)* $arg: u16,] $($rest)* }
+        };
         ($name:ident [$($done:tt)*] $arg:ident: lent $kind:ty, $($rest:tt)*) => {
             declare! { $name [$($done)* $arg: *const $kind, _: usize,] $($rest)* }
         };
@@ -86,6 +89,9 @@ pub mod raw {
 
     declare! { lp_write_matrix [] n: size, starts: lent u32, columns: lent u16, values: lent f64,
     r: lent u16, c: lent u16, b: lent f64, file: out u8, report: out u64, }
+
+    declare! { lp_test_load [] n: size, seed: short, starts: out u32, columns: out u16, values: out f64,
+    r: out u16, c: out u16, b: out f64, report: out u64, }
 }
 
 /// Calls a raw function: `[number]`s pass as they are, buffers as a pointer and a length.
@@ -491,4 +497,15 @@ pub fn write(matrix: &Input, file: &mut Vec<u8>) -> Result<Answer, Difference> {
     out.intact("file")?;
     *file = out.contents();
     answer(number, &report)
+}
+
+/// Makes a test load of `matrix.n` rows in the lent buffers; the report is a buffer like the others here.
+pub fn load(seed: u16, matrix: &mut Input, report: &mut Vec<u64>) -> Result<u32, Difference> {
+    let mut m = GuardedInput::new(matrix);
+    let mut slots = guard_u64(report);
+    let number = call!(lp_test_load: [matrix.n] [seed] (m.starts) (m.columns) (m.values) (m.r) (m.c) (m.b) (slots));
+    *matrix = m.back(matrix.n)?;
+    slots.intact("report")?;
+    *report = slots.contents();
+    Ok(number)
 }

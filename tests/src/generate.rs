@@ -714,17 +714,28 @@ pub fn matrix_to_write(random: &mut Random) -> (Input, usize) {
     (input, length)
 }
 
+/// A matrix of anything; starts, columns, values, r, c and b have these lengths.
+pub fn dirty_matrix(random: &mut Random, n: usize, lengths: [usize; 6]) -> Input {
+    let [starts, columns, values, r, c, b] = lengths;
+    Input {
+        n,
+        starts: dirty_u32(random, starts),
+        columns: dirty_u16(random, columns),
+        values: dirty_floats(random, values),
+        r: dirty_u16(random, r),
+        c: dirty_u16(random, c),
+        b: dirty_floats(random, b),
+    }
+}
+
+/// A report of so many slots, holding anything.
+pub fn dirty_report(random: &mut Random, length: usize) -> Vec<u64> {
+    (0..length).map(|_| random.bits()).collect()
+}
+
 /// Buffers to read n rows and e entries into, mostly of matching length, holding anything.
 pub fn matrix_to_read(random: &mut Random, n: usize, e: usize) -> Input {
-    let mut input = Input {
-        n,
-        starts: dirty_u32(random, n + 1),
-        columns: dirty_u16(random, e),
-        values: dirty_floats(random, e),
-        r: dirty_u16(random, n),
-        c: dirty_u16(random, n),
-        b: dirty_floats(random, n),
-    };
+    let mut input = dirty_matrix(random, n, [n + 1, e, e, n, n, n]);
     if random.per_mille(60) {
         let mut case = Case { call: Call::Solve(Form::Plain), input, buffers: Buffers::default(), report: 4 };
         wrong_length(random, &mut case);

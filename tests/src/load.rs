@@ -1,4 +1,4 @@
-//! Matrices that are made by a rule: the test load of request 1, tridiagonal systems, grids.
+//! Matrices that are made by a rule: the test load, tridiagonal systems, grids.
 use crate::model::Input;
 
 /// The matrix of rows of (column, value), with orders 0, 1, ...

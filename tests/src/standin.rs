@@ -1,6 +1,7 @@
 //! The reference behind the C interface, with a fault planted that the comparison must find.
+use crate::load;
 use crate::model::*;
-use crate::reference::{self, matrix_file, Lists};
+use crate::reference::{self, matrix_file, test_load, Lists};
 use std::cell::Cell;
 
 /// The faults that can be planted, each small and met by some inputs only.
@@ -26,10 +27,26 @@ pub enum Fault {
     Presented,
     /// Another right side names the place before the factors' fault.
     FactorsPlace,
+    /// The test load begins each row with the first seed.
+    LoadSeed,
+    /// The test load draws again where a column is skipped.
+    LoadAgain,
+    /// The test load takes a draw's column before the seed moves on.
+    LoadColumn,
+    /// The test load leaves its unused slots as they were.
+    LoadUnused,
+    /// The test load ends its values with -0.
+    LoadZero,
+    /// The test load writes b before it asks the last length.
+    LoadRefusal,
+    /// The test load asks the lengths first.
+    LoadLengths,
+    /// The test load writes a third slot of the report.
+    LoadReport,
 }
 
 /// Every fault.
-pub const FAULTS: [Fault; 10] = [
+pub const FAULTS: [Fault; 18] = [
     Fault::Scratch,
     Fault::Place,
     Fault::Products,
@@ -40,6 +57,14 @@ pub const FAULTS: [Fault; 10] = [
     Fault::Block,
     Fault::Presented,
     Fault::FactorsPlace,
+    Fault::LoadSeed,
+    Fault::LoadAgain,
+    Fault::LoadColumn,
+    Fault::LoadUnused,
+    Fault::LoadZero,
+    Fault::LoadRefusal,
+    Fault::LoadLengths,
+    Fault::LoadReport,
 ];
 
 thread_local! {
@@ -90,6 +115,9 @@ macro_rules! export {
     };
     (@ $name:ident [$($param:tt)*] [$($make:stmt;)*] $arg:ident: number, $($rest:tt)*) => {
         export! { @ $name [$($param)* $arg: u32,] [$($make;)*] $($rest)* }
+    };
+    (@ $name:ident [$($param:tt)*] [$($make:stmt;)*] $arg:ident: short, $($rest:tt)*) => {
+        export! { @ $name [$($param)* $arg: u16,] [$($make;)*] $($rest)* }
     };
     (@ $name:ident [$($param:tt)*] [$($make:stmt;)*] $arg:ident: lent $kind:ty, $($rest:tt)*) => {
         export! { @ $name [$($param)* $arg: *const $kind, length: usize,]
@@ -338,17 +366,29 @@ export! { lp_file_shape: file: lent u8, report: out u64,
     }
 } }
 
+fn put_matrix(
+    m: &Input,
+    starts: &mut [u32],
+    columns: &mut [u16],
+    values: &mut [f64],
+    r: &mut [u16],
+    c: &mut [u16],
+    b: &mut [f64],
+) {
+    starts.copy_from_slice(&m.starts);
+    columns.copy_from_slice(&m.columns);
+    values.copy_from_slice(&m.values);
+    r.copy_from_slice(&m.r);
+    c.copy_from_slice(&m.c);
+    b.copy_from_slice(&m.b);
+}
+
 export! { lp_read_matrix: file: lent u8, starts: out u32, columns: out u16, values: out f64,
 r: out u16, c: out u16, b: out f64, report: out u64,
 => {
     let mut matrix = matrix!(0, starts, columns, values, r, c, b);
     let answer = matrix_file::read(file, &mut matrix);
-    starts.copy_from_slice(&matrix.starts);
-    columns.copy_from_slice(&matrix.columns);
-    values.copy_from_slice(&matrix.values);
-    r.copy_from_slice(&matrix.r);
-    c.copy_from_slice(&matrix.c);
-    b.copy_from_slice(&matrix.b);
+    put_matrix(&matrix, starts, columns, values, r, c, b);
     put_report(report, &[answer.place]);
     answer.number
 } }
@@ -360,4 +400,82 @@ r: lent u16, c: lent u16, b: lent f64, file: out u8, report: out u64,
     let answer = matrix_file::write(&matrix, file);
     put_report(report, &[answer.place]);
     answer.number
+} }
+
+/// One row of the load, with a fault in its draws where one is planted.
+fn drawn_row(n: usize, k: usize, s: &mut u16) -> Vec<(usize, f64)> {
+    let mut row = vec![(k, 4.0)];
+    let mut draws = 0;
+    while draws < 3 {
+        let before = *s;
+        *s = s.wrapping_mul(25_173).wrapping_add(13_849);
+        let from = if has(Fault::LoadColumn) { before } else { *s };
+        let column = (from / 16) as usize % n;
+        let skipped = row.iter().any(|&(j, _)| j == column);
+        if !skipped {
+            row.push((column, -1.0));
+        }
+        // A full row has no other column to draw.
+        let again = has(Fault::LoadAgain) && skipped && row.len() < n;
+        draws += if again { 0 } else { 1 };
+    }
+    row
+}
+
+/// The load by another generator than the reference's.
+fn drawn(n: usize, seed: u16) -> Input {
+    let mut s = seed;
+    let mut rows = Vec::with_capacity(n);
+    for k in 0..n {
+        if has(Fault::LoadSeed) {
+            s = seed;
+        }
+        rows.push(drawn_row(n, k, &mut s));
+    }
+    load::from_rows(&rows, &vec![1.0; n])
+}
+
+/// The planted faults of a load that is made, and its entry count; `before` is what the buffers held.
+fn spoil_made(seed: u16, before: &Input, matrix: &mut Input) -> u64 {
+    let made = drawn(matrix.n, seed);
+    let e = made.columns.len();
+    matrix.starts = made.starts;
+    matrix.columns[..e].copy_from_slice(&made.columns);
+    matrix.values[..e].copy_from_slice(&made.values);
+    matrix.columns[e..].fill(0);
+    matrix.values[e..].fill(if has(Fault::LoadZero) { -0.0 } else { 0.0 });
+    if has(Fault::LoadUnused) {
+        matrix.columns[e..].copy_from_slice(&before.columns[e..]);
+        matrix.values[e..].copy_from_slice(&before.values[e..]);
+    }
+    e as u64
+}
+
+/// The planted faults of a refused load.
+fn spoil_refused(number: u32, matrix: &mut Input) -> u32 {
+    if has(Fault::LoadRefusal) && number == 2 {
+        matrix.b.fill(1.0);
+    }
+    if has(Fault::LoadLengths) && number == 1 && matrix.starts.len() != matrix.n.saturating_add(1) {
+        return 2;
+    }
+    number
+}
+
+export! { lp_test_load: n: size, seed: short, starts: out u32, columns: out u16, values: out f64,
+r: out u16, c: out u16, b: out f64, report: out u64,
+=> {
+    let mut matrix = matrix!(n, starts, columns, values, r, c, b);
+    let before = matrix.clone();
+    let mut number = test_load::make(seed, &mut matrix, report);
+    if number == 0 {
+        put_report(report, &[0, spoil_made(seed, &before, &mut matrix)]);
+    } else {
+        number = spoil_refused(number, &mut matrix);
+    }
+    if has(Fault::LoadReport) {
+        report.iter_mut().skip(2).take(1).for_each(|slot| *slot = 0);
+    }
+    put_matrix(&matrix, starts, columns, values, r, c, b);
+    number
 } }

@@ -6,8 +6,20 @@ use lilacpliers_tests::checks::cases::Range;
 use lilacpliers_tests::checks::*;
 use std::process::ExitCode;
 
-const GROUPS: [&str; 11] =
-    ["known", "consistency", "cases", "lookups", "forms", "reuse", "damaged", "files", "nulls", "program", "header"];
+const GROUPS: [&str; 12] = [
+    "known",
+    "consistency",
+    "cases",
+    "lookups",
+    "forms",
+    "reuse",
+    "damaged",
+    "files",
+    "loads",
+    "nulls",
+    "program",
+    "header",
+];
 
 struct Options {
     seed: u64,
@@ -91,6 +103,10 @@ fn check_library(library: &dyn Solver, options: &Options, tally: &mut Tally) {
         consistency::reuse(library, options.range(options.cases / 10), tally);
     }
     check_library_files(library, options, tally);
+    if options.wants("loads") {
+        loads::limits(library, options.seed, tally);
+        loads::run(library, options.range(options.cases / 100), tally);
+    }
 }
 
 fn check_library_files(library: &dyn Solver, options: &Options, tally: &mut Tally) {

@@ -1,7 +1,7 @@
 //! The tables of docs/GUIDE.md: memory is what the library needs, found by running it; refusals and limits are those of
 //! the header.
 use super::text_of;
-use crate::checks::{Library, Solver, Tally};
+use crate::checks::{loads, Library, Solver, Tally};
 use crate::compare::{self, Compared, Difference};
 use crate::load;
 use crate::model::*;
@@ -13,12 +13,13 @@ const FORMS: [(Form, &str); 3] = [(Form::Plain, "plain"), (Form::Shared, "shared
 const SHORT: [u32; 2] = [10, 11];
 
 /// The systems of the memory table.
-fn systems() -> [(&'static str, Input); 3] {
-    [
-        ("test load, n = 1,024", load::test_load(1_024, 1)),
-        ("test load, n = 2,048", load::test_load(2_048, 1)),
+fn systems() -> Result<[(&'static str, Input); 3], Difference> {
+    let library = Library { nulls: false };
+    Ok([
+        ("test load, n = 1,024", loads::made(&library, 1_024, 1)?),
+        ("test load, n = 2,048", loads::made(&library, 2_048, 1)?),
         ("grid of 64 by 64, n = 4,096", load::grid(64)),
-    ]
+    ])
 }
 
 /// The index and value slots that a side's lists use; the last list of a side is empty and stands behind all others.
@@ -105,7 +106,7 @@ fn same_rows(text: &str, begin: impl Fn(&str) -> bool, expected: &[String]) -> C
 
 fn memory() -> Compared {
     let mut rows = Vec::new();
-    for (name, input) in systems() {
+    for (name, input) in systems()? {
         for form in FORMS {
             rows.push(memory_row(name, form, &input)?);
         }

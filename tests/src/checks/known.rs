@@ -1,6 +1,6 @@
 //! Cases with known figures: the paper's boundary graphs, Report 114's example and grid, the test load.
 use super::cases::compare_case;
-use super::{Solver, Tally};
+use super::{loads, Solver, Tally};
 use crate::compare::{self, Compared, Difference};
 use crate::generate::Case;
 use crate::load;
@@ -295,8 +295,40 @@ const LOADS: [LoadFigures; 2] = [
     },
 ];
 
+/// Entry counts of the test load: n, seed and e.
+const LOAD_ENTRIES: [(usize, u16, usize); 7] =
+    [(1, 0, 1), (2, 1, 4), (9, 1, 29), (64, 1, 252), (256, 1, 1_018), (1_024, 1, 4_091), (4_096, 1, 16_377)];
+
+/// The solver's own load, which must be that of the generator here.
+fn own_load(solver: &dyn Solver, n: usize, seed: u16) -> Result<Input, Difference> {
+    let made = loads::made(solver, n, seed)?;
+    compare::matrices(&made, &load::test_load(n, seed), false)?;
+    Ok(made)
+}
+
+fn load_entries(solver: &dyn Solver) -> Compared {
+    for (n, seed, e) in LOAD_ENTRIES {
+        let made = own_load(solver, n, seed)?;
+        compare::same(&format!("entries of n {n} seed {seed}"), &made.columns.len(), &e)?;
+    }
+    Ok(())
+}
+
+/// The load of n = 5 and seed 1, written out.
+fn load_of_five(solver: &dyn Solver) -> Compared {
+    let made = own_load(solver, 5, 1)?;
+    let natural = [0, 1, 2, 3, 4];
+    compare::numbers("starts", &made.starts, &[0, 3, 6, 9, 13, 16])?;
+    compare::numbers("columns", &made.columns, &[0, 3, 2, 1, 2, 3, 2, 1, 3, 3, 2, 4, 1, 4, 3, 1])?;
+    let values = [4, -1, -1, 4, -1, -1, 4, -1, -1, 4, -1, -1, -1, 4, -1, -1].map(f64::from);
+    compare::floats("values", &made.values, &values)?;
+    compare::numbers("r", &made.r, &natural)?;
+    compare::numbers("c", &made.c, &natural)?;
+    compare::floats("b", &made.b, &[1.0; 5])
+}
+
 fn test_load(solver: &dyn Solver, figures: &LoadFigures) -> Compared {
-    let input = load::test_load(figures.n, 1);
+    let input = own_load(solver, figures.n, 1)?;
     compare::same("e", &input.columns.len(), &figures.e)?;
     let plain = Slots::sides(figures.counts.lower as usize, figures.counts.upper as usize);
     let (answer, _) = structure(solver, Form::Plain, &input, plain)?;
@@ -308,7 +340,7 @@ fn test_load(solver: &dyn Solver, figures: &LoadFigures) -> Compared {
 /// Solves the test load of other seeds and sizes in all three forms, against the reference.
 fn loads_against_reference(solver: &dyn Solver) -> Compared {
     for (n, seed) in [(1, 1), (2, 7), (40, 3), (150, 1), (300, 9), (512, 65_535)] {
-        solves_as_reference(solver, &load::test_load(n, seed), Slots::all(n * n))?;
+        solves_as_reference(solver, &own_load(solver, n, seed)?, Slots::all(n * n))?;
     }
     Ok(())
 }
@@ -324,7 +356,7 @@ fn largest_tridiagonal(solver: &dyn Solver) -> Compared {
 
 /// Runs every case with known figures on the solver.
 pub fn run(solver: &dyn Solver, tally: &mut Tally) {
-    let graphs: [(&str, Compared); 13] = [
+    let graphs: [(&str, Compared); 15] = [
         ("the paper's file", solves(solver, &paper_matrix(), counts(1, 1, 1), &[1.0, 2.0])),
         ("n = 0, 4,097 and 4,096", rows_limits(solver)),
         ("pivots -0, 2^-1023 and 2^-1024", smallest_pivots(solver)),
@@ -336,6 +368,8 @@ pub fn run(solver: &dyn Solver, tally: &mut Tally) {
         ("shared tails", shared_tails(solver)),
         ("Report 114's example", report_114_example(solver)),
         ("Report 114's grid", report_114_grid(solver)),
+        ("entries of test loads", load_entries(solver)),
+        ("test load n 5, written out", load_of_five(solver)),
         ("test loads against the reference", loads_against_reference(solver)),
         ("a tridiagonal system of 4,096", largest_tridiagonal(solver)),
     ];

@@ -5,6 +5,7 @@ pub mod files;
 pub mod forms;
 pub mod header;
 pub mod known;
+pub mod loads;
 pub mod nulls;
 #[cfg(all(feature = "standin", not(feature = "library")))]
 pub mod planted;
@@ -13,7 +14,7 @@ pub mod signatures;
 
 use crate::compare::{Compared, Difference};
 use crate::model::*;
-use crate::reference::{self, matrix_file, Lists};
+use crate::reference::{self, matrix_file, test_load, Lists};
 use std::process::ExitCode;
 
 /// How many checks passed and failed. The first failures are printed as they come.
@@ -76,6 +77,8 @@ pub trait Solver {
     fn read(&self, file: &[u8], matrix: &mut Input) -> Result<Answer, Difference>;
     /// Writes a matrix file into the lent bytes.
     fn write(&self, matrix: &Input, file: &mut Vec<u8>) -> Result<Answer, Difference>;
+    /// Makes a test load of `matrix.n` rows in the lent buffers and report, and returns its number.
+    fn load(&self, seed: u16, matrix: &mut Input, report: &mut Vec<u64>) -> Result<u32, Difference>;
 }
 
 /// The solver of this package.
@@ -108,6 +111,10 @@ impl Solver for Reference {
 
     fn write(&self, matrix: &Input, file: &mut Vec<u8>) -> Result<Answer, Difference> {
         Ok(matrix_file::write(matrix, file))
+    }
+
+    fn load(&self, seed: u16, matrix: &mut Input, report: &mut Vec<u64>) -> Result<u32, Difference> {
+        Ok(test_load::make(seed, matrix, report))
     }
 }
 
@@ -167,5 +174,10 @@ impl Solver for Library {
     fn write(&self, matrix: &Input, file: &mut Vec<u8>) -> Result<Answer, Difference> {
         crate::ffi::lend_nulls(self.nulls);
         crate::ffi::write(matrix, file)
+    }
+
+    fn load(&self, seed: u16, matrix: &mut Input, report: &mut Vec<u64>) -> Result<u32, Difference> {
+        crate::ffi::lend_nulls(self.nulls);
+        crate::ffi::load(seed, matrix, report)
     }
 }

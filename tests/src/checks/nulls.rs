@@ -1,6 +1,7 @@
 //! A buffer of length 0 may be NULL: each lent buffer in turn, and all at once, against the reference.
 use super::cases::compare_case;
 use super::files::{compare_file, compare_written};
+use super::loads::compare_load;
 use super::{known, Solver, Tally};
 use crate::compare::{self, Compared};
 use crate::generate::{self, Case};
@@ -160,6 +161,25 @@ fn files(solver: &dyn Solver, tally: &mut Tally) {
     tally.add(|| "NULL file read".to_string(), compare_file(solver, &[], &whole));
 }
 
+/// Makes a load in what is left of the matrix, with a report of so many slots.
+fn load_number(solver: &dyn Solver, matrix: &Input, report: usize, number: u32) -> Compared {
+    compare::same("number of load", &compare_load(solver, 1, matrix, &vec![7; report])?, &number)
+}
+
+fn test_loads(solver: &dyn Solver, tally: &mut Tally) {
+    let whole = matrix_file::blank(2, 8);
+    for (number, taking) in MATRIX_TAKINGS.iter().enumerate() {
+        let mut matrix = whole.clone();
+        taking(&mut matrix);
+        tally.add(|| format!("load with NULL for part {number} of its matrix"), load_number(solver, &matrix, 2, 2));
+    }
+    tally.add(|| "load with NULL report".to_string(), load_number(solver, &whole, 0, 0));
+    for (n, number) in [(0, 1), (1, 2)] {
+        let matrix = Input { n, ..Input::default() };
+        tally.add(|| format!("load with NULL for all, n = {n}"), load_number(solver, &matrix, 0, number));
+    }
+}
+
 /// The solver must lend buffers of length 0 as NULL.
 pub fn run(solver: &dyn Solver, tally: &mut Tally) {
     for &call in solver.calls() {
@@ -169,4 +189,5 @@ pub fn run(solver: &dyn Solver, tally: &mut Tally) {
         lookups(solver, form, tally);
     }
     files(solver, tally);
+    test_loads(solver, tally);
 }

@@ -19,17 +19,17 @@ fn arguments(text: &str) -> Vec<String> {
     text.split(',').map(words).filter(|part| !part.is_empty()).collect()
 }
 
-/// A pointer of C as the kind of slice it stands for.
-fn slice_kind(element: &str) -> String {
-    let kind = match element {
+/// A type of C as the others call it.
+fn c_kind(name: &str) -> &str {
+    match name {
+        "size_t" => "usize",
         "uint8_t" => "u8",
         "uint16_t" => "u16",
         "uint32_t" => "u32",
         "uint64_t" => "u64",
         "double" => "f64",
         other => other,
-    };
-    format!("slice of {kind}")
+    }
 }
 
 fn c_kinds(text: &str) -> Vec<String> {
@@ -37,10 +37,9 @@ fn c_kinds(text: &str) -> Vec<String> {
     for argument in arguments(text) {
         let argument = argument.trim_start_matches("const ").to_string();
         if let Some((element, _)) = argument.split_once(" *") {
-            kinds.push(slice_kind(element));
+            kinds.push(format!("slice of {}", c_kind(element)));
         } else if !argument.ends_with("_len") {
-            let kind = if argument.starts_with("size_t") { "usize" } else { "u32" };
-            kinds.push(kind.to_string());
+            kinds.push(c_kind(argument.split(' ').next().unwrap_or_default()).to_string());
         }
     }
     kinds
@@ -61,6 +60,7 @@ fn declared_kind(argument: &str) -> String {
     match argument.split_once(": ").map(|(_, kind)| kind) {
         Some("size") => "usize".to_string(),
         Some("number") => "u32".to_string(),
+        Some("short") => "u16".to_string(),
         Some(kind) => format!("slice of {}", kind.trim_start_matches("lent ").trim_start_matches("out ")),
         None => argument.to_string(),
     }
@@ -109,24 +109,41 @@ fn same_signatures(found: &Signatures, expected: &Signatures) -> Compared {
     compare::same("functions", &found.len(), &expected.len())
 }
 
-/// The declarations of a file against the header.
-fn declarations(path: &str) -> Compared {
-    let header = header_signatures(&text_of("include/lilacpliers.h")?);
-    same_signatures(&declared_signatures(&text_of(path)?), &header)
+/// The declarations of a file against the text of the header.
+fn declarations(path: &str, header: &str) -> Compared {
+    same_signatures(&declared_signatures(&text_of(path)?), &header_signatures(header))
 }
 
-fn exports() -> Compared {
-    let header = header_signatures(&text_of("include/lilacpliers.h")?);
+/// The exports of the library against the text of the header.
+fn exports(header: &str) -> Compared {
     // The exports name the index type; base says which it is.
     let base = text_of("crates/base/src/lib.rt")?;
     let index = between(&base, "pub type Index = ", ";").unwrap_or_default();
     let exports = text_of("crates/capi/src/lib.rt")?.replace("[Index]", &format!("[{index}]"));
-    same_signatures(&exported_signatures(&exports), &header)
+    same_signatures(&exported_signatures(&exports), &header_signatures(header))
+}
+
+/// Changes of the header that the comparison must find, one of each kind of argument.
+const CHANGES: [(&str, &str); 5] = [
+    ("uint16_t seed", "uint32_t seed"),
+    ("uint32_t side, size_t place", "uint32_t side, uint32_t place"),
+    ("uint8_t *file", "uint16_t *file"),
+    ("uint32_t lp_test_load(\n    size_t n,", "uint32_t lp_test_load("),
+    ("uint32_t lp_test_load(", "uint32_t lp_test_loads("),
+];
+
+/// Each change is there to be made and is found.
+fn changes(header: &str, compared: impl Fn(&str) -> Compared) -> Compared {
+    for (old, new) in CHANGES {
+        compare::same(&format!("the header has {old}"), &header.contains(old), &true)?;
+        let found = compared(&header.replacen(old, new, 1)).is_err();
+        compare::same(&format!("{new} is found"), &found, &true)?;
+    }
+    Ok(())
 }
 
 /// Checks that each declared function has a comment right above it.
-fn commented() -> Compared {
-    let text = text_of("include/lilacpliers.h")?;
+fn commented(text: &str) -> Compared {
     let mut above = "";
     let mut found = 0;
     for line in text.lines() {
@@ -136,14 +153,21 @@ fn commented() -> Compared {
         }
         above = line;
     }
-    compare::same("functions", &found, &header_signatures(&text).len())
+    compare::same("functions", &found, &header_signatures(text).len())
 }
 
 /// Checks that header, declarations and exports have the same functions with the same arguments.
 pub fn run(tally: &mut Tally) {
-    tally.add(|| "comments of the header".to_string(), commented());
+    let header = match text_of("include/lilacpliers.h") {
+        Ok(text) => text,
+        Err(difference) => return tally.add(|| "header".to_string(), Err(difference)),
+    };
+    tally.add(|| "comments of the header".to_string(), commented(&header));
     for path in ["tests/src/ffi.rs", "rust/src/ffi.rs"] {
-        tally.add(|| format!("declarations of {path} against the header"), declarations(path));
+        tally.add(|| format!("declarations of {path} against the header"), declarations(path, &header));
+        let found = changes(&header, |changed| declarations(path, changed));
+        tally.add(|| format!("a changed header against {path}"), found);
     }
-    tally.add(|| "exports against the header".to_string(), exports());
+    tally.add(|| "exports against the header".to_string(), exports(&header));
+    tally.add(|| "a changed header against the exports".to_string(), changes(&header, exports));
 }

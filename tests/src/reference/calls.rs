@@ -175,7 +175,7 @@ fn another_right_side(form: Form, input: &Input, buffers: &Buffers) -> Result<Ve
 }
 
 /// Leaves the slots of `from`, then zeros.
-fn put<T: Copy + Default>(to: &mut [T], from: &[T]) {
+pub fn put<T: Copy + Default>(to: &mut [T], from: &[T]) {
     to.fill(T::default());
     to[..from.len()].copy_from_slice(from);
 }

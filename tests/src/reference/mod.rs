@@ -9,6 +9,7 @@ pub mod matrix_file;
 pub mod placing;
 pub mod program;
 pub mod questions;
+pub mod test_load;
 
 pub use calls::{is_short, needs, run};
 pub use lookup::{lookup, Lists};
