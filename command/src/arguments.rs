@@ -1,6 +1,7 @@
 //! What the command line asks for. Names of files may be any bytes, so words stay `OsString`.
 use std::ffi::{OsStr, OsString};
 use std::path::{Path, PathBuf};
+use std::str::FromStr;
 
 /// What to do.
 #[derive(Debug, PartialEq)]
@@ -11,6 +12,7 @@ pub enum Task {
     Structure { file: PathBuf, orders: OrderFiles, numbers: bool },
     Convert(Convert),
     Picture { file: PathBuf, orders: OrderFiles, out: Option<PathBuf>, numbers: bool },
+    Load(Load),
 }
 
 #[derive(Debug, PartialEq)]
@@ -31,6 +33,15 @@ pub struct Convert {
     pub right: Option<PathBuf>,
     pub orders: OrderFiles,
     pub numbers: bool,
+}
+
+/// A test load: its number of rows, which the library judges, and its seed.
+#[derive(Debug, PartialEq)]
+pub struct Load {
+    pub rows: usize,
+    pub seed: u16,
+    pub numbers: bool,
+    pub out: Option<PathBuf>,
 }
 
 /// The files of the orders: one for rows and columns both, or one for either.
@@ -62,8 +73,10 @@ pub enum Topic {
     Structure,
     Convert,
     Picture,
+    Load,
 }
 
+const COMMANDS: &str = "solve, structure, convert, picture or load (lilac --help tells more)";
 const HELP: [&str; 2] = ["--help", "-h"];
 
 /// The options of a command that take a word behind them.
@@ -74,6 +87,7 @@ fn valued(topic: Topic) -> &'static [&'static str] {
         Topic::Structure => &["--order", "--rows", "--columns", "--refusals"],
         Topic::Convert => &["--right", "--order", "--rows", "--columns", "--refusals"],
         Topic::Picture => &["--order", "--rows", "--columns", "--refusals", "--output"],
+        Topic::Load => &["--refusals", "--output"],
     }
 }
 
@@ -88,7 +102,7 @@ fn switches(topic: Topic) -> &'static [&'static str] {
 pub fn parse(words: Vec<OsString>) -> Result<Task, String> {
     let mut words = words.into_iter();
     let Some(first) = words.next() else {
-        return Err("say what to do: solve, structure, convert or picture (lilac --help tells more)".to_string());
+        return Err(format!("say what to do: {COMMANDS}"));
     };
     let rest: Vec<OsString> = words.collect();
     match first.to_str() {
@@ -97,9 +111,7 @@ pub fn parse(words: Vec<OsString>) -> Result<Task, String> {
         Some("help") => help_on(&rest),
         Some(name) => match topic_of(name) {
             Some(topic) => command(topic, rest),
-            None => {
-                Err(format!("{name:?} is no command: solve, structure, convert or picture (lilac --help tells more)"))
-            }
+            None => Err(format!("{name:?} is no command: {COMMANDS}")),
         },
         None => Err(format!("{first:?} is no command (lilac --help tells more)")),
     }
@@ -111,6 +123,7 @@ fn topic_of(name: &str) -> Option<Topic> {
         "structure" => Some(Topic::Structure),
         "convert" => Some(Topic::Convert),
         "picture" => Some(Topic::Picture),
+        "load" => Some(Topic::Load),
         _ => None,
     }
 }
@@ -122,6 +135,7 @@ fn name_of(topic: Topic) -> &'static str {
         Topic::Structure => "structure",
         Topic::Convert => "convert",
         Topic::Picture => "picture",
+        Topic::Load => "load",
     }
 }
 
@@ -143,7 +157,7 @@ fn help_on(rest: &[OsString]) -> Result<Task, String> {
     }
 }
 
-/// The words behind a command, sorted into files and options.
+/// The words behind a command, sorted into files, or the numbers of a load, and options.
 struct Sorted {
     topic: Topic,
     files: Vec<OsString>,
@@ -168,6 +182,10 @@ fn command(topic: Topic, words: Vec<OsString>) -> Result<Task, String> {
         Topic::Convert => {
             let (from, to) = sorted.two_files()?;
             Ok(Task::Convert(Convert { from, to, right: sorted.path("--right"), orders, numbers }))
+        }
+        Topic::Load => {
+            let (rows, seed) = sorted.rows_and_seed()?;
+            Ok(Task::Load(Load { rows, seed, numbers, out: sorted.path("--output") }))
         }
     }
 }
@@ -296,6 +314,22 @@ impl Sorted {
             _ => Err(format!("convert needs two files, not {}", self.files.len())),
         }
     }
+
+    fn rows_and_seed(&self) -> Result<(usize, u16), String> {
+        match &self.files[..] {
+            [rows, seed] => Ok((number("N", "1 to 4096", rows)?, number("SEED", "0 to 65535", seed)?)),
+            [] => Err("load needs two numbers, N and SEED".to_string()),
+            [rows] => Err(format!("load needs two numbers, N and SEED; there is only {rows:?}")),
+            [_, _, more, ..] => Err(format!("load takes N and SEED; {more:?} is one word too many")),
+        }
+    }
+}
+
+/// A number in decimal digits alone. An N that is one but not within its limits is for the library to refuse.
+fn number<T: FromStr>(name: &str, limits: &str, word: &OsStr) -> Result<T, String> {
+    let digits = word.to_str().filter(|text| text.bytes().all(|byte| byte.is_ascii_digit()));
+    let number = digits.and_then(|text| text.parse().ok());
+    number.ok_or_else(|| format!("{name} is a decimal number, {limits}, not {word:?}"))
 }
 
 #[cfg(test)]
@@ -328,9 +362,40 @@ mod tests {
     }
 
     #[test]
+    fn a_load_has_two_numbers() {
+        let load = |rows, seed| Task::Load(Load { rows, seed, numbers: false, out: None });
+        assert_eq!(parsed("load 5 1"), Ok(load(5, 1)));
+        assert_eq!(parsed("load 0004096 065535"), Ok(load(4096, 65535)));
+        // The library judges the rows.
+        assert_eq!(parsed("load 0 0"), Ok(load(0, 0)));
+        assert_eq!(parsed("load 18446744073709551615 1"), Ok(load(usize::MAX, 1)));
+        let options = Task::Load(Load { rows: 5, seed: 1, numbers: true, out: Some("a.lp".into()) });
+        assert_eq!(parsed("load -o a.lp 5 --refusals=numbers 1"), Ok(options));
+    }
+
+    #[test]
+    fn a_bad_word_of_a_load_is_named() {
+        let bad = [
+            ("load", "N and SEED"),
+            ("load 5", "\"5\""),
+            ("load 5 1 2", "\"2\""),
+            ("load five 1", "\"five\""),
+            ("load 5 +1", "\"+1\""),
+            ("load -- -5 1", "\"-5\""),
+            ("load 5 65536", "\"65536\""),
+            ("load 18446744073709551616 1", "\"18446744073709551616\""),
+            ("load 5 1 --order r.txt", "\"--order\""),
+        ];
+        for (line, word) in bad {
+            assert!(parsed(line).is_err_and(|said| said.contains(word)), "{line}: {:?}", parsed(line));
+        }
+    }
+
+    #[test]
     fn help_is_found_everywhere() {
         assert_eq!(parsed("--help"), Ok(Task::Help(Topic::All)));
         assert_eq!(parsed("help picture"), Ok(Task::Help(Topic::Picture)));
+        assert_eq!(parsed("help load"), Ok(Task::Help(Topic::Load)));
         assert_eq!(parsed("convert --help"), Ok(Task::Help(Topic::Convert)));
     }
 

@@ -1,5 +1,6 @@
-//! The commands solve, structure and picture.
-use crate::arguments::{FormName, OrderFiles, Solve};
+//! The commands solve, structure, picture and load.
+use crate::arguments::{FormName, Load, OrderFiles, Solve};
+use crate::convert::{kind, Kind};
 use crate::facts::{facts, table_text, Fact};
 use crate::fault::Fault;
 use crate::input::{self, shown};
@@ -107,4 +108,15 @@ fn stored(matrix: &Matrix, orders: &Orders) -> Vec<Vec<usize>> {
     }
     let row = |&own: &u16| matrix.row(usize::from(own)).filter_map(|(j, _)| place_of.get(j).copied()).collect();
     orders.rows().iter().map(row).collect()
+}
+
+/// A Matrix Market file is taken to have the right side and the orders of a load, so nothing is left behind in one.
+pub fn load(asked: &Load) -> Result<(), Fault> {
+    let fault = |error| Fault::about("load", error);
+    let system = System::test_load(asked.rows, asked.seed).map_err(fault)?;
+    let out = asked.out.as_deref();
+    if out.and_then(kind) == Some(Kind::Market) {
+        return Ok(output::write(place(out), system.matrix.to_matrix_market().as_bytes())?);
+    }
+    Ok(output::write_binary(place(out), &system.write().map_err(fault)?)?)
 }

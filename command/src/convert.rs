@@ -9,12 +9,12 @@ use std::path::Path;
 
 /// The two kinds of files, by name.
 #[derive(Clone, Copy, PartialEq)]
-enum Kind {
+pub enum Kind {
     Market,
     MatrixFile,
 }
 
-fn kind(path: &Path) -> Option<Kind> {
+pub fn kind(path: &Path) -> Option<Kind> {
     let ending = path.extension()?.to_ascii_lowercase();
     match ending.to_str()? {
         "mtx" => Some(Kind::Market),

@@ -8,6 +8,7 @@ pub fn text(topic: Topic) -> &'static str {
         Topic::Structure => STRUCTURE,
         Topic::Convert => CONVERT,
         Topic::Picture => PICTURE,
+        Topic::Load => LOAD,
     }
 }
 
@@ -18,6 +19,7 @@ lilac solves sparse systems M x = b with the proved library Lilacpliers.
   lilac structure FILE   print how much the elimination fills in, and the slots of each form
   lilac convert A B      turn a Matrix Market file (.mtx) into a matrix file (.lp), or back
   lilac picture FILE     draw the fill as an SVG picture
+  lilac load N SEED      make the test load of N rows, which is the same everywhere
 
 FILE is a matrix file or a Matrix Market file; its contents tell which. The name - is standard input, and standard
 output where something is written.
@@ -89,4 +91,21 @@ denser.
   --columns FILE              the order of the columns alone, in place of --order
   --refusals words|numbers    say a refusal in plain words (the default) or as `refused NUMBER PLACE`
   -o FILE                     write to FILE instead of standard output
+";
+
+const LOAD: &str = "\
+lilac load N SEED [options]
+
+Makes the test load of N rows, 1 to 4096, from SEED, 0 to 65535, and writes it as a matrix file. The same N and SEED
+give the same bytes everywhere, so that whoever has them can compare fill and solution.
+
+Row k has 4 at column k, then three draws. A draw sets the seed to (seed * 25173 + 13849) mod 65536 and puts -1 at
+column (seed div 16) mod N, unless the row has that column; the seed runs on from row to row. The orders are 0, 1, ..,
+and the right side is all ones. No claim is made on pivots: whether a load can be solved, a solve tells.
+
+  --refusals words|numbers    say a refusal in plain words (the default) or as `refused NUMBER PLACE`
+  -o FILE                     write to FILE instead of standard output; a Matrix Market file where FILE ends in .mtx,
+                              which loses nothing, since right side and orders are those that it is taken to have
+
+A matrix file is not written to a terminal.
 ";

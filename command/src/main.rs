@@ -1,4 +1,5 @@
-//! The command `lilac`: solves sparse systems with the proved library, shows their fill, converts their files.
+//! The command `lilac`: solves sparse systems with the proved library, shows their fill, converts their files, makes a
+//! test load.
 #![deny(unsafe_code)]
 
 mod arguments;
@@ -38,6 +39,7 @@ fn refusals_as_numbers(task: &Task) -> bool {
         Task::Help(_) | Task::Version => false,
         Task::Solve(solve) => solve.numbers,
         Task::Convert(convert) => convert.numbers,
+        Task::Load(load) => load.numbers,
         Task::Structure { numbers, .. } | Task::Picture { numbers, .. } => *numbers,
     }
 }
@@ -53,5 +55,6 @@ fn run(task: Task) -> Result<(), Fault> {
         Task::Structure { file, orders, .. } => commands::structure(&file, &orders),
         Task::Convert(convert) => convert::convert(&convert),
         Task::Picture { file, orders, out, .. } => commands::picture(&file, &orders, out.as_deref()),
+        Task::Load(load) => commands::load(&load),
     }
 }

@@ -1,7 +1,7 @@
 //! Numbers as text, and writing that loses nothing silently.
 use crate::closed;
 use std::fs::{self, File};
-use std::io::{self, Write};
+use std::io::{self, IsTerminal, Write};
 use std::os::fd::AsFd;
 use std::os::unix::fs::MetadataExt;
 use std::path::Path;
@@ -54,6 +54,14 @@ pub fn write(place: Place, bytes: &[u8]) -> Result<(), String> {
         Place::Standard => to_standard(bytes).map_err(|error| format!("cannot write to standard output: {error}")),
         Place::File(path) => to_file(path, bytes).map_err(|words| format!("cannot write {}: {words}", path.display())),
     }
+}
+
+/// Writes bytes that are no text, which is why a terminal does not get them.
+pub fn write_binary(place: Place, bytes: &[u8]) -> Result<(), String> {
+    if matches!(place, Place::Standard) && io::stdout().is_terminal() {
+        return Err("a matrix file is no text for a terminal: -o FILE writes it to a file".to_string());
+    }
+    write(place, bytes)
 }
 
 /// The library's own handle takes a bad descriptor for success, so the descriptor is written to as a file.

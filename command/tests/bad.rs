@@ -119,7 +119,7 @@ fn bad_right_sides_and_orders() {
 #[test]
 fn bad_usage_has_status_2() {
     let two = example("two_by_two.lp");
-    let cases: [&[&str]; 12] = [
+    let cases: [&[&str]; 14] = [
         &[],
         &["sovle", &two],
         &["solve"],
@@ -131,6 +131,8 @@ fn bad_usage_has_status_2() {
         &["convert", &two],
         &["convert", &two, "a.txt"],
         &["convert", &two, "b.lp"],
+        &["load", "5"],
+        &["load", "5", "1", "2"],
         &["help", "me"],
     ];
     for words in cases {
@@ -150,6 +152,7 @@ fn printing_commands() -> Vec<Vec<String>> {
     let grid = example("grid_3_by_3.mtx");
     let mut all: Vec<Vec<String>> =
         ["solve", "structure", "picture"].iter().map(|name| vec![name.to_string(), grid.clone()]).collect();
+    all.push(["load", "5", "1"].map(str::to_string).to_vec());
     all.push(vec!["--help".to_string()]);
     all
 }
@@ -175,6 +178,8 @@ fn a_full_device_has_status_2() {
     }
     failed(2, &["solve", &example("two_by_two.lp"), "-o", "/dev/full"]);
     failed(2, &["picture", &example("two_by_two.lp"), "-o", "/dev/full"]);
+    failed(2, &["load", "5", "1", "-o", "/dev/full"]);
+    failed(2, &["load", "5", "1", "-o", env!("CARGO_TARGET_TMPDIR")]);
     failed(2, &["solve", &example("two_by_two.lp"), "-o", env!("CARGO_TARGET_TMPDIR")]);
     failed(2, &["solve", &example("two_by_two.lp"), "-o", &(own("no_folder") + "/x")]);
 }
@@ -209,11 +214,13 @@ fn no_part_of_a_file_is_left() {
     let matrix = file("part.mtx", tridiagonal(300));
     let whole = own("part_whole.lp");
     common::done(&["convert", &matrix, &whole]);
-    let cases: [&[&str]; 4] = [
+    let cases: [&[&str]; 6] = [
         &["solve", &matrix, "-o", &own("part.txt")],
         &["picture", &matrix, "-o", &own("part.svg")],
         &["convert", &matrix, &own("part.lp")],
         &["convert", &whole, &own("part_back.mtx")],
+        &["load", "300", "1", "-o", &own("part_load.lp")],
+        &["load", "300", "1", "-o", &own("part_load.mtx")],
     ];
     for words in cases {
         let (status, line) = limited(words);
@@ -234,10 +241,11 @@ fn no_part_of_a_file_is_left() {
 #[test]
 fn a_closed_standard_output_does_not_matter_to_a_file() {
     let two = example("two_by_two.lp");
-    let cases: [(&[&str], &[u8]); 3] = [
+    let cases: [(&[&str], &[u8]); 4] = [
         (&["solve", &two, "-o", &own("closed.txt")], b"1\n2\n"),
         (&["picture", &two, "-o", &own("closed.svg")], b"<svg"),
         (&["convert", &two, "--right", "/dev/null", &own("closed.mtx")], b"%%MatrixMarket"),
+        (&["load", "5", "1", "-o", &own("closed.lp")], &[5, 0, 0, 0, 16, 0, 0, 0]),
     ];
     for (words, start) in cases {
         let mut shell = std::process::Command::new("sh");

@@ -16,6 +16,9 @@ mod raw {
         ($name:ident [$($done:tt)*] $arg:ident: number, $($rest:tt)*) => {
             declare! { $name [$($done)* $arg: u32,] $($rest)* }
         };
+        ($name:ident [$($done:tt)*] $arg:ident: short, $($rest:tt)*) => {
+            declare! { $name [$($done)* $arg: u16,] $($rest)* }
+        };
         ($name:ident [$($done:tt)*] $arg:ident: lent $kind:ty, $($rest:tt)*) => {
             declare! { $name [$($done)* $arg: *const $kind, _: usize,] $($rest)* }
         };
@@ -87,6 +90,9 @@ mod raw {
 
     declare! { lp_write_matrix [] n: size, starts: lent u32, columns: lent u16, values: lent f64,
     r: lent u16, c: lent u16, b: lent f64, file: out u8, report: out u64, }
+
+    declare! { lp_test_load [] n: size, seed: short, starts: out u32, columns: out u16, values: out f64,
+    r: out u16, c: out u16, b: out f64, report: out u64, }
 }
 
 /// Calls a raw function: `[number]` passes as it is, `(lent)` and `{written}` buffers as a pointer and a length; the
@@ -249,7 +255,8 @@ pub(crate) fn file_shape(file: &[u8]) -> Answer {
     call!(lp_file_shape: (file))
 }
 
-/// The parts of a matrix file.
+/// The parts of a system: what a matrix file holds.
+#[derive(Default)]
 pub(crate) struct Parts {
     pub starts: Vec<u32>,
     pub columns: Vec<u16>,
@@ -257,6 +264,28 @@ pub(crate) struct Parts {
     pub rows: Vec<u16>,
     pub order: Vec<u16>,
     pub right: Vec<f64>,
+}
+
+impl Parts {
+    /// Zeros for n rows and so many entries.
+    pub fn new(n: usize, entries: usize) -> Parts {
+        Parts {
+            starts: vec![0; n + 1],
+            columns: vec![0; entries],
+            values: vec![0.0; entries],
+            rows: vec![0; n],
+            order: vec![0; n],
+            right: vec![0.0; n],
+        }
+    }
+
+    /// Cuts columns and values to the first e entries.
+    pub fn cut(&mut self, e: usize) {
+        self.columns.truncate(e);
+        self.columns.shrink_to_fit();
+        self.values.truncate(e);
+        self.values.shrink_to_fit();
+    }
 }
 
 /// Reads a matrix file into parts of the lengths that it holds.
@@ -268,4 +297,9 @@ pub(crate) fn read_matrix(file: &[u8], p: &mut Parts) -> Answer {
 pub(crate) fn write_matrix(asked: Equations, file: &mut [u8]) -> Answer {
     let (m, o, b) = (asked.matrix, asked.orders, asked.right);
     call!(lp_write_matrix: [m.rows()] (m.starts()) (m.columns()) (m.values()) (o.rows()) (o.columns()) (b) {file})
+}
+
+/// Makes a test load in parts with room for 4n entries; report[1] is how many it has.
+pub(crate) fn test_load(n: usize, seed: u16, p: &mut Parts) -> Answer {
+    call!(lp_test_load: [n] [seed] {p.starts} {p.columns} {p.values} {p.rows} {p.order} {p.right})
 }

@@ -74,6 +74,8 @@ enum Call {
     Refactor(usize),
     /// From a file of so many bytes.
     Read(usize),
+    /// Of a test load.
+    Load,
 }
 
 impl<'a> Question<'a> {
@@ -96,6 +98,10 @@ impl<'a> Question<'a> {
 
     pub fn read(file: &[u8]) -> Question<'a> {
         Question { call: Call::Read(file.len()), rows: None, matrix: None, orders: None, right: None }
+    }
+
+    pub fn load(n: usize) -> Question<'a> {
+        Question { call: Call::Load, rows: Some(n), matrix: None, orders: None, right: None }
     }
 
     /// Nothing if the answer is "done", else its refusal.
@@ -121,7 +127,7 @@ impl<'a> Question<'a> {
 
     fn words(&self, number: u32, place: usize) -> String {
         match number {
-            1 => self.rows.map_or_else(|| format!("the file has no rows, or more than {MAX_ROWS}"), rows_words),
+            1 => self.limit_words(),
             2 => self.length_words(),
             3 => format!(
                 "the row starts are wrong at row {place}: they begin at 0, never fall and end at the number of entries"
@@ -133,6 +139,14 @@ impl<'a> Question<'a> {
             8 => format!("row {place} has a column twice: add the values up{}", self.twice_words(place)),
             9..=15 => self.place_words(number, place),
             _ => self.file_words(number, place),
+        }
+    }
+
+    fn limit_words(&self) -> String {
+        match (self.call, self.rows) {
+            (Call::Load, Some(n)) => format!("a test load has 1 to {MAX_ROWS} rows, not {n}"),
+            (_, Some(n)) => rows_words(n),
+            (_, None) => format!("the file has no rows, or more than {MAX_ROWS}"),
         }
     }
 
