@@ -1,8 +1,7 @@
 // The C interface. Slices pass as pointer and length; a call answers its number and fills the report as far as it goes.
 // Each function passes on to the call that it names.
 ghost use mathlib.Core.Path.{_≡_};
-ghost use Prim.Native.Nat.{_≤_};
-ghost use mathlib.Core.List.{List, [], _∷_};
+ghost use mathlib.Core.List.{[]};
 ghost use lib.Seq.{sets};
 ghost use Rattle.base.specs.declared.Form.{Form};
 ghost use Rattle.matrix.specs.Input.{inputOf};

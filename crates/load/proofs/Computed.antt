@@ -1,8 +1,7 @@
 -- The load computed: n = 1, n = 5 whole, and entry counts.
 use Prim.Native.Nat.{ℕ}
 use mathlib.Core.Path.{_≡_, refl}
-use mathlib.Core.List.{List, [], _∷_, map}
-use lib.ListN.{length}
+use mathlib.Core.List.{[], _∷_, map}
 use Rattle.base.specs.Lists.{has, sum, table, joined}
 use Rattle.load.specs.Load.{drawn, columnOf, added, seedAt, rowAt, entriesAt, valuesFor, four, minusOne, one, load}
 
@@ -28,6 +27,6 @@ five-rows = refl
 abbrev counted : ℕ × ℕ → ℕ
 counted q = entriesAt (q .0) (q .1) (q .0)
 
-pub counts : map counted ((1, 0) ∷ (1, 65535) ∷ (2, 1) ∷ (5, 7) ∷ (9, 1) ∷ (64, 1) ∷ (64, 65535) ∷ []) ≡ 1 ∷ 1 ∷ 4 ∷ 17 ∷ 29 ∷ 252 ∷ 249 ∷ []
+pub counts : map counted ((1, 0) ∷ (1, 65535) ∷ (2, 1) ∷ (5, 7) ∷ (9, 1) ∷ (64, 1) ∷ (64, 65535) ∷ (256, 1) ∷ []) ≡ 1 ∷ 1 ∷ 4 ∷ 17 ∷ 29 ∷ 252 ∷ 249 ∷ 1018 ∷ []
 unfolding entriesAt sum rowAt seedAt added has drawn columnOf
 counts = refl

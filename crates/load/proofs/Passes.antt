@@ -1,27 +1,24 @@
 -- The load passes questions 3 to 8, and its lists are what 1 and 2 ask for, with e its entry count. No claim is made on pivots.
-use Prim.Native.Nat.{ℕ, zero, suc, _+_, _-_, _*_, _<_, _≤_}
+use Prim.Native.Nat.{ℕ, zero, suc, _+_, _-_, _<_, _≤_}
 use mathlib.Core.Path.{_≡_, refl, sym, ap, _∙_}
-use mathlib.Core.Bool.{Bool, true, false, not, _&&_, _||_}
+use mathlib.Core.Bool.{true, false, not, _&&_}
 use mathlib.Core.List.{List, [], _∷_, _++_, map}
 use native.Mathlib.Omega.{arith}
-use native.Mathlib.Numerals.{add-one}
-use lib.ListN.{length, getD, take, drop}
-use lib.Dec.{ltb, leb, eqb}
+use lib.ListN.{length, getD}
+use lib.Dec.{ltb, eqb}
 use lib.Ieee.{Float, nan}
 use lib.Ieee.Scale.{finite}
-use borrow.Author.Tests.{lt-ltb, le-ltb, lt-leb, eqb-true, eq-eqb, ne-eqb}
+use borrow.Author.Tests.{le-ltb, lt-leb, eqb-true, eq-eqb, ne-eqb}
 use Rattle.base.specs.Lists.{listAt, rowOf, table, joined, sum}
 use Rattle.base.specs.Limits.{maxRows, maxEntries}
 use Rattle.base.specs.Tests.{by-test}
-use Rattle.base.specs.First.{first, isAt}
 use Rattle.base.specs.FirstLaws.{first-all}
 use Rattle.base.specs.TableLaws.{getD-table, length-table}
-use Rattle.base.specs.declared.Found.the-variants.{Nothing}
 use Rattle.base.specs.declared.Asked.the-variants.{Pass}
-use Rattle.matrix.specs.Input.{Input, isOf}
+use Rattle.matrix.specs.Input.{isOf}
 use Rattle.matrix.specs.ListsLaws.{Long}
 use Rattle.matrix.specs.Questions.{badStart, badColumn, badIndex, notFinite, noEntry, emptyRow, seenAt, repeats, repeatRow, ask3, ask4, ask5, ask6, ask7, ask8, askFinite, askPattern, askRows, askSolve}
-use Rattle.load.specs.Load.{rowAt, entriesAt, valuesFor, four, minusOne, one, load}
+use Rattle.load.specs.Load.{rowAt, entriesAt, valuesFor, minusOne, one, load}
 use Rattle.load.proofs.RowsLaws.{entries-long, numbers-long, entries-more}
 use Rattle.load.proofs.RowLaws.{Row, row-at, entries-most, part-is}
 

@@ -1,18 +1,18 @@
 -- The rows of the load: each has an entry, none a column twice, and all columns are below n.
 use Prim.Native.Nat.{ℕ, zero, suc, _+_, _*_, _<_, _≤_}
-use mathlib.Core.Path.{_≡_, refl, sym, ap, _∙_}
-use mathlib.Core.Bool.{Bool, true, false, _||_, true≢false}
+use mathlib.Core.Path.{_≡_, refl, sym}
+use mathlib.Core.Bool.{false, true≢false}
 use mathlib.Core.List.{List, [], _∷_, _++_, append-nil, append-assoc}
 use native.Mathlib.Nat.{mod-lt}
-use native.Mathlib.Decide.{ℕ-discrete, decLt}
+use native.Mathlib.Decide.{decLt}
 use native.Mathlib.Omega.{arith}
 use lib.ListN.{length, getD, take, drop, length-append, List·getD-append}
 use lib.Seq.{take-at, drop-at, getD-at}
 use lib.Dec.{eqb}
-use borrow.Author.Tests.{eqb-true, eq-eqb}
+use borrow.Author.Tests.{eq-eqb}
 use Rattle.base.specs.Lists.{has, joined, sum}
 use Rattle.base.specs.Tests.{by-test}
-use Rattle.load.specs.Load.{drawn, columnOf, added, Drawing, draw, rowFrom, seedAt, rowAt, entriesAt}
+use Rattle.load.specs.Load.{columnOf, added, Drawing, draw, seedAt, rowAt, entriesAt}
 
 -- what a row is at every draw
 pub record Row (n : ℕ) (row : List ℕ) : Type 0 where

@@ -4,7 +4,7 @@ use mathlib.Core.Path.{_≡_, refl, sym, ap, _∙_}
 use mathlib.Core.List.{List, [], _++_}
 use native.Mathlib.Numerals.{add-one}
 use native.Mathlib.Omega.{arith}
-use lib.ListN.{length, take, set, length-append, length-set}
+use lib.ListN.{length, set, length-append, length-set}
 use lib.Ieee.{Float}
 use Rattle.base.specs.Lists.{nought, padded, sum, table, joined}
 use Rattle.base.specs.Limits.{maxRows}

@@ -1,6 +1,6 @@
 -- What the functions ask for is met by computed values, and the call's three answers come about.
 use mathlib.Core.Path.{_≡_, refl}
-use mathlib.Core.List.{List, [], _∷_}
+use mathlib.Core.List.{[], _∷_}
 use native.Mathlib.Omega.{arith}
 use lib.Ieee.{nan}
 use Rattle.base.specs.Lists.{has, sum, table, joined, nought, padded}

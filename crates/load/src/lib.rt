@@ -1,15 +1,13 @@
 // The test load that every office can make: a matrix, orders and a right side from n and a 16-bit seed.
 ghost use mathlib.Core.Path.{_≡_};
 ghost use Prim.Native.Nat.{ℕ, _+_, _<_, _≤_};
-ghost use mathlib.Core.List.{List};
-ghost use lib.Ieee.{Float};
 ghost use lib.ListN.{length};
 ghost use Rattle.base.specs.Lists.{has, table};
-ghost use Rattle.load.specs.Load.{drawn, columnOf, added, rowFrom, four, minusOne, one, loadOutcome};
+ghost use Rattle.load.specs.Load.{drawn, columnOf, four, minusOne, one, loadOutcome};
 ghost use Rattle.matrix.specs.Lists.{matrixLists};
 ghost use Rattle.base.specs.Answers.{left};
 ghost use Rattle.base.specs.Limits.{maxRows};
-ghost use Rattle.load.specs.Stores.{Held, Drawable, Drew, RowDrawable, RowDrew, RowsLent, RowsDrawn};
+ghost use Rattle.load.specs.Stores.{Drawable, Drew, RowDrawable, RowDrew, RowsLent, RowsDrawn};
 use base::Index;
 use base::Made;
 use base::Refusal;

@@ -1,7 +1,7 @@
 // The matrix file: its shape, its reading and its writing.
 ghost use mathlib.Core.Path.{_≡_};
 ghost use mathlib.Core.List.{_++_};
-ghost use Prim.Native.Nat.{ℕ, _+_, _*_, _≤_, _<_};
+ghost use Prim.Native.Nat.{_+_, _*_, _≤_, _<_};
 ghost use lib.ListN.{length};
 ghost use Rattle.base.specs.Answers.{left};
 ghost use Rattle.base.specs.declared.Asked.the-variants.{Pass};

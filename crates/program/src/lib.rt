@@ -1,6 +1,6 @@
 // The program's answer to a matrix file: the lines that it prints, written into a lent buffer.
 ghost use mathlib.Core.Path.{_≡_};
-ghost use Prim.Native.Nat.{ℕ, _+_, _*_, _≤_};
+ghost use Prim.Native.Nat.{_+_, _*_, _≤_};
 ghost use lib.ListN.{length};
 ghost use Rattle.base.specs.declared.Form.the-variants.{Plain};
 ghost use Rattle.matrix.specs.Input.{inputOf};

@@ -6,7 +6,7 @@ use native.Mathlib.Numerals.{add-one}
 use lib.ListN.{length, getD, set, drop, drop-of-length-le}
 use lib.Seq.{sets, drop-cons}
 use Rattle.base.specs.Limits.{maxRows}
-use Rattle.base.specs.Answers.{numberOf, placeOf, numberOfAnswer, placeOfAnswer, countsOf, placeOfEnd, placeOfMade, entriesOf, spot, Left, left}
+use Rattle.base.specs.Answers.{numberOf, placeOf, placeOfAnswer, countsOf, placeOfEnd, placeOfMade, entriesOf, spot, Left, left}
 use Rattle.base.specs.declared.Counts.{Counts}
 use Rattle.base.specs.declared.Form.{Form}
 use Rattle.base.specs.declared.Place.{Place}

@@ -1,7 +1,6 @@
 // What the C interface adds to a call: the report's slots filled as far as they go, and numbers that stand for a side and a place.
 ghost use mathlib.Core.Path.{_≡_};
 ghost use Prim.Native.Nat.{_≤_};
-ghost use mathlib.Core.List.{[], _∷_};
 ghost use lib.ListN.{set};
 ghost use lib.Seq.{sets};
 ghost use Rattle.base.specs.Answers.{numberOfAnswer, numberOfEnd, numberOfMade};
