@@ -329,7 +329,7 @@ uint32_t lp_file_shape(
 /* Reads a matrix file into buffers of n + 1, e, e, n, n and n slots, as lp_file_shape tells n and e.
  * Asks 16, 17, 1, 18 and 2; what the file holds is not judged. A number of the file that is any NaN becomes a NaN
  * whose bits are the compiler's choice: the same code unoptimised may give it the other sign.
- * A refusal writes nothing but the report. */
+ * A refusal writes nothing but the report. report[0] is the place; there are no counts. */
 uint32_t lp_read_matrix(
     const uint8_t *file, size_t file_len,
     uint32_t *starts, size_t starts_len,
@@ -343,7 +343,8 @@ uint32_t lp_read_matrix(
 /* Writes a matrix file. Its length is LP_FILE_BYTES(n, e), 512 times the quotient (12 + 16n + 10e) / 504 rounded up;
  * e is columns_len.
  * Asks 1, 18 (e over its limit) and 2 (any length, the file's too); what the matrix holds is not judged, and every
- * NaN is written as 7FF8000000000000. A refusal writes nothing but the report. */
+ * NaN is written as 7FF8000000000000. A refusal writes nothing but the report. report[0] is the place; there are no
+ * counts. */
 uint32_t lp_write_matrix(
     size_t n,
     const uint32_t *starts, size_t starts_len,
@@ -360,7 +361,8 @@ uint32_t lp_write_matrix(
  * column already. The seed runs on from row to row. Entries stand as drawn, r and c are 0, 1, ..., b is all 1.0.
  * Lengths: n + 1 for starts, LP_LOAD_SLOTS(n) for columns and values, n for r, c and b. report[1] is e, 0 after a
  * refusal, and the last slot written; other calls are lent the first e slots of columns and values, the rest are zero.
- * Asks 1 and 2. A refusal writes nothing but the report. No claim is made on pivots: a solve may give 12 or 13. */
+ * Asks 1 and 2. A refusal writes nothing but the report. No claim is made on pivots. Beyond some 2600 rows the fill of
+ * a load is over LP_MAX_SLOTS, and a solve gives LP_LOWER_SLOTS or LP_UPPER_SLOTS. */
 uint32_t lp_test_load(
     size_t n,
     uint16_t seed,

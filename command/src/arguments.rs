@@ -219,7 +219,7 @@ fn sort(topic: Topic, words: Vec<OsString>) -> Result<Sorted, String> {
             sorted.files.extend(words);
             break;
         }
-        if !is_option(&word) {
+        if !is_option(topic, &word) {
             sorted.files.push(word);
         } else if HELP.iter().any(|&help| word == help) {
             sorted.help = true;
@@ -230,9 +230,12 @@ fn sort(topic: Topic, words: Vec<OsString>) -> Result<Sorted, String> {
     Ok(sorted)
 }
 
-/// A lone `-` is the name of standard input, not an option.
-fn is_option(word: &OsStr) -> bool {
-    word.as_encoded_bytes().starts_with(b"-") && word.len() > 1
+/// A lone `-` is the name of standard input, not an option; a negative number is a wrong number of a load.
+fn is_option(topic: Topic, word: &OsStr) -> bool {
+    match word.as_encoded_bytes().strip_prefix(b"-") {
+        None | Some(b"") => false,
+        Some(rest) => topic != Topic::Load || !rest.iter().all(u8::is_ascii_digit),
+    }
 }
 
 impl Sorted {
@@ -325,7 +328,7 @@ impl Sorted {
     }
 }
 
-/// A number in decimal digits alone. An N that is one but not within its limits is for the library to refuse.
+/// A number in decimal digits alone. An N that fits 64 bits but not its limits is for the library to refuse.
 fn number<T: FromStr>(name: &str, limits: &str, word: &OsStr) -> Result<T, String> {
     let digits = word.to_str().filter(|text| text.bytes().all(|byte| byte.is_ascii_digit()));
     let number = digits.and_then(|text| text.parse().ok());
@@ -382,6 +385,7 @@ mod tests {
             ("load five 1", "\"five\""),
             ("load 5 +1", "\"+1\""),
             ("load -- -5 1", "\"-5\""),
+            ("load 5 -1", "SEED is a decimal number, 0 to 65535, not \"-1\""),
             ("load 5 65536", "\"65536\""),
             ("load 18446744073709551616 1", "\"18446744073709551616\""),
             ("load 5 1 --order r.txt", "\"--order\""),

@@ -14,13 +14,12 @@ pub enum Kind {
     MatrixFile,
 }
 
+/// The kind that the end of a name tells; `.mtx` alone is a name, too.
 pub fn kind(path: &Path) -> Option<Kind> {
-    let ending = path.extension()?.to_ascii_lowercase();
-    match ending.to_str()? {
-        "mtx" => Some(Kind::Market),
-        "lp" => Some(Kind::MatrixFile),
-        _ => None,
-    }
+    let name = path.file_name()?.to_ascii_lowercase();
+    let name = name.as_encoded_bytes();
+    let market = name.ends_with(b".mtx").then_some(Kind::Market);
+    market.or(name.ends_with(b".lp").then_some(Kind::MatrixFile))
 }
 
 fn kind_due(path: &Path) -> Result<Kind, Fault> {
@@ -144,5 +143,23 @@ fn check_rows(name: &str, matrix: &Matrix) -> Result<(), Fault> {
     match matrix.columns().iter().position(|&j| usize::from(j) >= n) {
         Some(entry) => Err(format!("{name}: the column of entry {entry} is not below {n}").into()),
         None => Ok(()),
+    }
+}
+
+#[cfg(test)]
+mod tests {
+    use super::*;
+
+    #[test]
+    fn the_end_of_a_name_tells_its_kind() {
+        for name in ["a.mtx", "A.MTX", "folder/a.b.mtx", ".mtx"] {
+            assert!(kind(Path::new(name)) == Some(Kind::Market), "{name}");
+        }
+        for name in ["a.lp", "a.Lp", ".lp"] {
+            assert!(kind(Path::new(name)) == Some(Kind::MatrixFile), "{name}");
+        }
+        for name in ["", "-", "mtx", "lp", "a.mtx.gz", "a.mtx ", "folder.mtx/a"] {
+            assert!(kind(Path::new(name)).is_none(), "{name}");
+        }
     }
 }

@@ -25,7 +25,7 @@ FILE is a matrix file or a Matrix Market file; its contents tell which. The name
 output where something is written.
 A matrix has up to 4096 rows and 65536 entries. lilac COMMAND --help says more about a command.
 
-Exit status: 0 done; 1 the library refused the system; 2 bad usage, or a file that cannot be read or written.
+Exit status: 0 done; 1 the library refused the system, or the size of a load; 2 bad usage, or a file that cannot be read or written.
 Places, rows and columns count from 0, but lines, rows and columns of a Matrix Market file from 1.
 Messages go to standard error, and so do signs of life when the work takes over a second.
 ";
@@ -101,11 +101,12 @@ give the same bytes everywhere, so that whoever has them can compare fill and so
 
 Row k has 4 at column k, then three draws. A draw sets the seed to (seed * 25173 + 13849) mod 65536 and puts -1 at
 column (seed div 16) mod N, unless the row has that column; the seed runs on from row to row. The orders are 0, 1, ..,
-and the right side is all ones. No claim is made on pivots: whether a load can be solved, a solve tells.
+and the right side is all ones. No claim is made on pivots: whether a load can be solved, a solve tells. Beyond some
+2600 rows its fill is more than a store may hold, and a solve is refused.
 
   --refusals words|numbers    say a refusal in plain words (the default) or as `refused NUMBER PLACE`
   -o FILE                     write to FILE instead of standard output; a Matrix Market file where FILE ends in .mtx,
                               which loses nothing, since right side and orders are those that it is taken to have
 
-A matrix file is not written to a terminal.
+Standard output that is a terminal gets no matrix file.
 ";

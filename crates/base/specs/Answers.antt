@@ -1,4 +1,4 @@
--- The paper's number, place and counts for each case of an answer. Definitions only.
+-- The paper's number, place, counts and entries for each case of an answer; questions one after another; what a call leaves. Definitions only.
 use Prim.Native.Nat.{ℕ}
 use Rattle.base.specs.declared.OwnNumber.{OwnNumber}
 use Rattle.base.specs.declared.Place.{Place}
@@ -89,7 +89,7 @@ abbrev pub placeOfMade : Made → ℕ
 placeOfMade (makes.Entries e) = 0
 placeOfMade (makes.Refused q) = placeOf q
 
--- "and the entry count is returned"
+-- "and the entry count is returned": 0 after a refusal
 abbrev pub entriesOf : Made → ℕ
 entriesOf (makes.Entries e) = e
 entriesOf (makes.Refused q) = 0

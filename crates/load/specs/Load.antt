@@ -67,14 +67,14 @@ unfoldable pub valuesFor : List ℕ → List Float
 valuesFor [] = []
 valuesFor (k ∷ others) = four ∷ map (λ j. minusOne) others
 
--- the load, with "b all 1.0, orders 0, 1, ..."
+-- the load: "b is all 1.0, orders 0, 1, ..."
 unfoldable pub load : ℕ → ℕ → Input
 load n s =
     inputOf n (table (entriesAt n s) (n + 1)) (joined (rowAt n s) n) (joined (λ k. valuesFor (rowAt n s k)) n) (table (λ k. k) n) (table (λ k. k) n) (table (λ k. one) n)
 
 -- ---- the call
 
--- "An n outside document 01's range gets 1 .. a buffer of wrong length gets 2"; "Columns and values have 4n slots"
+-- "An n outside document 01's range gets 1 .. a buffer of wrong length gets 2"; "Columns and values have 4n slots", the others as many as the matrix needs
 unfoldable pub askLoad : ℕ → MatrixLists → Asked
 askLoad n l = andThen (holds (rowsWithin n) Rows) (holds (listsRight n (4 * n) l) Lengths)
 

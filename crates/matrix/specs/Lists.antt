@@ -25,7 +25,7 @@ listsIn i = matrixLists (i .starts) (i .columns) (i .values) (i .r) (i .c) (i .b
 abbrev pub withRows : ℕ → MatrixLists → Input
 withRows n l = inputOf n (l .starts) (l .columns) (l .values) (l .r) (l .c) (l .b)
 
--- "Buffers of matching length?": n + 1 starts, e columns and values, n of each of r, c and b
+-- "Buffers of matching length?": n + 1 starts, e slots of columns and values (a file's entries, a load's 4n), n of each of r, c and b
 abbrev pub lengthsRight : ℕ → ℕ → ℕ → ℕ → ℕ → ℕ → ℕ → ℕ → Bool
 lengthsRight n e s j v r c b = eqb s (n + 1) && eqb j e && eqb v e && eqb r n && eqb c n && eqb b n
 

@@ -1,4 +1,4 @@
-// The matrix type: its limits, and the shape of a matrix within them.
+// The matrix type: its limits, the shape of a matrix within them, and the lengths of its lists.
 ghost use mathlib.Core.Path.{_≡_};
 ghost use Prim.Native.Nat.{_≤_};
 ghost use Rattle.base.specs.Limits.{maxRows, maxEntries, maxSlots, rowsWithin};
@@ -38,7 +38,7 @@ impl Matrix {
         (1 <= n) & (n <= Self::MAX_ROWS)
     }
 
-    // Asks 2, of the lengths of a matrix's lists: tells whether they are those of n rows and e entries.
+    // Asks 2, of the lengths of a matrix's lists: tells whether they are those of n rows and e slots for its entries.
     pub fn lengths_right(
         n: usize,
         e: usize,
