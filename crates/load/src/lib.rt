@@ -13,7 +13,7 @@ use base::Made;
 use base::Refusal;
 use matrix::Matrix;
 
-// Draws: gives the seed after this one.
+// Gives the seed that a draw sets.
 fn next(seed: u32) -> u32
     requires { ⌜ seed < 65536 ⌝ }
     ensures { λ r. ⌜ (r ≡ drawn seed) × (r < 65536) ⌝ }
@@ -43,12 +43,14 @@ fn stands(row: &[Index], j: u32) -> bool
     false
 }
 
+// Gives the value of entry (k, k). A function of its own, so that the literal is tied to the definition once.
 fn diagonal() -> f64
     ensures { λ r. ⌜ r ≡ four ⌝ }
 {
     4.0
 }
 
+// Gives the value of a drawn entry.
 fn share() -> f64
     ensures { λ r. ⌜ r ≡ minusOne ⌝ }
 {
