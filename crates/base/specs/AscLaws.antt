@@ -7,7 +7,7 @@ use native.Mathlib.Nat.{add-mul}
 use native.Mathlib.Omega.{arith}
 use native.Mathlib.Decide.{decLt, ℕ-discrete}
 use lib.ListN.{length, getD, take, drop, length-append, List·getD-append, drop-of-length-le}
-use lib.Seq.{take-append-le, drop-append-le, getD-at, take-all}
+use lib.Seq.{take-append-le, drop-append-le, drop-cons, getD-at, take-all}
 use native.Mathlib.Numerals.{add-one}
 use lib.Dec.{ltb, leb, eqb}
 use Rattle.base.specs.Lists.{sum, bit, count, keep, asc, total, has}
@@ -240,6 +240,11 @@ pub has-append : (a b : List ℕ) (j : ℕ) → has (a ++ b) j ≡ (has a j || h
 unfolding has
 has-append [] b j = refl
 has-append (x ∷ a) b j = ap (λ t. eqb x j || t) (has-append a b j) ∙ sym (or-assoc (eqb x j) (has a j) (has b j))
+
+-- from entry p on: p itself, then the later ones
+pub has-drop : (l : List ℕ) (j p : ℕ) → p < length l → has (drop p l) j ≡ (eqb (getD l p 0) j || has (drop (p + 1) l) j)
+unfolding has
+has-drop l j p h = rw (drop-cons l p 0 h, add-one)
 
 ltb-step : (n j : ℕ) → ¬ (n ≡ j) → ltb j (suc n) ≡ ltb j n
 ltb-step n j e = elim (decLt j n) [

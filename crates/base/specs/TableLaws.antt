@@ -26,6 +26,10 @@ module _ {A : Type 0} where
   table-ext f g zero h = refl
   table-ext f g (suc n) h = rw (table-ext f g n (λ i l. h i (omega arith)), h n (omega arith))
 
+  pub joined-more : (f : ℕ → List A) (k : ℕ) → joined f (k + 1) ≡ joined f k ++ f k
+  unfolding joined
+  joined-more f k = rw add-one
+
   pub joined-ext : (f g : ℕ → List A) (n : ℕ) → ((i : ℕ) → i < n → f i ≡ g i) → joined f n ≡ joined g n
   unfolding joined
   joined-ext f g zero h = refl

@@ -3,6 +3,7 @@
 ghost use mathlib.Core.Path.{_≡_};
 ghost use mathlib.Core.List.{[]};
 ghost use lib.Seq.{sets};
+ghost use Rattle.base.specs.Answers.{numberOfAnswer};
 ghost use Rattle.base.specs.declared.Form.{Form};
 ghost use Rattle.matrix.specs.Input.{inputOf};
 ghost use Rattle.outcome.specs.Buffers.{plainBuffers, sharedBuffers, rowBuffers};
@@ -11,10 +12,11 @@ ghost use Rattle.outcome.specs.Solve.{solve};
 ghost use Rattle.outcome.specs.Refactor.{refactor};
 ghost use Rattle.outcome.specs.Resolve.{resolve};
 ghost use Rattle.lookup.specs.Lookup.{sideLists};
+ghost use Rattle.fill_sheet.specs.FillSheet.{sheetBuffers, sheetOutcome};
 ghost use Rattle.load.specs.Load.{loadOutcome};
 ghost use Rattle.matrix.specs.Lists.{matrixLists};
 ghost use Rattle.matrix_file.specs.MatrixFile.{opened, readOutcome, writeOutcome};
-ghost use Rattle.report.specs.Report.{Told, ToldEnd, ToldMade, asLeft, numberOfShape, shapeSlots, listSlots};
+ghost use Rattle.report.specs.Report.{Reported, Told, ToldEnd, ToldMade, asLeft, answerSlots, numberOfShape, shapeSlots, listSlots};
 use base::Index;
 
 // Finds the fill and its lists, lower rows and T(k) one after another.
@@ -148,6 +150,53 @@ pub extern "C" fn lp_structure_shared(
         upper_values,
         scratch_f64,
         scratch_u32,
+    );
+    report::put_answer(report, a)
+}
+
+// Finds the fill and its lists as lp_structure_shared does, and prints the fill sheet.
+#[no_mangle]
+pub extern "C" fn lp_fill_sheet(
+    n: usize,
+    starts: &[u32],
+    columns: &[Index],
+    r: &[Index],
+    c: &[Index],
+    lower_starts: &mut [u32],
+    lower_runs: &mut [u32],
+    lower_index: &mut [Index],
+    lower_values: &mut [f64],
+    upper_starts: &mut [u32],
+    upper_runs: &mut [u32],
+    upper_index: &mut [Index],
+    upper_values: &mut [f64],
+    scratch_f64: &mut [f64],
+    scratch_u32: &mut [u32],
+    sheet: &mut [u8],
+    report: &mut [u64],
+) -> u32
+    ensures { λ q. ⌜ Reported numberOfAnswer answerSlots (sheetOutcome (inputOf n (now (starts .entry)) (now (columns .entry)) [] (now (r .entry)) (now (c .entry)) [])
+        (sheetBuffers (sharedBuffers (now («lower_starts» .entry)) (now («lower_runs» .entry)) (now («lower_index» .entry)) (now («lower_values» .entry)) (now («upper_starts» .entry)) (now («upper_runs» .entry)) (now («upper_index» .entry)) (now («upper_values» .entry)) [] [] (now («scratch_f64» .entry)) (now («scratch_u32» .entry))) (now (sheet .entry))))
+        (now (report .entry)) (now (report .exit))
+        (sheetBuffers (sharedBuffers (now («lower_starts» .exit)) (now («lower_runs» .exit)) (now («lower_index» .exit)) (now («lower_values» .exit)) (now («upper_starts» .exit)) (now («upper_runs» .exit)) (now («upper_index» .exit)) (now («upper_values» .exit)) [] [] (now («scratch_f64» .exit)) (now («scratch_u32» .exit))) (now (sheet .exit))) q ⌝ }
+{
+    let a = fill_sheet::fill_sheet(
+        n,
+        starts,
+        columns,
+        r,
+        c,
+        lower_starts,
+        lower_runs,
+        lower_index,
+        lower_values,
+        upper_starts,
+        upper_runs,
+        upper_index,
+        upper_values,
+        scratch_f64,
+        scratch_u32,
+        sheet,
     );
     report::put_answer(report, a)
 }

@@ -23,6 +23,7 @@ use Rattle.matrix.specs.Lists.{lengthsRight, listsRight, MatrixLists}
 use Rattle.matrix_file.specs.MatrixFile.{nOf, eOf, fitsShape, fileLength, askHead, askFile, shaped, opened, askRead, askLengths, askWrite, readOutcome, writeOutcome}
 use Rattle.lookup.specs.Lookup as lookup
 use Rattle.load.specs.Load.{askLoad, loadOutcome}
+use Rattle.fill_sheet.specs.FillSheet.{SheetBuffers, askSheet, sheetStructure, withSheet, sheetOutcome}
 use Rattle.lookup.specs.LookupLaws.{sized-no, span-unfit, part-is}
 use Rattle.outcome.specs.Buffers.{Buffers, sizes, askShape, Outcome, ended, stop}
 use Rattle.outcome.specs.Structure.{askPlaces, structure}
@@ -35,6 +36,7 @@ use Rattle.cases.specs.Boundary.{Refuses, Passes}
 use Rattle.matrix.specs.declared.Matrix.{Matrix}
 use Rattle.matrix.specs.declared.Shaped.the-variants.{Shape, Unshaped}
 use Rattle.base.specs.declared.Form.{Form}
+use Rattle.base.specs.declared.Form.the-variants.{Shared}
 use Rattle.base.specs.declared.Side.{Side}
 use Rattle.base.specs.declared.Place.{Place}
 use Rattle.base.specs.declared.Refusal.{Refusal}
@@ -96,7 +98,7 @@ module _ (n : ℕ) (o : rowsWithin n ≡ false) where
   out m e = ap rowsWithin e ∙ o
 
   pub refuses : Refuses n
-  unfolding structure solve shape refactor resolve opened readOutcome writeOutcome loadOutcome
+  unfolding structure solve shape refactor resolve opened readOutcome writeOutcome loadOutcome sheetOutcome sheetStructure askSheet
   refuses =
       record {
         structures = λ f i s e. first-stop Refused _ s _ Rows (shape-1 (i .n) _ (out (i .n) e));
@@ -107,6 +109,7 @@ module _ (n : ℕ) (o : rowsWithin n ≡ false) where
         opens = λ file p e. ap (λ (a : Asked). shaped a (record { rows = nOf file; entries = eOf file })) (file-1 file p (out (nOf file) e));
         reads = λ file l p e. declined ends.Refused (askRead file l) _ _ l Rows (read-1 file l (file-1 file p (out (nOf file) e)));
         writes = λ i file e. declined ends.Refused (askWrite i (length file)) _ _ file Rows (write-1 i (length file) (out (i .n) e));
+        sheets = λ i s e. ap (withSheet i (s .sheet)) (first-stop Refused _ (s .stores) _ Rows (shape-1 (i .n) _ (out (i .n) e)));
         loads = λ s l. declined mades.Refused (askLoad n l) _ _ l Rows (load-1 n l o);
         looks = λ f side k l u. (span-1 f side k n l u o, none-1 f side k n l u o);
       }
@@ -118,13 +121,14 @@ abbrev Later : Asked → Type 0
 Later a = Within 2 18 a
 
 module _ {A : Type 0} (number : A → ℕ) (refuse : Refusal → A) (told : (q : Refusal) → number (refuse q) ≡ numberOf q) where
+  first-not : (a : Asked) (s : Buffers) (o : Outcome A) → Later a → (number (o .answer) ≡ 1 → ⊥) → number (stop refuse a s o .answer) ≡ 1 → ⊥
+  unfolding Within
+  first-not Pass s o v h e = h e
+  first-not (Stop q) s o v h e = omega (arith, v q refl, told q)
+
   -- three questions, and what follows
   never : (a b c : Asked) (s t u : Buffers) (o : Outcome A) → Later a → Later b → Later c → (number (o .answer) ≡ 1 → ⊥) → number (stop refuse a s (stop refuse b t (stop refuse c u o)) .answer) ≡ 1 → ⊥
-  unfolding Within
-  never Pass Pass Pass s t u o v w x h e = h e
-  never Pass Pass (Stop q) s t u o v w x h e = omega (arith, x q refl, told q)
-  never Pass (Stop q) c s t u o v w x h e = omega (arith, w q refl, told q)
-  never (Stop q) b c s t u o v w x h e = omega (arith, v q refl, told q)
+  never a b c s t u o v w x h = first-not a s _ v (first-not b t _ w (first-not c u o x h))
 
 later : (lo hi : ℕ) (a : Asked) → 2 ≤ lo → hi ≤ 18 → Within lo hi a → Later a
 later lo hi a l h w = within-wide lo hi 2 18 a l h w
@@ -235,6 +239,10 @@ module _ (f : Form) (i : Input) (s : Buffers) where
     unfolding resolve
     resolve-not = never numberOfEnd ends.Refused (λ q. refl) _ (askRight (i .n) (i .r) (i .c) (i .b)) _ _ _ _ _ (shape-later (i .n) _ o) (later 5 6 _ (omega arith) (omega arith) (right-within (i .n) (i .r) (i .c) (i .b))) factored (resolved-not (judged (wholeAgain (factorsOf f i s))))
 
+sheet-not : (i : Input) (s : SheetBuffers) → rowsWithin (i .n) ≡ true → numberOfAnswer (sheetOutcome i s .answer) ≡ 1 → ⊥
+unfolding sheetOutcome sheetStructure askSheet
+sheet-not i s o = first-not numberOfAnswer Refused (λ q. refl) _ (s .stores) (structure Shared i (s .stores)) (shape-later (i .n) _ o) (structure-not Shared i (s .stores) o)
+
 module _ (n : ℕ) (o : rowsWithin n ≡ true) where
   in-limits : (m : ℕ) → m ≡ n → rowsWithin m ≡ true
   in-limits m e = ap rowsWithin e ∙ o
@@ -251,6 +259,7 @@ module _ (n : ℕ) (o : rowsWithin n ≡ true) where
         opens = λ file e. not-shaped (askFile file) _ (file-later file (in-limits (nOf file) e));
         reads = λ file l e. not-left numberOfEnd ends.Refused (λ q. refl) (askRead file l) _ _ l refl (read-later file l (in-limits (nOf file) e));
         writes = λ i file e. not-left numberOfEnd ends.Refused (λ q. refl) (askWrite i (length file)) _ _ file refl (write-later i (length file) (in-limits (i .n) e));
+        sheets = λ i s e. sheet-not i s (in-limits (i .n) e);
         loads = λ s l. not-left numberOfMade mades.Refused (λ q. refl) (askLoad n l) _ _ l refl (load-later n l o);
         looks = λ f side k l u. looked f side k n l u;
       }

@@ -15,6 +15,7 @@ use Rattle.matrix_file.specs.MatrixFile.{nOf, opened, readOutcome, writeOutcome
 use Rattle.matrix_file.specs.Example.{exampleFile}
 use Rattle.lookup.specs.Lookup as lookup
 use Rattle.load.specs.Load.{loadOutcome}
+use Rattle.fill_sheet.specs.FillSheet.{SheetBuffers, sheetOutcome}
 use Rattle.outcome.specs.Buffers.{Buffers, ended}
 use Rattle.outcome.specs.Structure.{structure}
 use Rattle.outcome.specs.Solve.{solve}
@@ -43,6 +44,7 @@ pub record Refuses (n : ℕ) : Type 0 where
   pub reads : (file : List ℕ) (l : MatrixLists) → askBlocks file ≡ Pass → nOf file ≡ n → readOutcome file l ≡ left (ends.Refused Rows) l
   pub writes : (i : Input) (file : List ℕ) → i .n ≡ n → writeOutcome i file ≡ left (ends.Refused Rows) file
   pub loads : (s : ℕ) (l : MatrixLists) → loadOutcome n s l ≡ left (mades.Refused Rows) l
+  pub sheets : (i : Input) (s : SheetBuffers) → i .n ≡ n → sheetOutcome i s ≡ left (Refused Rows) s
   -- "the empty part at that store's start"
   pub looks : (f : Form) (side : Side) (k : Place) (l u : lookup.SideLists) → (lookup.spanIn f side k n l u ≡ lookup.spanFrom 0 0) × (lookup.lookup f side k n l u ≡ [])
 
@@ -57,6 +59,7 @@ pub record Passes (n : ℕ) : Type 0 where
   pub reads : (file : List ℕ) (l : MatrixLists) → nOf file ≡ n → numberOfEnd (readOutcome file l .answer) ≡ 1 → ⊥
   pub writes : (i : Input) (file : List ℕ) → i .n ≡ n → numberOfEnd (writeOutcome i file .answer) ≡ 1 → ⊥
   pub loads : (s : ℕ) (l : MatrixLists) → numberOfMade (loadOutcome n s l .answer) ≡ 1 → ⊥
+  pub sheets : (i : Input) (s : SheetBuffers) → i .n ≡ n → numberOfAnswer (sheetOutcome i s .answer) ≡ 1 → ⊥
   -- with fitting lengths, a list within its store is handed back
   pub looks : (f : Form) (side : Side) (k : Place) (l u : lookup.SideLists) → lookup.sized f n l ≡ true → lookup.sized f n u ≡ true
       → k .0 < n → (o : lookup.SideLists) → o ≡ lookup.ofSide side l u → getD (o .starts) (k .0) 0 ≤ getD (o .starts) (k .0 + 1) 0

@@ -4,7 +4,7 @@ use mathlib.Core.Bool.{Bool, true, _&&_, false≢true}
 use mathlib.Core.List.{List, [], _∷_, _++_, append-assoc}
 use Prim.Native.Nat.{ℕ, zero, suc, _+_, _≤_, _<_}
 use native.Mathlib.Omega.{arith}
-use lib.ListN.{length, getD}
+use lib.ListN.{length, getD, replicate}
 use lib.Seq.{take-at}
 use lib.Dec.{leb, eqb}
 use lib.Ieee.{Float}
@@ -50,9 +50,9 @@ use Rattle.lists.specs.Handed.{leaves, presented, handed, Handed, Handed
 -- ---- a side as a success leaves it is found list by list
 
 -- its lists stand in an index store within its limit
-record Standing (f : Form) (side : Side) (P : Pattern) (n : ℕ) (b : SideBuffers) : Type 0 where
-  placed : PlacedSide f side P n (b .starts) (runsOf f b) (b .index) (valueNeed f side P n n)
-  few : length (b .index) ≤ maxSlots
+pub record Standing (f : Form) (side : Side) (P : Pattern) (n : ℕ) (b : SideBuffers) : Type 0 where
+  pub placed : PlacedSide f side P n (b .starts) (runsOf f b) (b .index) (valueNeed f side P n n)
+  pub few : length (b .index) ≤ maxSlots
 
 runs-long : (f : Form) → leaves f ≡ true → (side : Side) (P : Pattern) (n : ℕ) (b : SideBuffers) → Standing f side P n b → length (runsOf f b) ≡ runStarts f n
 runs-long Plain v side P n b h = starts-long Plain side P n (b .starts) (b .starts) (b .index) (valueNeed Plain side P n n) (h .placed)
@@ -133,10 +133,16 @@ standing f v side P n z values b room few e =
       few = omega arith;
     })
 
+-- both sides of a call that left its lists
+pub record Stood (f : Form) (i : Input) (t : Buffers) : Type 0 where
+  pub rows : rowsWithin (i .n) ≡ true
+  pub lower : Standing f Lower (stored i) (i .n) (t .lower)
+  pub upper : Standing f Upper (stored i) (i .n) (t .upper)
+
 -- a call that passed questions 1, 2 and 9 to 11, and left each side with its lists
 module _ (f : Form) (v : leaves f ≡ true) (i : Input) (z : Sizes) (t : Buffers) where
   settled : (before own more : List Bool) → own ≡ listTests f (i .n) z ++ more → askShape (i .n) (before ++ own) ≡ Pass → askPlaces f (stored i) (i .n) z (i .n) ≡ Pass
-      → (lv uv : List Float) → t .lower ≡ sidePlaced f Lower (stored i) (i .n) (z .lower) lv → t .upper ≡ sidePlaced f Upper (stored i) (i .n) (z .upper) uv → Handed f i t
+      → (lv uv : List Float) → t .lower ≡ sidePlaced f Lower (stored i) (i .n) (z .lower) lv → t .upper ≡ sidePlaced f Upper (stored i) (i .n) (z .upper) uv → Stood f i t
   unfolding askShape
   settled before own more o a b lv uv el eu =
       let p = both-pass (holds (rowsWithin (i .n)) Rows) (holds (all (before ++ own)) Lengths) a in
@@ -144,26 +150,47 @@ module _ (f : Form) (v : leaves f ≡ true) (i : Input) (z : Sizes) (t : Buffers
       let few = index-few f v (i .n) z more (rw o at (past before own (all-true (before ++ own) (holds-pass (all (before ++ own)) Lengths (p .1))))) in
       let some = leb-true 1 (i .n) (and-cases (leb 1 (i .n)) _ rows .0) in
       let room : (side : Side) → indexNeed f side (stored i) (i .n) (i .n) ≤ sideOf side z .index = λ side. index-room f side (stored i) (i .n) z (i .n) some b in
-      found f v (stored i) (i .n) t rows
-      (standing f v Lower (stored i) (i .n) (z .lower) lv (t .lower) (room Lower) (few Lower) el)
-      (standing f v Upper (stored i) (i .n) (z .upper) uv (t .upper) (room Upper) (few Upper) eu)
+      record {
+        rows = rows;
+        lower = standing f v Lower (stored i) (i .n) (z .lower) lv (t .lower) (room Lower) (few Lower) el;
+        upper = standing f v Upper (stored i) (i .n) (z .upper) uv (t .upper) (room Upper) (few Upper) eu;
+      }
+
+  stood-handed : Stood f i t → Handed f i t
+  stood-handed h = found f v (stored i) (i .n) t (h .rows) (h .lower) (h .upper)
 
 -- ---- the calls
 
 -- no question stopped a call that is done
-stop-done : (a : Asked) (s t : Buffers) (rest : Outcome Answer) (c : Counts) → stop Refused a s rest ≡ ended (Done c) t → (a ≡ Pass) × (rest ≡ ended (Done c) t)
+pub stop-done : (a : Asked) (s t : Buffers) (rest : Outcome Answer) (c : Counts) → stop Refused a s rest ≡ ended (Done c) t → (a ≡ Pass) × (rest ≡ ended (Done c) t)
 stop-done Pass s t rest c e = (refl, e)
 stop-done (Stop q) s t rest c e = absurd (number-some q (ap (λ (o : Outcome Answer). numberOfAnswer (o .answer)) e))
 
--- "Lookup", after the structure call
-pub structure-handed : (f : Form) → leaves f ≡ true → (i : Input) (s t : Buffers) (c : Counts) → structure f i s ≡ ended (Done c) t → Handed f i t
+-- a structure call that is done: its questions, its lists, its scratch
+pub record Structures (f : Form) (i : Input) (s t : Buffers) : Type 0 where
+  pub shaped : askShape (i .n) (patternTests i ++ structureTests f (i .n) (sizes s)) ≡ Pass
+  pub asked : askStructure i ≡ Pass
+  pub stood : Stood f i t
+  pub marks : t .marks ≡ replicate (sizes s .marks) 0
+
+pub structure-done : (f : Form) → leaves f ≡ true → (i : Input) (s t : Buffers) (c : Counts) → structure f i s ≡ ended (Done c) t → Structures f i s t
 unfolding structure structured
-structure-handed f v i s t c e =
+structure-done f v i s t c e =
     let p = stop-done (askShape (i .n) (patternTests i ++ structureTests f (i .n) (sizes s))) s t _ c e in
     let q = stop-done (askStructure i) _ t _ c (p .1) in
     let r = stop-done (askPlaces f (stored i) (i .n) (sizes s) (i .n)) _ t _ c (q .1) in
-    settled f v i (sizes s) t (patternTests i) (structureTests f (i .n) (sizes s)) _ refl (p .0) (r .0) [] []
-    (sym (ap (λ (o : Outcome Answer). o .buffers .lower) (r .1))) (sym (ap (λ (o : Outcome Answer). o .buffers .upper) (r .1)))
+    record {
+      shaped = p .0;
+      asked = q .0;
+      stood =
+          settled f v i (sizes s) t (patternTests i) (structureTests f (i .n) (sizes s)) _ refl (p .0) (r .0) [] []
+          (sym (ap (λ (o : Outcome Answer). o .buffers .lower) (r .1))) (sym (ap (λ (o : Outcome Answer). o .buffers .upper) (r .1)));
+      marks = sym (ap (λ (o : Outcome Answer). o .buffers .marks) (r .1));
+    }
+
+-- "Lookup", after the structure call
+pub structure-handed : (f : Form) → leaves f ≡ true → (i : Input) (s t : Buffers) (c : Counts) → structure f i s ≡ ended (Done c) t → Handed f i t
+structure-handed f v i s t c e = stood-handed f v i (sizes s) t (structure-done f v i s t c e .stood)
 
 -- the two sides of what a solve leaves
 concluded-sides : (f : Form) → leaves f ≡ true → (i : Input) (z : Sizes) (x : List Float) (t : Buffers) (c : Counts) (o : Out Result) → concluded f i z x o ≡ ended (Done c) t
@@ -183,8 +210,8 @@ solve-handed f v i s t c e =
     let q = stop-done (askSolve i) _ t _ c (p .1) in
     let r = stop-done (askPlaces f (stored i) (i .n) (sizes s) (i .n)) _ t _ c (q .1) in
     let k = concluded-sides f v i (sizes s) (s .x) t c (listed i) (r .1) in
-    settled f v i (sizes s) t (matrixTests i) (bufferTests f (i .n) (sizes s)) _
-    (append-assoc (listTests f (i .n) (sizes s)) (eqb (length (s .d)) (i .n) ∷ eqb (length (s .x)) (i .n) ∷ []) (scratchTests (i .n) (sizes s))) (p .0) (r .0) _ _ (k .1) (k .2)
+    stood-handed f v i (sizes s) t (settled f v i (sizes s) t (matrixTests i) (bufferTests f (i .n) (sizes s)) _
+    (append-assoc (listTests f (i .n) (sizes s)) (eqb (length (s .d)) (i .n) ∷ eqb (length (s .x)) (i .n) ∷ []) (scratchTests (i .n) (sizes s))) (p .0) (r .0) _ _ (k .1) (k .2))
 
 -- ---- the same by the slices of each call, as the contracts of `structure_plain`, `solve_plain` and `list_plain` name them, and of the shared ones
 

@@ -3,25 +3,23 @@ use Prim.Native.Nat.{ℕ, suc, _+_, _-_, _<_, _≤_}
 use mathlib.Core.Path.{_≡_, refl, sym, ap, _∙_}
 use mathlib.Core.Bool.{Bool, true, false}
 use mathlib.Core.List.{List, [], _∷_, _++_, append-assoc, map-append}
-use native.Mathlib.Numerals.{add-one}
 use native.Mathlib.Omega.{arith}
 use lib.ListN.{length, getD, take, drop, set, replicate, length-set, length-append, length-map, drop-of-length-le}
 use lib.Ieee.{Float}
-use lib.Seq.{drop-cons, set-at, take-at, drop-at}
+use lib.Seq.{set-at, take-at, drop-at}
 use borrow.Author.Tests.{eq-eqb, ne-eqb}
 use Rattle.base.specs.Lists.{has, nought, padded}
+use Rattle.base.specs.AscLaws.{has-drop}
 use Rattle.load.specs.Load.{drawn, columnOf, valuesFor, four, minusOne, added}
 use Rattle.load.specs.Stores.{Held, Drawable, Drew, RowDrawable, RowDrew}
 use Rattle.load.specs.declared.Drawn.{Drawn}
 
 module _ (row : List ℕ) (j p : ℕ) where
   pub has-hit : p < length row → getD row p 0 ≡ j → has (drop p row) j ≡ true
-  unfolding has
-  has-hit h e = rw (drop-cons row p 0 h, eq-eqb (getD row p 0) j e)
+  has-hit h e = has-drop row j p h ∙ rw (eq-eqb (getD row p 0) j e)
 
   pub has-miss : p < length row → (getD row p 0 ≡ j → ⊥) → has (drop (p + 1) row) j ≡ has (drop p row) j
-  unfolding has
-  has-miss h n = rw (drop-cons row p 0 h, ne-eqb (getD row p 0) j n, add-one)
+  has-miss h n = sym (has-drop row j p h ∙ rw (ne-eqb (getD row p 0) j n))
 
   pub has-end : length row ≤ p → has (drop p row) j ≡ false
   unfolding has

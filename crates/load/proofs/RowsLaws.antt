@@ -9,7 +9,7 @@ use lib.Ieee.{Float}
 use Rattle.base.specs.Lists.{nought, padded, sum, table, joined}
 use Rattle.base.specs.Limits.{maxRows}
 use Rattle.base.specs.ZerosLaws.{padded-length}
-use Rattle.base.specs.TableLaws.{table-stored, table-whole}
+use Rattle.base.specs.TableLaws.{table-stored, table-whole, joined-more}
 use Rattle.load.specs.Load.{rowFrom, seedAt, rowAt, entriesAt, valuesFor, load}
 use Rattle.load.specs.Stores.{Held, RowDrawable, RowDrew, RowsLent, RowsDrawing, RowsDrawn}
 use Rattle.load.proofs.DrawLaws.{values-length}
@@ -31,10 +31,6 @@ numbers-long n seed k = joined-long (λ i. valuesFor (rowAt n seed i)) (λ i. le
 pub entries-more : (n seed k : ℕ) → entriesAt n seed (k + 1) ≡ entriesAt n seed k + length (rowAt n seed k)
 unfolding entriesAt sum
 entries-more n seed k = rw add-one
-
-joined-more : {A : Type 0} (f : ℕ → List A) (k : ℕ) → joined f (k + 1) ≡ joined f k ++ f k
-unfolding joined
-joined-more f k = rw add-one
 
 seed-more : (n seed k : ℕ) → seedAt n seed (k + 1) ≡ rowFrom n (seedAt n seed k) k .seed
 unfolding seedAt

@@ -6,12 +6,13 @@ use Prim.Native.Nat.{ℕ, zero, suc, _+_, _-_, _/_, _%_, _^_, _≤_, _<_}
 use native.Mathlib.Nat.{pow-succ'}
 use native.Mathlib.Numerals.{add-one}
 use native.Mathlib.Omega.{arith}
-use lib.ListN.{length, getD, set, drop, length-append, drop-of-length-le}
+use lib.ListN.{length, getD, set, drop, replicate, length-append, length-replicate, drop-of-length-le}
 use lib.Seq.{sets, set-comm, drop-cons}
 use lib.Dec.{ltb}
-use borrow.Author.Tests.{lt-ltb, le-ltb}
-use Rattle.printing.specs.Print.{digit, digits, hexadecimal, bitsEnd, widthIn}
-use Rattle.printing.specs.Written.{sets-append}
+use borrow.Author.Tests.{lt-ltb, le-ltb, ltb-false}
+use Rattle.base.specs.Tests.{by-test}
+use Rattle.printing.specs.Print.{digit, digits, hexadecimal, bitsEnd, widthIn, decimal, column}
+use Rattle.printing.specs.Written.{Written, sets-append, then-written}
 
 pub digits-length : (base w x : ℕ) → length (digits base w x) ≡ w
 unfolding digits
@@ -53,6 +54,17 @@ text-turn out at text i h = let e : at + suc i ≡ suc (at + i) = omega arith in
 pub text-end : (out : List ℕ) (at : ℕ) (text : List ℕ) (i : ℕ) → length text ≤ i → out ≡ sets out (at + i) (drop i text)
 text-end out at text i h = rw (drop-of-length-le text h)
 
+-- blanks, one by one
+pub blanks-turn : (out : List ℕ) (at count i : ℕ) → i < count
+    → sets (set out (at + i) 32) (at + (i + 1)) (replicate (count - (i + 1)) 32) ≡ sets out (at + i) (replicate (count - i) 32)
+blanks-turn out at count i h =
+    let e : count - i ≡ suc (count - (i + 1)) = omega arith in
+    let f : at + (i + 1) ≡ suc (at + i) = omega arith in
+    rw (e, f)
+
+pub blanks-end : (out : List ℕ) (at count i : ℕ) → count ≤ i → out ≡ sets out (at + i) (replicate (count - i) 32)
+blanks-end out at count i h = let e : count - i ≡ 0 = omega arith in rw e
+
 -- ---- the number of digits
 
 widthIn-suc : (f x : ℕ) → widthIn (suc f) x ≡ cond (ltb x 10) 1 (suc (widthIn f (x / 10)))
@@ -89,3 +101,36 @@ pub counting-end : (x rest width : ℕ) → rest < 10 → Counting x rest width 
 counting-end x rest width h c =
     let e = one-left rest (c .f) h (c .some) in
     (omega (arith, c .counted, e), omega (arith, c .few, c .some))
+
+-- a number below 10^w has at most w digits
+width-most : (f w x : ℕ) → 0 < w → x < 10 ^ w → widthIn f x ≤ w
+unfolding widthIn
+width-most zero w x s h = omega arith
+width-most (suc f) zero x s h = absurd (omega arith)
+width-most (suc f) (suc zero) x s h = rw (lt-ltb x 10 (omega (arith, h))) (omega arith)
+width-most (suc f) (suc (suc g)) x s h =
+    let d = width-most f (suc g) (x / 10) (omega arith) (omega (arith, rw (pow-succ' 10 (suc g)) at h)) in
+    by-test (ltb x 10) (λ t. rw t (omega arith)) (λ t. rw t (omega (arith, d)))
+
+pub fits-below : (w x : ℕ) → 0 < w → x < 10 ^ w → widthIn 20 x ≤ w
+fits-below w x s h = width-most 20 w x s h
+
+-- ---- a column
+
+pub decimal-length : (x : ℕ) → length (decimal x) ≡ widthIn 20 x
+unfolding decimal
+decimal-length x = digits-length 10 (widthIn 20 x) x
+
+pub column-length : (w x : ℕ) → widthIn 20 x ≤ w → length (column w x) ≡ w
+unfolding column
+column-length w x h =
+    let a = length-append (replicate (w - length (decimal x)) 32) (decimal x) in
+    let b = length-replicate {A = ℕ} (w - length (decimal x)) 32 in
+    omega (arith, a, b, decimal-length x)
+
+pub column-written : (w x d : ℕ) (out p q : List ℕ) (at a r : ℕ) → d ≡ widthIn 20 x → widthIn 20 x ≤ w → Written (replicate (w - d) 32) out at p a → Written (digits 10 d x) p a q r
+    → Written (column w x) out at q r × (r ≡ at + w)
+unfolding column decimal
+column-written w x d out p q at a r e h f g =
+    let c : Written (column w x) out at q r = rw (digits-length 10 (widthIn 20 x) x, ← e) (then-written _ _ _ _ _ _ _ _ f g) in
+    (c, c .next ∙ ap (λ (m : ℕ). at + m) (column-length w x h))

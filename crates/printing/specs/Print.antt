@@ -1,7 +1,8 @@
 -- What the program prints, as bytes. Definitions only.
 use mathlib.Core.Bool.{cond}
 use mathlib.Core.List.{List, [], _∷_, _++_}
-use Prim.Native.Nat.{ℕ, zero, suc, _+_, _/_, _%_}
+use Prim.Native.Nat.{ℕ, zero, suc, _+_, _-_, _/_, _%_}
+use lib.ListN.{length, replicate}
 use lib.Dec.{ltb}
 use Rattle.base.specs.declared.Counts.{Counts}
 
@@ -25,6 +26,10 @@ decimal x = digits 10 (widthIn 20 x) x
 
 unfoldable pub hexadecimal : ℕ → List ℕ
 hexadecimal x = digits 16 16 x
+
+-- a number at the right end of a column w wide: "blanks on the left of numbers"
+unfoldable pub column : ℕ → ℕ → List ℕ
+column w x = replicate (w - length (decimal x)) 32 ++ decimal x
 
 -- ---- the lines
 

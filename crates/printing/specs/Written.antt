@@ -7,6 +7,10 @@ use native.Mathlib.Omega.{arith}
 use lib.ListN.{length, set, length-append}
 use lib.Seq.{sets}
 
+-- no place that is written to lies farther: places and what is added to them stay within 64 bits
+abbrev pub farthest : ℕ
+farthest = 1099511627776
+
 pub record Written (bytes out : List ℕ) (at : ℕ) (out′ : List ℕ) (r : ℕ) : Type 0 where
   pub exit : out′ ≡ sets out at bytes
   pub next : r ≡ at + length bytes

@@ -2,9 +2,9 @@
 ghost use mathlib.Core.Path.{_≡_};
 ghost use mathlib.Core.List.{_∷_, []};
 ghost use Prim.Native.Nat.{ℕ, _+_, _≤_, _<_};
-ghost use lib.ListN.{length, set};
-ghost use Rattle.printing.specs.Print.{digit, digits, widthIn, decimal, labelled, bitsEnd, countsLine, valueLine, refusedLine, tooLargeLine};
-ghost use Rattle.printing.specs.Written.{Written};
+ghost use lib.ListN.{length, replicate, set};
+ghost use Rattle.printing.specs.Print.{digit, digits, widthIn, decimal, column, labelled, bitsEnd, countsLine, valueLine, refusedLine, tooLargeLine};
+ghost use Rattle.printing.specs.Written.{Written, farthest};
 use base::Counts;
 
 // The character of a digit below 16.
@@ -29,7 +29,7 @@ fn put(out: &mut [u8], at: usize, b: u8)
 
 // The last `width` digits of x.
 fn put_digits(out: &mut [u8], at: usize, base: u64, width: usize, x: u64) -> usize
-    requires { ⌜ (2 ≤ base) × (base ≤ 16) × (width ≤ 20) × (at ≤ 1048576) ⌝ }
+    requires { ⌜ (2 ≤ base) × (base ≤ 16) × (width ≤ 20) × (at ≤ farthest) ⌝ }
     ensures { λ r. ⌜ Written (digits base width x) (now (out .entry)) at (now (out .exit)) r ⌝ }
 {
     let mut rest = x;
@@ -57,15 +57,15 @@ fn width_of(x: u64) -> usize
 
 // x in decimal.
 fn put_decimal(out: &mut [u8], at: usize, x: u64) -> usize
-    requires { ⌜ at ≤ 1048576 ⌝ }
+    requires { ⌜ at ≤ farthest ⌝ }
     ensures { λ r. ⌜ Written (decimal x) (now (out .entry)) at (now (out .exit)) r × (r ≤ at + 20) ⌝ }
 {
     put_digits(out, at, 10, width_of(x), x)
 }
 
-// The bytes of a text.
-fn put_text(out: &mut [u8], at: usize, text: &[u8]) -> usize
-    requires { ⌜ (at ≤ 1048576) × (length (now text) ≤ 1048576) ⌝ }
+// Writes the bytes of a text.
+pub fn put_text(out: &mut [u8], at: usize, text: &[u8]) -> usize
+    requires { ⌜ (at ≤ farthest) × (length (now text) ≤ farthest) ⌝ }
     ensures { λ r. ⌜ Written (now (text .entry)) (now (out .entry)) at (now (out .exit)) r ⌝ }
 {
     let mut i = 0;
@@ -74,6 +74,29 @@ fn put_text(out: &mut [u8], at: usize, text: &[u8]) -> usize
         i += 1;
     }
     at + i
+}
+
+// Writes so many blanks.
+pub fn put_blanks(out: &mut [u8], at: usize, count: usize) -> usize
+    requires { ⌜ (at ≤ farthest) × (count ≤ farthest) ⌝ }
+    ensures { λ r. ⌜ Written (replicate count 32) (now (out .entry)) at (now (out .exit)) r × (r ≡ at + count) ⌝ }
+{
+    let mut i = 0;
+    while i < count {
+        put(out, at + i, 32);
+        i += 1;
+    }
+    at + i
+}
+
+// Writes x at the right end of a column, in which it fits.
+pub fn put_column(out: &mut [u8], at: usize, width: usize, x: u64) -> usize
+    requires { ⌜ (at + 20 ≤ farthest) × (widthIn 20 x ≤ width) × (width ≤ 20) ⌝ }
+    ensures { λ r. ⌜ Written (column width x) (now (out .entry)) at (now (out .exit)) r × (r ≡ at + width) ⌝ }
+{
+    let digits = width_of(x);
+    let a = put_blanks(out, at, width - digits);
+    put_digits(out, a, 10, digits, x)
 }
 
 // A text and a number.

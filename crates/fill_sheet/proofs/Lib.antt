@@ -1,0 +1,4 @@
+pub mod Left
+pub mod Call
+pub mod Exact
+pub mod Computed

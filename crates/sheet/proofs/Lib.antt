@@ -1,0 +1,4 @@
+pub mod Laws
+pub mod CountLaws
+pub mod Widths
+pub mod Witness
