@@ -6,6 +6,7 @@ use native.Mathlib.Omega.{arith}
 use lib.ListN.{length, getD}
 use Rattle.base.specs.Lists.{has, listAt}
 use Rattle.base.specs.AscLaws.{count-le}
+use Rattle.base.specs.Limits.{maxRows, maxSlots}
 use Rattle.lent.specs.Reading.{ListIn, Below, Distinct}
 use Rattle.printing.specs.Print.{widthIn}
 use Rattle.sheet.specs.Printing.{Printable, LineFits}
@@ -16,7 +17,7 @@ only : (P : ℕ → Type 0) → P 0 → (k : ℕ) → k < 1 → P k
 only P p zero h = p
 only P p (suc k) h = absurd (omega arith)
 
-pub line-fits : LineFits 4095 4095 4095 4095 1048576
+pub line-fits : LineFits maxRows maxRows maxRows maxRows maxSlots
 unfolding widthIn
 line-fits = record { place = omega arith; own-row = omega arith; lower-row = omega arith; upper-list = omega arith; run-start = omega arith }
 
@@ -49,7 +50,7 @@ printable lower C = record {
   rows-below = λ k h. omega (arith, C .rows k h, count-le (λ j. has (listAt (0 ∷ 0 ∷ []) (0 ∷ []) [] j) k) 1);
   rise = only (λ k. getD (0 ∷ 0 ∷ []) k 0 ≤ getD (0 ∷ 0 ∷ []) (k + 1) 0) (omega arith);
   lists-below = only _ (omega arith);
-  runs-below = only (λ k. getD (0 ∷ []) k 0 ≤ 1048576) (omega arith);
+  runs-below = only (λ k. getD (0 ∷ []) k 0 ≤ maxSlots) (omega arith);
 }
 
 pub sheet-lent : SheetLent 1 (0 ∷ []) (0 ∷ 0 ∷ []) (0 ∷ []) [] (0 ∷ 0 ∷ []) (0 ∷ []) (0 ∷ [])

@@ -127,7 +127,7 @@ fn put_page(
 }
 
 // Prints the sheet of n places.
-pub fn put_sheet(out: &mut [u8], n: usize, r: &[Index], lower: &[u32], starts: &[u32], runs: &[u32])
+fn put_sheet(out: &mut [u8], n: usize, r: &[Index], lower: &[u32], starts: &[u32], runs: &[u32])
     requires { ⌜ Printable n (now r) (now lower) (now starts) (now runs) ⌝ }
     ensures { λ _. ⌜ now (out .exit) ≡ sets (now (out .entry)) 0 (sheet n (lineIn (now (r .entry)) (now (lower .entry)) (now (starts .entry)) (now (runs .entry)))) ⌝ }
 {
@@ -156,7 +156,7 @@ fn count_list(list: &[Index], counts: &mut [u32])
 }
 
 // Counts along the lower columns how long each lower row is.
-pub fn count_rows(n: usize, starts: &[u32], runs: &[u32], index: &[Index], counts: &mut [u32])
+fn count_rows(n: usize, starts: &[u32], runs: &[u32], index: &[Index], counts: &mut [u32])
     requires { ⌜ Countable n (now starts) (now runs) (now index) (now counts) ⌝ }
     ensures { λ _. ⌜ RowsCounted n (now (starts .entry)) (now (runs .entry)) (now (index .entry)) (now (counts .entry)) (now (counts .exit)) ⌝ }
 {
