@@ -35,21 +35,23 @@
  *   lower_starts[k] and upper_starts[k] of the value store.
  *
  * Scratch: scratch_f64 has 3n slots, scratch_u32 has 8n + 8. Its contents on entry do not matter. LP_STARTS_LEN,
- * LP_SCRATCH_F64, LP_SCRATCH_U32, LP_FILE_BYTES and LP_LOAD_SLOTS, below, give the lengths that n and e fix.
+ * LP_SCRATCH_F64, LP_SCRATCH_U32, LP_FILE_BYTES, LP_LOAD_SLOTS and LP_SHEET_BYTES, below, give the lengths that n and e
+ * fix.
  *
  * The answer: each call returns 0 for done or the number of the question answered with no (LP_..., below), and
  * fills `report` as far as report_len goes: report[0] is the place that the refusal names, 0 where it names none.
- * Structure and solve calls put three counts behind it: report[1] and report[2] are the filled positions below and
- * above the diagonal, report[3] the products; they are 0 after a refusal. What other calls put there is said at each.
- * Slots beyond report[3] are never written.
+ * Structure and solve calls and lp_fill_sheet put three counts behind it: report[1] and report[2] are the filled
+ * positions below and above the diagonal, report[3] the products; they are 0 after a refusal. What other calls put
+ * there is said at each. Slots beyond report[3] are never written.
  *
  * What the buffers hold afterwards, unless a call says otherwise:
  *   LP_ROWS, LP_LENGTHS                nothing but the report was written
  *   LP_STARTS to LP_REPEATED,
  *   LP_OTHER_STRUCTURE, LP_BAD_FACTORS scratch is zero, all else untouched
- *   LP_NULL_PIVOT to LP_OVERFLOW       scratch is zero, and so is every other buffer but x that the call writes
+ *   LP_NULL_PIVOT to LP_OVERFLOW       scratch is zero, and so is every other buffer but x and sheet that the call
+ *                                      writes
  *   done                               scratch is zero, and so are the unused slots of what the call writes
- * x is untouched by every refusal. A zero number is +0.
+ * x and sheet are untouched by every refusal. A zero number is +0.
  */
 #ifndef LILACPLIERS_H
 #define LILACPLIERS_H
@@ -63,7 +65,7 @@ extern "C" {
 
 /* The version of this interface. It is raised whenever a function, a number or what a buffer holds changes, so that
  * a caller can refuse to be compiled against another one. */
-#define LP_VERSION 3
+#define LP_VERSION 4
 
 /* The limits of n, of e and of the slots of a store. */
 #define LP_MAX_ROWS 4096
@@ -72,12 +74,13 @@ extern "C" {
 
 /* Lengths that n and e fix, as size_t; an argument is evaluated once. LP_STARTS_LEN: slots of starts, lower_starts and
  * upper_starts. LP_SCRATCH_F64 and LP_SCRATCH_U32: slots of scratch. LP_FILE_BYTES: bytes of a matrix file.
- * LP_LOAD_SLOTS: slots of columns and values of lp_test_load. */
+ * LP_LOAD_SLOTS: slots of columns and values of lp_test_load. LP_SHEET_BYTES: bytes of the sheet of lp_fill_sheet. */
 #define LP_STARTS_LEN(n) ((size_t)(n) + 1)
 #define LP_SCRATCH_F64(n) (3 * (size_t)(n))
 #define LP_SCRATCH_U32(n) (8 * (size_t)(n) + 8)
 #define LP_FILE_BYTES(n, e) (512 * ((12 + 16 * (size_t)(n) + 10 * (size_t)(e) + 503) / 504))
 #define LP_LOAD_SLOTS(n) (4 * (size_t)(n))
+#define LP_SHEET_BYTES(n) (2050 * (((size_t)(n) + 48) / 49))
 
 /* What a call returns: the number of each refusal, and behind the colon the place it names. */
 #define LP_DONE 0
@@ -140,6 +143,37 @@ uint32_t lp_structure_shared(
     double *upper_values, size_t upper_values_len,
     double *scratch_f64, size_t scratch_f64_len,
     uint32_t *scratch_u32, size_t scratch_u32_len,
+    uint64_t *report, size_t report_len);
+
+/* Does what lp_structure_shared does and prints the fill on pages. Asks what it asks, and 2 also where sheet_len is not
+ * LP_SHEET_BYTES(n), 2050 times the quotient n / 49 rounded up; gives the same place and counts, and leaves all buffers
+ * but the sheet as it does. A refusal leaves the sheet untouched; done, every byte of it is written.
+ * A page has 50 lines of 40 characters and a newline byte behind each, in ASCII; no zero byte ends the sheet. Line 1 of
+ * a page has FILL in columns 1 to 4 and the page number, from 1, in columns 35 to 40; the other 49 take one place each,
+ * from 0 on, and lines behind the last place are blank. Numbers have blanks on their left. The line of place k has in
+ *   columns 1 to 6     k
+ *   columns 7 to 14    r[k], its own row
+ *   columns 15 to 22   the length of lower row k: the filled positions (k, j) with j < k (the lists placed are columns)
+ *   columns 23 to 30   the length of upper list k
+ *   columns 31 to 40   upper_runs[k]
+ * Every number fits its columns for every matrix that is not refused. */
+uint32_t lp_fill_sheet(
+    size_t n,
+    const uint32_t *starts, size_t starts_len,
+    const uint16_t *columns, size_t columns_len,
+    const uint16_t *r, size_t r_len,
+    const uint16_t *c, size_t c_len,
+    uint32_t *lower_starts, size_t lower_starts_len,
+    uint32_t *lower_runs, size_t lower_runs_len,
+    uint16_t *lower_index, size_t lower_index_len,
+    double *lower_values, size_t lower_values_len,
+    uint32_t *upper_starts, size_t upper_starts_len,
+    uint32_t *upper_runs, size_t upper_runs_len,
+    uint16_t *upper_index, size_t upper_index_len,
+    double *upper_values, size_t upper_values_len,
+    double *scratch_f64, size_t scratch_f64_len,
+    uint32_t *scratch_u32, size_t scratch_u32_len,
+    uint8_t *sheet, size_t sheet_len,
     uint64_t *report, size_t report_len);
 
 /* Finds structure, factors and one solution, in the plain form.
