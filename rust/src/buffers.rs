@@ -38,6 +38,11 @@ impl Scratch {
     }
 }
 
+/// The bytes of the fill sheet of n places: 49 places a page, each page 50 lines of 40 characters and a line end.
+pub(crate) fn sheet_bytes(n: usize) -> usize {
+    n.div_ceil(49) * 50 * 41
+}
+
 /// The rows that buffers are made for: a greater n is refused before any length is asked.
 pub(crate) fn rows_lent(matrix: &Matrix) -> usize {
     matrix.rows().min(MAX_ROWS)

@@ -37,6 +37,11 @@ mod raw {
     upper_starts: out u32, upper_runs: out u32, upper_index: out u16, upper_values: out f64,
     scratch_f64: out f64, scratch_u32: out u32, report: out u64, }
 
+    declare! { lp_fill_sheet [] n: size, starts: lent u32, columns: lent u16, r: lent u16, c: lent u16,
+    lower_starts: out u32, lower_runs: out u32, lower_index: out u16, lower_values: out f64,
+    upper_starts: out u32, upper_runs: out u32, upper_index: out u16, upper_values: out f64,
+    scratch_f64: out f64, scratch_u32: out u32, sheet: out u8, report: out u64, }
+
     declare! { lp_solve_plain [] n: size, starts: lent u32, columns: lent u16, values: lent f64,
     r: lent u16, c: lent u16, b: lent f64,
     lower_starts: out u32, lower_index: out u16, lower_values: out f64,
@@ -151,6 +156,21 @@ pub(crate) fn structure(form: Kept, asked: Asked, lists: &mut Pair, values: &mut
             {l.starts} {l.runs} {l.index} {values.lower} {u.starts} {u.runs} {u.index} {values.upper}
             {s.floats} {s.marks}),
     }
+}
+
+/// The structure in the shared form, and its fill sheet.
+pub(crate) fn fill_sheet(
+    asked: Asked,
+    lists: &mut Pair,
+    values: &mut Values,
+    s: &mut Scratch,
+    sheet: &mut [u8],
+) -> Answer {
+    let (m, o) = (asked.matrix, asked.orders);
+    let (l, u) = (&mut lists.lower, &mut lists.upper);
+    call!(lp_fill_sheet: [m.rows()] (m.starts()) (m.columns()) (o.rows()) (o.columns())
+        {l.starts} {l.runs} {l.index} {values.lower} {u.starts} {u.runs} {u.index} {values.upper}
+        {s.floats} {s.marks} {sheet})
 }
 
 /// Structure, factors and one solution.

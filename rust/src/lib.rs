@@ -22,9 +22,9 @@
 //! ```
 //!
 //! [`solve`] keeps nothing but the solution; [`Factors`] serve more right sides and new values; [`Structure`] is the
-//! fill alone; [`System`] is what a matrix file holds, and [`System::test_load`] makes one that is the same everywhere.
-//! Nothing here panics, whatever it is given: what cannot be solved is an [`Error`], mostly a [`Refusal`] with the
-//! library's number and place.
+//! fill alone, and [`Structure::fill_sheet`] prints it on pages; [`System`] is what a matrix file holds, and
+//! [`System::test_load`] makes one that is the same everywhere. Nothing here panics, whatever it is given: what cannot
+//! be solved is an [`Error`], mostly a [`Refusal`] with the library's number and place.
 //!
 //! The library is for x86-64 and for the floating-point environment that every Rust program starts with.
 #![deny(missing_docs)]

@@ -100,6 +100,22 @@ fn reuse(form: Form, matrix: &Matrix, orders: &Orders, right: &[f64], other: &Ma
     assert_eq!(bits(&factors.solve_again(right).unwrap()), last);
 }
 
+/// The sheet beside the lists of the plain form, or the refusal of the structure; up to 49 rows are one page.
+fn sheet(matrix: &Matrix, orders: &Orders) {
+    let shared = Structure::find(Form::Shared, matrix, orders);
+    let (structure, sheet) = match Structure::fill_sheet(matrix, orders) {
+        Ok(found) => found,
+        Err(error) => return assert_eq!(shared, Err(error)),
+    };
+    let plain = Structure::find(Form::Plain, matrix, orders).unwrap();
+    for (k, line) in sheet.lines().skip(1).take(matrix.rows()).enumerate() {
+        let numbers: Vec<usize> = line.split_whitespace().map(|word| word.parse().unwrap()).collect();
+        let [lower, upper] = [Side::Lower, Side::Upper].map(|side| plain.list(side, k).len());
+        assert_eq!(numbers, [k, usize::from(orders.rows()[k]), lower, upper, structure.run(Side::Upper, k)]);
+    }
+    assert_eq!((Ok(structure), sheet.len()), (shared, 2_050));
+}
+
 #[test]
 fn forms_agree() {
     let mut random = Random(1);
@@ -113,6 +129,7 @@ fn forms_agree() {
         let plain = solved(Form::Plain, &matrix, &natural, &right);
         assert_eq!(plain, solved(Form::Shared, &matrix, &natural, &right));
         assert_eq!(plain, solved(Form::Row, &matrix, &natural, &right));
+        sheet(&matrix, &natural);
         let other = matrix.with_values((0..matrix.entries()).map(|_| random.value()).collect()).unwrap();
         reuse(Form::Plain, &matrix, &natural, &right, &other);
         reuse(Form::Shared, &matrix, &natural, &right, &other);
@@ -131,7 +148,7 @@ fn any_parts() {
         let right = random.numbers(n);
         let plain = solved(Form::Plain, &matrix, &orders, &right);
         assert_eq!(plain, solved(Form::Row, &matrix, &orders, &right));
-        let _ = Structure::find(Form::Shared, &matrix, &orders);
+        sheet(&matrix, &orders);
         let lines = matrix.to_matrix_market().lines().count();
         assert!(lines <= matrix.entries() + 2);
         if let Ok(file) = (System { matrix, orders, right }).write() {
