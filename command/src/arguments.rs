@@ -12,6 +12,7 @@ pub enum Task {
     Structure { file: PathBuf, orders: OrderFiles, numbers: bool },
     Convert(Convert),
     Picture { file: PathBuf, orders: OrderFiles, out: Option<PathBuf>, numbers: bool },
+    Sheet { file: PathBuf, orders: OrderFiles, out: Option<PathBuf>, numbers: bool },
     Load(Load),
 }
 
@@ -73,10 +74,11 @@ pub enum Topic {
     Structure,
     Convert,
     Picture,
+    Sheet,
     Load,
 }
 
-const COMMANDS: &str = "solve, structure, convert, picture or load (lilac --help tells more)";
+const COMMANDS: &str = "solve, structure, convert, picture, sheet or load (lilac --help tells more)";
 const HELP: [&str; 2] = ["--help", "-h"];
 
 /// The options of a command that take a word behind them.
@@ -86,7 +88,7 @@ fn valued(topic: Topic) -> &'static [&'static str] {
         Topic::Solve => &["--form", "--right", "--order", "--rows", "--columns", "--refusals", "--output"],
         Topic::Structure => &["--order", "--rows", "--columns", "--refusals"],
         Topic::Convert => &["--right", "--order", "--rows", "--columns", "--refusals"],
-        Topic::Picture => &["--order", "--rows", "--columns", "--refusals", "--output"],
+        Topic::Picture | Topic::Sheet => &["--order", "--rows", "--columns", "--refusals", "--output"],
         Topic::Load => &["--refusals", "--output"],
     }
 }
@@ -123,6 +125,7 @@ fn topic_of(name: &str) -> Option<Topic> {
         "structure" => Some(Topic::Structure),
         "convert" => Some(Topic::Convert),
         "picture" => Some(Topic::Picture),
+        "sheet" => Some(Topic::Sheet),
         "load" => Some(Topic::Load),
         _ => None,
     }
@@ -135,6 +138,7 @@ fn name_of(topic: Topic) -> &'static str {
         Topic::Structure => "structure",
         Topic::Convert => "convert",
         Topic::Picture => "picture",
+        Topic::Sheet => "sheet",
         Topic::Load => "load",
     }
 }
@@ -179,6 +183,7 @@ fn command(topic: Topic, words: Vec<OsString>) -> Result<Task, String> {
         Topic::Picture => {
             Ok(Task::Picture { file: sorted.only_file()?, orders, out: sorted.path("--output"), numbers })
         }
+        Topic::Sheet => Ok(Task::Sheet { file: sorted.only_file()?, orders, out: sorted.path("--output"), numbers }),
         Topic::Convert => {
             let (from, to) = sorted.two_files()?;
             Ok(Task::Convert(Convert { from, to, right: sorted.path("--right"), orders, numbers }))
@@ -365,6 +370,20 @@ mod tests {
     }
 
     #[test]
+    fn a_sheet_has_the_options_of_a_picture() {
+        let orders = || OrderFiles { rows: Some("r.txt".into()), columns: Some("c.txt".into()), both: None };
+        let options = "--rows r.txt -o out --refusals=numbers a.lp --columns c.txt";
+        let (file, out) = ("a.lp".into(), Some("out".into()));
+        let sheet = Task::Sheet { file, orders: orders(), out, numbers: true };
+        assert_eq!(parsed(&format!("sheet {options}")), Ok(sheet));
+        let (file, out) = ("a.lp".into(), Some("out".into()));
+        let picture = Task::Picture { file, orders: orders(), out, numbers: true };
+        assert_eq!(parsed(&format!("picture {options}")), Ok(picture));
+        let bare = Task::Sheet { file: "-".into(), orders: OrderFiles::default(), out: None, numbers: false };
+        assert_eq!(parsed("sheet -"), Ok(bare));
+    }
+
+    #[test]
     fn a_load_has_two_numbers() {
         let load = |rows, seed| Task::Load(Load { rows, seed, numbers: false, out: None });
         assert_eq!(parsed("load 5 1"), Ok(load(5, 1)));
@@ -399,6 +418,7 @@ mod tests {
     fn help_is_found_everywhere() {
         assert_eq!(parsed("--help"), Ok(Task::Help(Topic::All)));
         assert_eq!(parsed("help picture"), Ok(Task::Help(Topic::Picture)));
+        assert_eq!(parsed("help sheet"), Ok(Task::Help(Topic::Sheet)));
         assert_eq!(parsed("help load"), Ok(Task::Help(Topic::Load)));
         assert_eq!(parsed("convert --help"), Ok(Task::Help(Topic::Convert)));
     }
@@ -420,6 +440,10 @@ mod tests {
             "convert a b --order r --rows r",
             "solve a --columns c --order r",
             "picture a --form row",
+            "sheet",
+            "sheet a b",
+            "sheet a --right b",
+            "sheet a --order r --columns c",
             "solve a --refusals x",
             "--help x",
         ];

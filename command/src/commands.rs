@@ -1,4 +1,4 @@
-//! The commands solve, structure, picture and load.
+//! The commands solve, structure, picture, sheet and load.
 use crate::arguments::{FormName, Load, OrderFiles, Solve};
 use crate::convert::{kind, Kind};
 use crate::facts::{facts, table_text, Fact};
@@ -64,6 +64,17 @@ pub fn picture(file: &Path, orders: &OrderFiles, out: Option<&Path>) -> Result<(
             lower_runs: &runs(&found.shared, Side::Lower, n),
             facts: &found.table(),
         })
+    };
+    Ok(output::write(place(out), text.as_bytes())?)
+}
+
+pub fn sheet(file: &Path, orders: &OrderFiles, out: Option<&Path>) -> Result<(), Fault> {
+    output::apart(&[out], &read_files(file, None, orders))?;
+    let text = {
+        let _sign = progress::during(format!("printing the fill of {}", shown(file)));
+        let loaded = input::load(file, None, orders)?;
+        let System { matrix, orders, .. } = &loaded.system;
+        Structure::fill_sheet(matrix, orders).map_err(|error| loaded.fault(error))?.1
     };
     Ok(output::write(place(out), text.as_bytes())?)
 }

@@ -8,6 +8,7 @@ pub fn text(topic: Topic) -> &'static str {
         Topic::Structure => STRUCTURE,
         Topic::Convert => CONVERT,
         Topic::Picture => PICTURE,
+        Topic::Sheet => SHEET,
         Topic::Load => LOAD,
     }
 }
@@ -19,6 +20,7 @@ lilac solves sparse systems M x = b with the proved library Lilacpliers.
   lilac structure FILE   print how much the elimination fills in, and the slots of each form
   lilac convert A B      turn a Matrix Market file (.mtx) into a matrix file (.lp), or back
   lilac picture FILE     draw the fill as an SVG picture
+  lilac sheet FILE       print the fill place by place, on pages
   lilac load N SEED      make the test load of N rows, which is the same everywhere
 
 FILE is a matrix file or a Matrix Market file; its contents tell which. The name - is standard input, and standard
@@ -91,6 +93,28 @@ denser.
   --columns FILE              the order of the columns alone, in place of --order
   --refusals words|numbers    say a refusal in plain words (the default) or as `refused NUMBER PLACE`
   -o FILE                     write to FILE instead of standard output
+";
+
+const SHEET: &str = "\
+lilac sheet FILE [options]
+
+Prints the fill sheet, for whoever tunes orders: pages of 50 lines, each of 40 characters. Line 1 of a page has FILL in
+columns 1 to 4 and the number of the page, from 1, in the last 6. The other 49 lines are places in elimination order;
+those behind the last place are blank. A place has five numbers, with blanks on their left:
+
+  columns 1 to 6      place k, from 0
+  columns 7 to 14     its own row, counted from 0 for a Matrix Market file too
+  columns 15 to 22    the length of lower row k: the filled positions of row k left of the diagonal
+  columns 23 to 30    the length of T(k), upper list k: the filled positions of row k right of the diagonal
+  columns 31 to 40    where T(k) starts in the upper index store of the shared form
+
+  --order FILE                one order for rows and columns: the numbers 0 to n - 1, place by place
+  --rows FILE                 the order of the rows alone, and
+  --columns FILE              the order of the columns alone, in place of --order
+  --refusals words|numbers    say a refusal in plain words (the default) or as `refused NUMBER PLACE`
+  -o FILE                     write to FILE instead of standard output
+
+A refusal has exit status 1 and prints no page; a FILE that was to be written is left as it was.
 ";
 
 const LOAD: &str = "\

@@ -40,7 +40,7 @@ fn refusals_as_numbers(task: &Task) -> bool {
         Task::Solve(solve) => solve.numbers,
         Task::Convert(convert) => convert.numbers,
         Task::Load(load) => load.numbers,
-        Task::Structure { numbers, .. } | Task::Picture { numbers, .. } => *numbers,
+        Task::Structure { numbers, .. } | Task::Picture { numbers, .. } | Task::Sheet { numbers, .. } => *numbers,
     }
 }
 
@@ -55,6 +55,7 @@ fn run(task: Task) -> Result<(), Fault> {
         Task::Structure { file, orders, .. } => commands::structure(&file, &orders),
         Task::Convert(convert) => convert::convert(&convert),
         Task::Picture { file, orders, out, .. } => commands::picture(&file, &orders, out.as_deref()),
+        Task::Sheet { file, orders, out, .. } => commands::sheet(&file, &orders, out.as_deref()),
         Task::Load(load) => commands::load(&load),
     }
 }

@@ -84,7 +84,7 @@ fn bad_texts() -> Vec<String> {
 #[test]
 fn bad_files_have_status_2() {
     for path in bad_matrices("bad") {
-        for name in ["solve", "structure", "picture"] {
+        for name in ["solve", "structure", "picture", "sheet"] {
             failed(2, &[name, &path]);
         }
     }
@@ -119,7 +119,7 @@ fn bad_right_sides_and_orders() {
 #[test]
 fn bad_usage_has_status_2() {
     let two = example("two_by_two.lp");
-    let cases: [&[&str]; 14] = [
+    let cases: [&[&str]; 17] = [
         &[],
         &["sovle", &two],
         &["solve"],
@@ -131,6 +131,9 @@ fn bad_usage_has_status_2() {
         &["convert", &two],
         &["convert", &two, "a.txt"],
         &["convert", &two, "b.lp"],
+        &["sheet"],
+        &["sheet", &two, &two],
+        &["sheet", &two, "--right", &two],
         &["load", "5"],
         &["load", "5", "1", "2"],
         &["help", "me"],
@@ -151,7 +154,7 @@ fn names_that_are_no_text_are_taken() {
 fn printing_commands() -> Vec<Vec<String>> {
     let grid = example("grid_3_by_3.mtx");
     let mut all: Vec<Vec<String>> =
-        ["solve", "structure", "picture"].iter().map(|name| vec![name.to_string(), grid.clone()]).collect();
+        ["solve", "structure", "picture", "sheet"].iter().map(|name| vec![name.to_string(), grid.clone()]).collect();
     all.push(["load", "5", "1"].map(str::to_string).to_vec());
     all.push(vec!["--help".to_string()]);
     all
@@ -178,6 +181,7 @@ fn a_full_device_has_status_2() {
     }
     failed(2, &["solve", &example("two_by_two.lp"), "-o", "/dev/full"]);
     failed(2, &["picture", &example("two_by_two.lp"), "-o", "/dev/full"]);
+    failed(2, &["sheet", &example("two_by_two.lp"), "-o", "/dev/full"]);
     failed(2, &["load", "5", "1", "-o", "/dev/full"]);
     failed(2, &["load", "5", "1", "-o", env!("CARGO_TARGET_TMPDIR")]);
     failed(2, &["solve", &example("two_by_two.lp"), "-o", env!("CARGO_TARGET_TMPDIR")]);
@@ -214,9 +218,10 @@ fn no_part_of_a_file_is_left() {
     let matrix = file("part.mtx", tridiagonal(300));
     let whole = own("part_whole.lp");
     common::done(&["convert", &matrix, &whole]);
-    let cases: [&[&str]; 6] = [
+    let cases: [&[&str]; 7] = [
         &["solve", &matrix, "-o", &own("part.txt")],
         &["picture", &matrix, "-o", &own("part.svg")],
+        &["sheet", &matrix, "-o", &own("part_sheet.txt")],
         &["convert", &matrix, &own("part.lp")],
         &["convert", &whole, &own("part_back.mtx")],
         &["load", "300", "1", "-o", &own("part_load.lp")],
@@ -241,9 +246,10 @@ fn no_part_of_a_file_is_left() {
 #[test]
 fn a_closed_standard_output_does_not_matter_to_a_file() {
     let two = example("two_by_two.lp");
-    let cases: [(&[&str], &[u8]); 4] = [
+    let cases: [(&[&str], &[u8]); 5] = [
         (&["solve", &two, "-o", &own("closed.txt")], b"1\n2\n"),
         (&["picture", &two, "-o", &own("closed.svg")], b"<svg"),
+        (&["sheet", &two, "-o", &own("closed_sheet.txt")], b"FILL "),
         (&["convert", &two, "--right", "/dev/null", &own("closed.mtx")], b"%%MatrixMarket"),
         (&["load", "5", "1", "-o", &own("closed.lp")], &[5, 0, 0, 0, 16, 0, 0, 0]),
     ];

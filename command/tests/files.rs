@@ -54,6 +54,7 @@ fn no_file_is_overwritten_by_mistake() {
     let other = own("precious.mtx");
     failed(2, &["solve", &matrix, "-o", &matrix]);
     failed(2, &["picture", &matrix, "-o", &matrix]);
+    failed(2, &["sheet", &matrix, "-o", &matrix]);
     failed(2, &["convert", &matrix, &other, "--right", &other]);
     failed(2, &["convert", &matrix, &other, "--order", &matrix]);
     failed(2, &["convert", &matrix, &other, "--rows", &own("order.txt"), "--columns", &own("order.txt")]);

@@ -89,7 +89,13 @@ fn pipe(name: &str) -> String {
 fn long_work_gives_signs_of_life() {
     use std::{io::Write, process::Stdio, thread::sleep, time::Duration};
     let target = own("slow.lp");
-    let cases = [("solve", "solving"), ("structure", "finding"), ("picture", "drawing"), ("convert", "converting")];
+    let cases = [
+        ("solve", "solving"),
+        ("structure", "finding"),
+        ("picture", "drawing"),
+        ("sheet", "printing"),
+        ("convert", "converting"),
+    ];
     let waiting = cases.map(|(name, word)| {
         let path = pipe(&format!("slow_{name}.mtx"));
         let mut command = common::command();
@@ -177,7 +183,7 @@ fn refusals_have_status_1() {
 fn matrices_out_of_the_limits_are_refused() {
     for (k, body) in ["0 0 0\n", "4097 4097 1\n1 1 1\n", "4000000000 4000000000 1\n1 1 1\n"].iter().enumerate() {
         let matrix = file(&format!("limits_{k}.mtx"), format!("{HEADER}{body}"));
-        for name in ["solve", "structure", "picture"] {
+        for name in ["solve", "structure", "picture", "sheet"] {
             assert_eq!(failed(1, &[name, &matrix, "--refusals", "numbers"]), "refused 1 0\n");
         }
     }
@@ -219,11 +225,12 @@ fn help_is_printed() {
 #[test]
 fn help_names_every_option() {
     let orders = ["--order", "--rows", "--columns", "--refusals"];
-    let more: [(&str, &[&str]); 4] = [
+    let more: [(&str, &[&str]); 5] = [
         ("solve", &["--form", "--right", "--hex", "-o FILE"]),
         ("structure", &[]),
         ("convert", &["--right"]),
         ("picture", &["-o FILE"]),
+        ("sheet", &["-o FILE"]),
     ];
     for (name, own) in more {
         let text = done(&[name, "--help"]);
