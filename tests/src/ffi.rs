@@ -36,6 +36,11 @@ pub mod raw {
     upper_starts: out u32, upper_runs: out u32, upper_index: out u16, upper_values: out f64,
     scratch_f64: out f64, scratch_u32: out u32, report: out u64, }
 
+    declare! { lp_fill_sheet [] n: size, starts: lent u32, columns: lent u16, r: lent u16, c: lent u16,
+    lower_starts: out u32, lower_runs: out u32, lower_index: out u16, lower_values: out f64,
+    upper_starts: out u32, upper_runs: out u32, upper_index: out u16, upper_values: out f64,
+    scratch_f64: out f64, scratch_u32: out u32, sheet: out u8, report: out u64, }
+
     declare! { lp_solve_plain [] n: size, starts: lent u32, columns: lent u16, values: lent f64,
     r: lent u16, c: lent u16, b: lent f64,
     lower_starts: out u32, lower_index: out u16, lower_values: out f64,
@@ -507,5 +512,23 @@ pub fn load(seed: u16, matrix: &mut Input, report: &mut Vec<u64>) -> Result<u32,
     *matrix = m.back(matrix.n)?;
     slots.intact("report")?;
     *report = slots.contents();
+    Ok(number)
+}
+
+/// Finds the shared structure in the lent buffers and prints its fill; what is only lent must come back as it was.
+pub fn sheet(lent: &mut Printing) -> Result<u32, Difference> {
+    let mut m = GuardedInput::new(&lent.input);
+    let mut g = GuardedBuffers::new(&lent.buffers);
+    let mut out = guard_u8(&lent.sheet);
+    let mut slots = guard_u64(&lent.report);
+    let number = call!(lp_fill_sheet: [lent.input.n] (m.starts) (m.columns) (m.r) (m.c)
+        (g.l.starts) (g.l.runs) (g.l.index) (g.l.values) (g.u.starts) (g.u.runs) (g.u.index) (g.u.values)
+        (g.sf) (g.su) (out) (slots));
+    m.unchanged(&lent.input)?;
+    lent.buffers = g.back()?;
+    out.intact("sheet")?;
+    lent.sheet = out.contents();
+    slots.intact("report")?;
+    lent.report = slots.contents();
     Ok(number)
 }

@@ -39,6 +39,11 @@ fn dirty_u16(random: &mut Random, count: usize) -> Vec<u16> {
     (0..count).map(|_| random.bits() as u16).collect()
 }
 
+/// Bytes of anything but zero: a zero byte is always a written one.
+fn dirty_bytes(random: &mut Random, count: usize) -> Vec<u8> {
+    (0..count).map(|_| random.between(1, 255) as u8).collect()
+}
+
 /// How the values of a matrix are drawn.
 #[derive(Clone, Copy)]
 enum Values {
@@ -226,6 +231,31 @@ pub fn sound_input(random: &mut Random, n: usize) -> Input {
     input.r = r.iter().map(|&k| k as u16).collect();
     input.c = c.iter().map(|&k| k as u16).collect();
     input
+}
+
+/// The same matrix with its places in a random order; the diagonal stays where it was.
+pub fn reordered(random: &mut Random, input: &Input) -> Input {
+    let order = random.permutation(input.n);
+    let along = |list: &[u16]| order.iter().map(|&k| list[k]).collect();
+    Input { r: along(&input.r), c: along(&input.c), ..input.clone() }
+}
+
+/// The same M' from a matrix whose rows and columns have other numbers, so that r and c differ.
+pub fn renamed(random: &mut Random, input: &Input) -> Input {
+    let (rows, columns) = (random.permutation(input.n), random.permutation(input.n));
+    let mut place = vec![0; input.n];
+    rows.iter().enumerate().for_each(|(new, &old)| place[old] = new as u16);
+    let mut other = Input { n: input.n, starts: vec![0], ..Input::default() };
+    for &row in &rows {
+        let entries = input.starts[row] as usize..input.starts[row + 1] as usize;
+        other.columns.extend(input.columns[entries.clone()].iter().map(|&j| columns[j as usize] as u16));
+        other.values.extend_from_slice(&input.values[entries]);
+        other.starts.push(other.columns.len() as u32);
+        other.b.push(input.b[row]);
+    }
+    other.r = input.r.iter().map(|&row| place[row as usize]).collect();
+    other.c = input.c.iter().map(|&column| columns[column as usize] as u16).collect();
+    other
 }
 
 fn not_finite(random: &mut Random) -> f64 {
@@ -731,6 +761,23 @@ pub fn dirty_matrix(random: &mut Random, n: usize, lengths: [usize; 6]) -> Input
 /// A report of so many slots, holding anything.
 pub fn dirty_report(random: &mut Random, length: usize) -> Vec<u64> {
     (0..length).map(|_| random.bits()).collect()
+}
+
+/// The fill sheet's call over noise, with stores, sheet and report of these lengths.
+pub fn printing(random: &mut Random, input: &Input, slots: Slots, sheet: usize, report: usize) -> Printing {
+    let input = Input { values: Vec::new(), b: Vec::new(), ..input.clone() };
+    let buffers = dirty_buffers(random, Call::Structure(Form::Shared), input.n, slots);
+    Printing { input, buffers, sheet: dirty_bytes(random, sheet), report: dirty_report(random, report) }
+}
+
+/// A case of the fill sheet's call: one of the shared structure call, with a sheet mostly of its length.
+pub fn printing_case(random: &mut Random) -> Printing {
+    let Case { input, buffers, report, .. } = case_of(random, Call::Structure(Form::Shared));
+    let mut sheet = reference::fill_sheet::bytes(input.n.min(MAX_ROWS));
+    if random.per_mille(60) {
+        sheet = random.pick(&[0, sheet + 1, sheet + 2_050, sheet.saturating_sub(1), sheet.saturating_sub(2_050)]);
+    }
+    Printing { input, buffers, sheet: dirty_bytes(random, sheet), report: dirty_report(random, report) }
 }
 
 /// Buffers to read n rows and e entries into, mostly of matching length, holding anything.

@@ -103,6 +103,16 @@ impl Buffers {
     }
 }
 
+/// What the call of the fill sheet is lent: all that the shared structure call is, and a sheet. The report is a buffer
+/// like the others here.
+#[derive(Clone, Debug, Default)]
+pub struct Printing {
+    pub input: Input,
+    pub buffers: Buffers,
+    pub sheet: Vec<u8>,
+    pub report: Vec<u64>,
+}
+
 /// The filled positions below and above the diagonal, and the products.
 #[derive(Clone, Copy, PartialEq, Eq, Debug, Default)]
 pub struct Counts {

@@ -43,10 +43,40 @@ pub enum Fault {
     LoadLengths,
     /// The test load writes a third slot of the report.
     LoadReport,
+    /// The first page of a fill sheet has number 0.
+    SheetPage,
+    /// The own row stands one column too far left.
+    SheetShift,
+    /// The length of lower column k stands for that of lower row k.
+    SheetLower,
+    /// The place stands for the own row.
+    SheetRow,
+    /// The list start stands for the run start.
+    SheetRun,
+    /// A run start of more than four digits loses its first.
+    SheetDigits,
+    /// Lines behind the last place are left as they were.
+    SheetBlank,
+    /// Lines behind the last place are zero bytes.
+    SheetZeros,
+    /// After 11 the sheet is blank.
+    SheetRefusal,
+    /// A sheet one page too long is taken.
+    SheetLength,
+    /// Whole pages ask for a blank one behind them.
+    SheetPages,
+    /// The sheet's length is asked before n.
+    SheetFirst,
+    /// The sheet's length is asked last.
+    SheetLate,
+    /// The lengths of the lower rows stay in scratch.
+    SheetScratch,
+    /// A sheet refused for its length leaves the counts of the report as they were.
+    SheetReport,
 }
 
 /// Every fault.
-pub const FAULTS: [Fault; 18] = [
+pub const FAULTS: [Fault; 33] = [
     Fault::Scratch,
     Fault::Place,
     Fault::Products,
@@ -65,6 +95,21 @@ pub const FAULTS: [Fault; 18] = [
     Fault::LoadRefusal,
     Fault::LoadLengths,
     Fault::LoadReport,
+    Fault::SheetPage,
+    Fault::SheetShift,
+    Fault::SheetLower,
+    Fault::SheetRow,
+    Fault::SheetRun,
+    Fault::SheetDigits,
+    Fault::SheetBlank,
+    Fault::SheetZeros,
+    Fault::SheetRefusal,
+    Fault::SheetLength,
+    Fault::SheetPages,
+    Fault::SheetFirst,
+    Fault::SheetLate,
+    Fault::SheetScratch,
+    Fault::SheetReport,
 ];
 
 thread_local! {
@@ -477,5 +522,110 @@ r: out u16, c: out u16, b: out f64, report: out u64,
         report.iter_mut().skip(2).take(1).for_each(|slot| *slot = 0);
     }
     put_matrix(&matrix, starts, columns, values, r, c, b);
+    number
+} }
+
+/// The number that the sheet's length is refused with, or 0.
+fn length_refused(n: usize, length: usize) -> u32 {
+    let pages = if has(Fault::SheetPages) { n / 49 + 1 } else { n.div_ceil(49) };
+    let whole = pages.saturating_mul(2_050);
+    if !(1..=MAX_ROWS).contains(&n) && !has(Fault::SheetFirst) {
+        return 1;
+    }
+    let longer = has(Fault::SheetLength) && length == whole + 2_050;
+    if length == whole || longer {
+        0
+    } else {
+        2
+    }
+}
+
+/// The lengths of the lower rows, counted along the lower columns.
+fn row_lengths(n: usize, lower: &Store) -> Vec<u32> {
+    let mut rows = vec![0; n];
+    for j in 0..n {
+        let length = lower.starts[j + 1] - lower.starts[j];
+        let run = lower.runs[j] as usize;
+        lower.index[run..run + length as usize].iter().for_each(|&k| rows[k as usize] += 1);
+    }
+    if has(Fault::SheetLower) {
+        return lower.starts.windows(2).map(|pair| pair[1] - pair[0]).collect();
+    }
+    rows
+}
+
+/// The five numbers of place k.
+fn five(k: usize, r: &[u16], rows: &[u32], upper: &Store) -> [u32; 5] {
+    let row = if has(Fault::SheetRow) { k as u32 } else { r[k] as u32 };
+    let run = if has(Fault::SheetRun) { upper.starts[k] } else { upper.runs[k] };
+    let run = if has(Fault::SheetDigits) && run > 9_999 { run % 10_000 } else { run };
+    [k as u32, row, rows[k], upper.starts[k + 1] - upper.starts[k], run]
+}
+
+/// Puts the digits of a number, from the last, to the left of a column.
+fn put_digits(line: &mut [u8], end: usize, mut number: u32) {
+    for at in (0..end).rev() {
+        line[at] = b'0' + (number % 10) as u8;
+        number /= 10;
+        if number == 0 {
+            return;
+        }
+    }
+}
+
+/// Puts the lines of the places in turn into a sheet of pages.
+fn put_lines(places: &[[u32; 5]], sheet: &mut [u8]) {
+    let ends = if has(Fault::SheetShift) { [6, 13, 22, 30, 40] } else { [6, 14, 22, 30, 40] };
+    let mut places = places.iter();
+    for (at, line) in sheet.chunks_mut(41).enumerate() {
+        let before = line.to_vec();
+        line.fill(b' ');
+        line[40] = b'\n';
+        if at % 50 == 0 {
+            line[..4].copy_from_slice(b"FILL");
+            put_digits(line, 40, if has(Fault::SheetPage) { at / 50 } else { at / 50 + 1 } as u32);
+        } else if let Some(numbers) = places.next() {
+            ends.iter().zip(numbers).for_each(|(&end, &number)| put_digits(line, end, number));
+        } else if has(Fault::SheetBlank) {
+            line.copy_from_slice(&before);
+        } else if has(Fault::SheetZeros) {
+            line.fill(0);
+        }
+    }
+}
+
+/// What the sheet's call does behind the structure call, which answered with the number; faults in its scratch too.
+fn print(number: u32, r: &[u16], lower: &Store, upper: &Store, su: &mut [u32], sheet: &mut [u8]) {
+    if number == 0 {
+        let rows = row_lengths(r.len(), lower);
+        let places: Vec<[u32; 5]> = (0..r.len()).map(|k| five(k, r, &rows, upper)).collect();
+        put_lines(&places, sheet);
+        if has(Fault::SheetScratch) {
+            su[..rows.len()].copy_from_slice(&rows);
+        }
+    }
+    if number == 11 && has(Fault::SheetRefusal) {
+        put_lines(&[], sheet);
+    }
+}
+
+export! { lp_fill_sheet: n: size, starts: lent u32, columns: lent u16, r: lent u16, c: lent u16,
+ls: out u32, lr: out u32, li: out u16, lv: out f64, us: out u32, ur: out u32, ui: out u16, uv: out f64,
+sf: out f64, su: out u32, sheet: out u8, report: out u64,
+=> {
+    let refused = length_refused(n, sheet.len());
+    if refused != 0 && !has(Fault::SheetLate) {
+        put_report(report, if has(Fault::SheetReport) && refused == 2 { &[0] } else { &[0; 4] });
+        return refused;
+    }
+    let input = matrix!(n, starts, columns, NO_F64, r, c, NO_F64);
+    let rest = Rest { d: &mut [], x: &mut [], sf, su: &mut *su, report: &mut *report };
+    let (lower, upper) = (side!(&mut *ls, &mut *lr, &mut *li, lv), side!(&mut *us, &mut *ur, &mut *ui, uv));
+    let number = run(Call::Structure(Form::Shared), input, lower, upper, rest);
+    if number == 0 && refused != 0 {
+        put_report(report, &[0; 4]);
+        return refused;
+    }
+    print(number, r, &list_store(ls, lr, li), &list_store(us, ur, ui), su, sheet);
     number
 } }

@@ -6,7 +6,7 @@ use lilacpliers_tests::checks::cases::Range;
 use lilacpliers_tests::checks::*;
 use std::process::ExitCode;
 
-const GROUPS: [&str; 12] = [
+const GROUPS: [&str; 13] = [
     "known",
     "consistency",
     "cases",
@@ -16,6 +16,7 @@ const GROUPS: [&str; 12] = [
     "damaged",
     "files",
     "loads",
+    "sheets",
     "nulls",
     "program",
     "header",
@@ -74,6 +75,9 @@ fn check_reference(options: &Options, tally: &mut Tally) {
     if options.wants("forms") {
         forms::run(&Reference, options.range(options.cases / 4), tally);
     }
+    if options.wants("sheets") {
+        sheets::reading(tally);
+    }
     if options.wants("files") {
         files::examples(tally);
         files::round_trips(&Reference, options.range(options.cases / 20), tally);
@@ -107,6 +111,11 @@ fn check_library(library: &dyn Solver, options: &Options, tally: &mut Tally) {
         loads::limits(library, options.seed, tally);
         loads::run(library, options.range(options.cases / 100), tally);
     }
+    if options.wants("sheets") {
+        sheets::limits(library, options.seed, tally);
+        sheets::large(library, options.seed, tally);
+        sheets::run(library, options.range(options.cases / 10), tally);
+    }
 }
 
 fn check_library_files(library: &dyn Solver, options: &Options, tally: &mut Tally) {
@@ -127,6 +136,7 @@ fn check_nulls(options: &Options, tally: &mut Tally) {
     cases::run(&library, options.range(options.cases / 10), tally);
     cases::lookups(&library, options.range(options.cases / 20), tally);
     files::round_trips(&library, options.range(options.cases / 40), tally);
+    sheets::run(&library, options.range(options.cases / 40), tally);
 }
 
 fn main() -> ExitCode {

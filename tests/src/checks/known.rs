@@ -269,6 +269,33 @@ fn report_114_grid(solver: &dyn Solver) -> Compared {
     compare::same("the orders differ in the last bits", &differ, &true)
 }
 
+/// The fill sheet of Report 114's grid in that order, down to its blank lines.
+const GRID_SHEET: [&str; 10] = [
+    "FILL                                   1",
+    "     0       0       0       2         0",
+    "     1       2       0       2         2",
+    "     2       6       0       2         4",
+    "     3       8       0       2         6",
+    "     4       5       2       3         8",
+    "     5       4       1       3        11",
+    "     6       1       4       2        12",
+    "     7       3       4       1         5",
+    "     8       7       6       0        14",
+];
+
+fn grid_sheet(solver: &dyn Solver) -> Compared {
+    let input = grid_ordered(&GRID_ORDER);
+    let slots = Slots { lower_index: 14, lower_values: 17, upper_index: 14, upper_values: 17 };
+    let buffers = Buffers::for_call(Call::Structure(Form::Shared), input.n, slots);
+    let mut lent = Printing { input, buffers, sheet: vec![7; 2_050], report: vec![7; 5] };
+    compare::same("number", &solver.sheet(&mut lent)?, &0)?;
+    compare::numbers("report", &lent.report, &[0, 17, 17, 39, 7])?;
+    let blank = " ".repeat(40);
+    let lines = GRID_SHEET.into_iter().chain([blank.as_str(); 40]);
+    let text: String = lines.map(|line| format!("{line}\n")).collect();
+    compare::numbers("sheet", &lent.sheet, text.as_bytes())
+}
+
 /// Figures of the test load: e, counts, shared slots.
 struct LoadFigures {
     n: usize,
@@ -356,7 +383,7 @@ fn largest_tridiagonal(solver: &dyn Solver) -> Compared {
 
 /// Runs every case with known figures on the solver.
 pub fn run(solver: &dyn Solver, tally: &mut Tally) {
-    let graphs: [(&str, Compared); 15] = [
+    let graphs: [(&str, Compared); 16] = [
         ("the paper's file", solves(solver, &paper_matrix(), counts(1, 1, 1), &[1.0, 2.0])),
         ("n = 0, 4,097 and 4,096", rows_limits(solver)),
         ("pivots -0, 2^-1023 and 2^-1024", smallest_pivots(solver)),
@@ -368,6 +395,7 @@ pub fn run(solver: &dyn Solver, tally: &mut Tally) {
         ("shared tails", shared_tails(solver)),
         ("Report 114's example", report_114_example(solver)),
         ("Report 114's grid", report_114_grid(solver)),
+        ("the fill sheet of Report 114's grid, written out", grid_sheet(solver)),
         ("entries of test loads", load_entries(solver)),
         ("test load n 5, written out", load_of_five(solver)),
         ("test loads against the reference", loads_against_reference(solver)),

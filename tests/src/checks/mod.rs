@@ -10,11 +10,12 @@ pub mod nulls;
 #[cfg(all(feature = "standin", not(feature = "library")))]
 pub mod planted;
 pub mod printed;
+pub mod sheets;
 pub mod signatures;
 
 use crate::compare::{Compared, Difference};
 use crate::model::*;
-use crate::reference::{self, matrix_file, test_load, Lists};
+use crate::reference::{self, fill_sheet, matrix_file, test_load, Lists};
 use std::process::ExitCode;
 
 /// How many checks passed and failed. The first failures are printed as they come.
@@ -79,6 +80,8 @@ pub trait Solver {
     fn write(&self, matrix: &Input, file: &mut Vec<u8>) -> Result<Answer, Difference>;
     /// Makes a test load of `matrix.n` rows in the lent buffers and report, and returns its number.
     fn load(&self, seed: u16, matrix: &mut Input, report: &mut Vec<u64>) -> Result<u32, Difference>;
+    /// Finds the shared structure in the lent buffers, prints its fill, and returns the call's number.
+    fn sheet(&self, lent: &mut Printing) -> Result<u32, Difference>;
 }
 
 /// The solver of this package.
@@ -115,6 +118,10 @@ impl Solver for Reference {
 
     fn load(&self, seed: u16, matrix: &mut Input, report: &mut Vec<u64>) -> Result<u32, Difference> {
         Ok(test_load::make(seed, matrix, report))
+    }
+
+    fn sheet(&self, lent: &mut Printing) -> Result<u32, Difference> {
+        Ok(fill_sheet::make(lent))
     }
 }
 
@@ -179,5 +186,10 @@ impl Solver for Library {
     fn load(&self, seed: u16, matrix: &mut Input, report: &mut Vec<u64>) -> Result<u32, Difference> {
         crate::ffi::lend_nulls(self.nulls);
         crate::ffi::load(seed, matrix, report)
+    }
+
+    fn sheet(&self, lent: &mut Printing) -> Result<u32, Difference> {
+        crate::ffi::lend_nulls(self.nulls);
+        crate::ffi::sheet(lent)
     }
 }

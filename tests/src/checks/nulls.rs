@@ -2,6 +2,7 @@
 use super::cases::compare_case;
 use super::files::{compare_file, compare_written};
 use super::loads::compare_load;
+use super::sheets::compare_sheet;
 use super::{known, Solver, Tally};
 use crate::compare::{self, Compared};
 use crate::generate::{self, Case};
@@ -66,10 +67,14 @@ fn case_of(call: Call, input: Input, slots: usize, report: usize) -> Case {
 fn answers(solver: &dyn Solver, case: &Case, numbers: &[u32]) -> Compared {
     let (answer, result) = compare_case(solver, case);
     result?;
-    if numbers.contains(&answer.number) {
+    among(answer.number, numbers)
+}
+
+fn among(number: u32, numbers: &[u32]) -> Compared {
+    if numbers.contains(&number) {
         return Ok(());
     }
-    compare::differ("number", answer.number, numbers)
+    compare::differ("number", number, numbers)
 }
 
 /// A missing store is 10 or 11, 14 where a structure is presented and 15 where factors are, and no columns at all are 3
@@ -180,6 +185,32 @@ fn test_loads(solver: &dyn Solver, tally: &mut Tally) {
     }
 }
 
+/// Prints the fill in what the case is lent, with a sheet of so many bytes.
+fn sheet_number(solver: &dyn Solver, case: Case, bytes: usize, numbers: &[u32]) -> Compared {
+    let Case { input, buffers, report, .. } = case;
+    let lent = Printing { input, buffers, sheet: vec![7; bytes], report: vec![7; report] };
+    among(compare_sheet(solver, &lent)?, numbers)
+}
+
+fn sheets(solver: &dyn Solver, tally: &mut Tally) {
+    let call = Call::Structure(Form::Shared);
+    let paper = || case_of(call, known::paper_matrix(), 1, 4);
+    for (name, taking) in TAKINGS {
+        let mut case = paper();
+        if taking(&mut case) {
+            let result = sheet_number(solver, case, 2_050, refusals(call, name));
+            tally.add(|| format!("sheet with NULL for {name}"), result);
+        }
+    }
+    tally.add(|| "sheet with NULL sheet".to_string(), sheet_number(solver, paper(), 0, &[2]));
+    let one = case_of(call, load::from_rows(&[vec![(0, 2.0)]], &[8.0]), 0, 0);
+    tally.add(|| "sheet with NULL stores and report, n = 1".to_string(), sheet_number(solver, one, 2_050, &[0]));
+    for (n, number) in [(0, 1), (1, 2)] {
+        let case = Case { call, input: Input { n, ..Input::default() }, buffers: Buffers::default(), report: 0 };
+        tally.add(|| format!("sheet with NULL for all, n = {n}"), sheet_number(solver, case, 0, &[number]));
+    }
+}
+
 /// The solver must lend buffers of length 0 as NULL.
 pub fn run(solver: &dyn Solver, tally: &mut Tally) {
     for &call in solver.calls() {
@@ -190,4 +221,5 @@ pub fn run(solver: &dyn Solver, tally: &mut Tally) {
     }
     files(solver, tally);
     test_loads(solver, tally);
+    sheets(solver, tally);
 }

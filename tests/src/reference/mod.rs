@@ -4,6 +4,7 @@ pub mod arithmetic;
 pub mod calls;
 pub mod factors;
 pub mod fill;
+pub mod fill_sheet;
 pub mod lookup;
 pub mod matrix_file;
 pub mod placing;
