@@ -1,5 +1,6 @@
-/* Solves the paper's 2 by 2 file through the C interface, makes a test load, holds the length macros to the lengths
- * that the calls take, tries NULL for buffers of length 0, and shows what another floating-point environment changes.
+/* Solves the paper's 2 by 2 file through the C interface, prints its fill, makes a test load, holds the length macros
+ * to the lengths that the calls take, tries NULL for buffers of length 0, and shows what another floating-point
+ * environment changes.
  * The exit status is 0 if every answer is as the header promises. */
 #include "lilacpliers.h"
 
@@ -9,8 +10,8 @@
 #include <string.h>
 #include <xmmintrin.h>
 
-#if LP_VERSION != 3
-#error "this test is written for version 3 of the interface"
+#if LP_VERSION != 4
+#error "this test is written for version 4 of the interface"
 #endif
 
 #define NONE NULL, 0
@@ -176,6 +177,54 @@ static void row_form(void)
     expect(d[0] == 0.0 && upper.values[0] == 0.0 && upper.index[0] == 0, "the row form leaves zeros");
 }
 
+/* The first lines of the fill sheet; blank ones follow. Rows and columns change places, so that own row and place
+ * differ. */
+static const char sheet_lines[] = "FILL                                   1\n"
+                                  "     0       1       0       1         0\n"
+                                  "     1       0       1       0         1\n";
+static const uint16_t other_order[N] = {1, 0};
+static uint8_t sheet[LP_SHEET_BYTES(N)];
+
+/* Prints the fill over noise into so many bytes; r and c are the order. */
+static uint32_t print_fill(const uint16_t *both, size_t sheet_len)
+{
+    memset(sheet, 0xA5, sizeof sheet);
+    memset(report, 0xA5, sizeof report);
+    return lp_fill_sheet(N, LENT(starts), LENT(columns), both, N, both, N,
+                         LENT(lower.starts), LENT(lower.runs), LENT(lower.index), LENT(lower.values),
+                         LENT(upper.starts), LENT(upper.runs), LENT(upper.index), LENT(upper.values),
+                         LENT(scratch_f64), LENT(scratch_u32), sheet, sheet_len, LENT(report));
+}
+
+static void expect_no_sheet(const char *what)
+{
+    int kept = 1;
+    for (size_t i = 0; i < sizeof sheet; i++)
+        kept = kept && sheet[i] == 0xA5;
+    expect(kept && report[0] == 0 && report[1] == 0 && report[2] == 0 && report[3] == 0, what);
+}
+
+static void fill_sheet(void)
+{
+    const size_t lines = sizeof sheet_lines - 1;
+    int blank = 1;
+    expect(print_fill(other_order, sizeof sheet) == LP_DONE, "fill sheet");
+    expect_counts("counts of the fill sheet");
+    expect(memcmp(sheet, sheet_lines, lines) == 0, "lines of the fill sheet");
+    for (size_t i = lines; i < sizeof sheet; i++)
+        blank = blank && sheet[i] == (i % 41 == 40 ? '\n' : ' ');
+    expect(blank, "blank lines of the fill sheet");
+    expect(upper.runs[0] == 0 && upper.runs[1] == 1 && upper.index[0] == 1, "lists of the fill sheet's call");
+    expect(print_fill(other_order, sizeof sheet - 1) == LP_LENGTHS, "fill sheet, a byte short");
+    expect_no_sheet("2 leaves the sheet");
+    expect(print_fill(order, sizeof sheet) == LP_DONE, "fill sheet in the natural order");
+    expect(memcmp(sheet, sheet_lines, lines) != 0, "another order is another sheet");
+    const uint16_t no_order[N] = {0, 0};
+    expect(print_fill(no_order, sizeof sheet) == LP_ORDER && report[0] == 1, "fill sheet, no order");
+    report[0] = 0;
+    expect_no_sheet("5 leaves the sheet");
+}
+
 /* The load of n = 5 and seed 1, with its unused slots. */
 enum { FIVE = 5, LOAD_ENTRIES = 16 };
 
@@ -229,8 +278,8 @@ static void test_load(void)
     expect_refused("1 comes before 2");
 }
 
-/* The most rows and entries that the length macros are tried with. */
-enum { ROWS = 40, ENTRIES = 160 };
+/* The most rows and entries that the length macros are tried with; SHEET_ROWS is more than three pages. */
+enum { ROWS = 40, ENTRIES = 160, SHEET_ROWS = 150 };
 
 /* Solves the n by n identity with b = 0, lent buffers of these lengths. */
 static uint32_t solve_identity(size_t n, size_t starts_len, size_t lists_len, size_t f64_len, size_t u32_len)
@@ -270,6 +319,44 @@ static uint32_t load_slots(size_t n, size_t columns_len, size_t values_len)
                         order_of_columns, n, ones, n, NONE);
 }
 
+/* Prints the fill of the n by n identity into so many bytes. */
+static uint32_t print_identity(size_t n, size_t sheet_len)
+{
+    static uint32_t row_starts[LP_STARTS_LEN(SHEET_ROWS)], marks[LP_SCRATCH_U32(SHEET_ROWS)];
+    static uint32_t lower_starts[LP_STARTS_LEN(SHEET_ROWS)], upper_starts[LP_STARTS_LEN(SHEET_ROWS)];
+    static uint32_t lower_runs[SHEET_ROWS], upper_runs[SHEET_ROWS];
+    static uint16_t natural[SHEET_ROWS];
+    static double work[LP_SCRATCH_F64(SHEET_ROWS)];
+    static uint8_t pages[LP_SHEET_BYTES(SHEET_ROWS) + 2050];
+    for (size_t i = 0; i < n; i++) {
+        row_starts[i + 1] = (uint32_t)(i + 1);
+        natural[i] = (uint16_t)i;
+    }
+    return lp_fill_sheet(n, row_starts, LP_STARTS_LEN(n), natural, n, natural, n, natural, n,
+                         lower_starts, LP_STARTS_LEN(n), lower_runs, n, NONE, NONE,
+                         upper_starts, LP_STARTS_LEN(n), upper_runs, n, NONE, NONE,
+                         work, LP_SCRATCH_F64(n), marks, LP_SCRATCH_U32(n), pages, sheet_len, NONE);
+}
+
+static void sheet_lengths(void)
+{
+    for (size_t n = 1; n <= SHEET_ROWS; n++) {
+        size_t s = LP_SHEET_BYTES(n);
+        expect(print_identity(n, s) == LP_DONE, "the bytes of a sheet");
+        expect(print_identity(n, s + 1) == LP_LENGTHS, "one byte of a sheet more");
+        expect(print_identity(n, s + 2050) == LP_LENGTHS, "one page more");
+    }
+}
+
+/* An argument is evaluated once. */
+static void evaluated_once(void)
+{
+    size_t n = 0, e = 0;
+    expect(LP_STARTS_LEN(n++) == 1 && LP_SCRATCH_F64(n++) == 3 && LP_SCRATCH_U32(n++) == 24, "once, starts, scratch");
+    expect(LP_LOAD_SLOTS(n++) == 12 && LP_SHEET_BYTES(n++) == 2050 && n == 5, "once, load and sheet");
+    expect(LP_FILE_BYTES(n++, e++) == 512 && n == 6 && e == 1, "once, file");
+}
+
 /* What the length macros give is taken, and one more is refused. */
 static void lengths(void)
 {
@@ -296,6 +383,8 @@ static void lengths(void)
     expect(LP_FILE_BYTES(1 + 1, 40 + 6) == 512 && 2 * LP_STARTS_LEN(1 + 1) == 6, "arguments that are sums");
     expect(LP_SCRATCH_F64(1 + 1) == 6 && 2 * LP_SCRATCH_U32(1 + 1) == 48, "arguments that are sums");
     expect(LP_LOAD_SLOTS(many) == 17179869180 && 2 * LP_LOAD_SLOTS(1 + 1) == 16, "slots of a load");
+    expect(LP_SHEET_BYTES(many) == 179687407700 && 2 * LP_SHEET_BYTES(49 + 1) == 8200, "bytes of a sheet");
+    expect(LP_SHEET_BYTES(LP_MAX_ROWS) == 84 * 2050, "bytes of the longest sheet");
 }
 
 /* Solves value * x = b, which needs no slots: all four stores are NULL. */
@@ -327,6 +416,8 @@ static void nulls(void)
                               NONE) == LP_LENGTHS, "plain structure, all NULL");
     expect(lp_structure_shared(1, NONE, NONE, NONE, NONE, NONE, NONE, NONE, NONE, NONE, NONE, NONE, NONE, NONE, NONE,
                                NONE) == LP_LENGTHS, "shared structure, all NULL");
+    expect(lp_fill_sheet(1, NONE, NONE, NONE, NONE, NONE, NONE, NONE, NONE, NONE, NONE, NONE, NONE, NONE, NONE, NONE,
+                         NONE) == LP_LENGTHS, "fill sheet, all NULL");
     expect(lp_refactor_plain(1, NONE, NONE, NONE, NONE, NONE, NONE, NONE, NONE, NONE, NONE, NONE, NONE, NONE, NONE,
                              NONE, NONE, NONE) == LP_LENGTHS, "plain refactor, all NULL");
     expect(lp_refactor_shared(1, NONE, NONE, NONE, NONE, NONE, NONE, NONE, NONE, NONE, NONE, NONE, NONE, NONE, NONE,
@@ -417,8 +508,11 @@ int main(void)
     plain_form();
     shared_form();
     row_form();
+    fill_sheet();
     test_load();
     lengths();
+    sheet_lengths();
+    evaluated_once();
     nulls();
     environments();
     return failures == 0 ? 0 : 1;
