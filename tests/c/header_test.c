@@ -383,7 +383,7 @@ static void lengths(void)
     expect(LP_FILE_BYTES(1 + 1, 40 + 6) == 512 && 2 * LP_STARTS_LEN(1 + 1) == 6, "arguments that are sums");
     expect(LP_SCRATCH_F64(1 + 1) == 6 && 2 * LP_SCRATCH_U32(1 + 1) == 48, "arguments that are sums");
     expect(LP_LOAD_SLOTS(many) == 17179869180 && 2 * LP_LOAD_SLOTS(1 + 1) == 16, "slots of a load");
-    expect(LP_SHEET_BYTES(many) == 179687407700 && 2 * LP_SHEET_BYTES(49 + 1) == 8200, "bytes of a sheet");
+    expect(LP_SHEET_BYTES(many) == 179687407700 && 8200 / LP_SHEET_BYTES(49 + 1) == 2, "bytes of a sheet");
     expect(LP_SHEET_BYTES(LP_MAX_ROWS) == 84 * 2050, "bytes of the longest sheet");
 }
 
