@@ -1,15 +1,12 @@
 -- The call from its stages.
-use Prim.Native.Nat.{ℕ, _+_, _*_, _<_, _≤_}
+use Prim.Native.Nat.{ℕ, _+_}
 use mathlib.Core.Path.{_≡_, refl, sym, ap, _∙_}
 use mathlib.Core.Bool.{Bool, true, false, not, _&&_, and-true, and-false}
 use mathlib.Core.List.{List, [], _∷_, _++_}
-use native.Mathlib.Omega.{arith}
 use lib.ListN.{length, replicate, length-replicate}
 use lib.Dec.{eqb}
-use lib.Ieee.{Float}
 use lib.Seq.{sets}
 use borrow.Author.Tests.{eqb-true, not-true, not-false}
-use Rattle.base.specs.All.{all}
 use Rattle.base.specs.AllLaws.{all-join}
 use Rattle.base.specs.Answers.{left}
 use Rattle.base.specs.Lists.{blank}
@@ -19,9 +16,8 @@ use Rattle.base.specs.declared.Answer.{Answer}
 use Rattle.base.specs.declared.Answer.the-variants.{Done, Refused}
 use Rattle.base.specs.declared.Asked.{Asked}
 use Rattle.base.specs.declared.Asked.the-variants.{Pass, Stop}
-use Rattle.base.specs.declared.Counts.{Counts}
 use Rattle.base.specs.declared.Form.the-variants.{Shared}
-use Rattle.base.specs.declared.Refusal.the-variants.{Rows, Lengths}
+use Rattle.base.specs.declared.Refusal.the-variants.{Lengths}
 use Rattle.matrix.specs.Input.{Input}
 use Rattle.outcome.specs.Buffers.{Buffers, allBuffers, sizes, patternTests, structureTests, askShape, Outcome, ended, stop}
 use Rattle.outcome.specs.Structure.{structure}

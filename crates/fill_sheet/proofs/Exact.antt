@@ -1,19 +1,18 @@
 -- "Every line has its exact width for every accepted matrix."
-use Prim.Native.Nat.{ℕ, _*_}
+use Prim.Native.Nat.{_*_}
 use mathlib.Core.Path.{_≡_, refl, ap}
-use mathlib.Core.List.{List}
 use lib.ListN.{length}
 use Rattle.base.specs.declared.Answer.{Answer}
 use Rattle.base.specs.declared.Answer.the-variants.{Done}
 use Rattle.base.specs.declared.Counts.{Counts}
 use Rattle.base.specs.declared.Form.the-variants.{Shared}
 use Rattle.matrix.specs.Input.{Input}
-use Rattle.outcome.specs.Buffers.{Buffers, Outcome, sizes, ended}
+use Rattle.outcome.specs.Buffers.{Outcome, sizes, ended}
 use Rattle.outcome.specs.Structure.{structure}
 use Rattle.lists.proofs.Handed.{structure-done, stop-done}
 use Rattle.sheet.specs.Sheet.{pagesFor, Lines}
 use Rattle.sheet.proofs.Widths as widths
-use Rattle.fill_sheet.specs.FillSheet.{fillLine, fillSheet, askSheet, sheetStructure, sheetAfter, SheetBuffers, sheetOutcome}
+use Rattle.fill_sheet.specs.FillSheet.{fillLine, fillSheet, askSheet, sheetStructure, SheetBuffers, sheetOutcome}
 use Rattle.fill_sheet.proofs.Left.{line-exact, few}
 
 -- the sheet that a done call leaves: 50 lines a page, each of its exact width

@@ -1,36 +1,35 @@
 -- What the shared structure call leaves is what the sheet is printed from.
-use Prim.Native.Nat.{ℕ, suc, _+_, _*_, _-_, _<_, _≤_}
-use mathlib.Core.Path.{_≡_, refl, sym, ap, _∙_}
-use mathlib.Core.Bool.{Bool, true, false, _&&_}
-use mathlib.Core.List.{List, [], _++_}
+use Prim.Native.Nat.{ℕ, _+_, _*_, _<_, _≤_}
+use mathlib.Core.Path.{_≡_, sym, ap, _∙_}
+use mathlib.Core.Bool.{Bool, true, _&&_}
+use mathlib.Core.List.{List, _++_}
 use native.Mathlib.Omega.{arith}
-use lib.ListN.{length, getD, replicate, length-replicate, getD-replicate}
+use lib.ListN.{length, getD, length-replicate, getD-replicate}
 use lib.Dec.{ltb}
-use lib.Ieee.{Float}
 use borrow.Author.Tests.{lt-ltb, le-ltb, eqb-true}
-use Rattle.base.specs.Lists.{bit, count, asc, has, sum, listAt}
+use Rattle.base.specs.Lists.{bit, count, asc, has, listAt}
 use Rattle.base.specs.AscLaws.{asc-ascends, length-asc, count-le, count-ext, has-asc, sum-part}
 use Rattle.base.specs.All.{all}
 use Rattle.base.specs.AllLaws.{all-true}
 use Rattle.base.specs.FirstLaws.{both-pass, holds-pass}
 use Rattle.base.specs.Answers.{holds}
-use Rattle.base.specs.Limits.{maxRows, maxSlots, rowsWithin}
+use Rattle.base.specs.Limits.{maxRows, rowsWithin}
 use Rattle.base.specs.declared.Form.the-variants.{Shared}
 use Rattle.base.specs.declared.Side.the-variants.{Lower, Upper}
 use Rattle.base.specs.declared.Refusal.the-variants.{Rows, Lengths}
 use Rattle.fill.specs.Fill.{Pattern, filled, upper, flip, upperRow, lowerRow}
 use Rattle.fill.specs.RowRule.{filled-flip}
-use Rattle.lent.specs.Reading.{ListIn, Below, Distinct, lengthIn}
+use Rattle.lent.specs.Reading.{Distinct, lengthIn}
 use Rattle.marks.specs.FillLaws.{upper-below}
 use Rattle.matrix.specs.Input.{Input, stored}
 use Rattle.matrix.specs.ListsLaws.{rows-range}
 use Rattle.matrix.specs.OrderLaws.{order-below}
-use Rattle.outcome.specs.Forms.{placedTo, valueNeed}
-use Rattle.outcome.specs.Buffers.{Buffers, sharedBuffers, sizes, patternTests, structureTests, askShape}
+use Rattle.outcome.specs.Forms.{valueNeed}
+use Rattle.outcome.specs.Buffers.{Buffers, sizes, patternTests, structureTests, askShape}
 use Rattle.outcome.specs.Placed.{PlacedSide, lists-kept, starts-long, size-at, run-at, run-inside, list-at}
 use Rattle.questions.specs.SettledLaws.{structured}
-use Rattle.lists.proofs.Handed.{Standing, Stood, Structures}
-use Rattle.sheet.specs.Sheet.{placeLine, Line}
+use Rattle.lists.proofs.Handed.{Structures}
+use Rattle.sheet.specs.Sheet.{Line}
 use Rattle.fill_sheet.specs.FillSheet.{fillLine}
 use Rattle.sheet.specs.Printing.{lineIn, Printable}
 use Rattle.sheet.specs.Counting.{Countable, RowsCounted}

@@ -9,7 +9,7 @@ use native.Mathlib.Omega.{arith}
 use lib.ListN.{length, getD, set, drop, replicate, length-append, length-replicate, drop-of-length-le}
 use lib.Seq.{sets, set-comm, drop-cons}
 use lib.Dec.{ltb}
-use borrow.Author.Tests.{lt-ltb, le-ltb, ltb-false}
+use borrow.Author.Tests.{lt-ltb, le-ltb}
 use Rattle.base.specs.Tests.{by-test}
 use Rattle.printing.specs.Print.{digit, digits, hexadecimal, bitsEnd, widthIn, decimal, column}
 use Rattle.printing.specs.Written.{Written, sets-append, then-written}

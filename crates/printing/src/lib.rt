@@ -1,7 +1,6 @@
 // The program's lines, written into a lent buffer as far as it goes. Each function answers the place after what it wrote.
 ghost use mathlib.Core.Path.{_≡_};
-ghost use mathlib.Core.List.{_∷_, []};
-ghost use Prim.Native.Nat.{ℕ, _+_, _≤_, _<_};
+ghost use Prim.Native.Nat.{_+_, _≤_, _<_};
 ghost use lib.ListN.{length, replicate, set};
 ghost use Rattle.printing.specs.Print.{digit, digits, widthIn, decimal, column, labelled, bitsEnd, countsLine, valueLine, refusedLine, tooLargeLine};
 ghost use Rattle.printing.specs.Written.{Written, farthest};

@@ -1,7 +1,7 @@
 -- Counting along lists: a list, then the lists of all columns.
-use Prim.Native.Nat.{ℕ, suc, _+_, _-_, _<_, _≤_}
+use Prim.Native.Nat.{ℕ, suc, _+_, _<_, _≤_}
 use mathlib.Core.Path.{_≡_, refl, sym, ap, _∙_}
-use mathlib.Core.Bool.{Bool, true, false, _||_}
+use mathlib.Core.Bool.{true, false}
 use mathlib.Core.List.{List, [], _∷_}
 use native.Mathlib.Numerals.{add-one}
 use native.Mathlib.Omega.{arith}
@@ -10,10 +10,8 @@ use lib.Dec.{eqb}
 use lib.Seq.{getD-drop, getD-set-same, getD-set-other}
 use borrow.Author.Tests.{eqb-true, eqb-false, eq-eqb, ne-eqb}
 use Rattle.base.specs.Lists.{bit, count, has, listAt}
-use Rattle.base.specs.Limits.{maxRows}
 use Rattle.base.specs.Tests.{by-test}
 use Rattle.base.specs.AscLaws.{has-drop, bit-le, count-suc, count-zero, count-le}
-use Rattle.lent.specs.Reading.{Below, Distinct}
 use Rattle.sheet.specs.Counting.{Counting, Counted, Countable, RowsCounted}
 
 has-apart : (l : List ℕ) (j : ℕ) → ((q : ℕ) → q < length l → getD l q 0 ≡ j → ⊥) → has l j ≡ false

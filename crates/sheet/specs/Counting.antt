@@ -1,10 +1,8 @@
 -- The lengths of the lower rows, counted along the lower columns. Definitions only.
-use Prim.Native.Nat.{ℕ, suc, _+_, _<_, _≤_}
-use mathlib.Core.Bool.{Bool}
+use Prim.Native.Nat.{ℕ, _+_, _<_, _≤_}
 use mathlib.Core.Path.{_≡_}
-use mathlib.Core.List.{List, [], _∷_}
+use mathlib.Core.List.{List}
 use lib.ListN.{length, getD}
-use lib.Dec.{eqb}
 use Rattle.base.specs.Lists.{bit, count, has, listAt}
 use Rattle.base.specs.Limits.{maxRows}
 use Rattle.lent.specs.Reading.{ListIn, Below, Distinct}
