@@ -104,8 +104,9 @@ those behind the last place are blank. A place has five numbers, with blanks on 
 
   columns 1 to 6      place k, from 0
   columns 7 to 14     its own row, counted from 0 for a Matrix Market file too
-  columns 15 to 22    the length of lower row k: the filled positions of row k left of the diagonal
-  columns 23 to 30    the length of T(k), upper list k: the filled positions of row k right of the diagonal
+  columns 15 to 22    the length of lower row k: the filled positions of row k left of the diagonal, stored entries
+                      among them
+  columns 23 to 30    the length of T(k), upper list k: those right of the diagonal
   columns 31 to 40    where T(k) starts in the upper index store of the shared form
 
   --order FILE                one order for rows and columns: the numbers 0 to n - 1, place by place

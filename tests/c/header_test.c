@@ -177,8 +177,7 @@ static void row_form(void)
     expect(d[0] == 0.0 && upper.values[0] == 0.0 && upper.index[0] == 0, "the row form leaves zeros");
 }
 
-/* The first lines of the fill sheet; blank ones follow. Rows and columns change places, so that own row and place
- * differ. */
+/* The first lines of the fill sheet; blank ones follow. Both orders are 1, 0, so that own row and place differ. */
 static const char sheet_lines[] = "FILL                                   1\n"
                                   "     0       1       0       1         0\n"
                                   "     1       0       1       0         1\n";

@@ -53,7 +53,7 @@ pub enum Fault {
     SheetRow,
     /// The list start stands for the run start.
     SheetRun,
-    /// A run start of more than four digits loses its first.
+    /// A run start is printed modulo 10,000.
     SheetDigits,
     /// Lines behind the last place are left as they were.
     SheetBlank,
@@ -558,7 +558,7 @@ fn row_lengths(n: usize, lower: &Store) -> Vec<u32> {
 fn five(k: usize, r: &[u16], rows: &[u32], upper: &Store) -> [u32; 5] {
     let row = if has(Fault::SheetRow) { k as u32 } else { r[k] as u32 };
     let run = if has(Fault::SheetRun) { upper.starts[k] } else { upper.runs[k] };
-    let run = if has(Fault::SheetDigits) && run > 9_999 { run % 10_000 } else { run };
+    let run = if has(Fault::SheetDigits) { run % 10_000 } else { run };
     [k as u32, row, rows[k], upper.starts[k + 1] - upper.starts[k], run]
 }
 
@@ -594,7 +594,7 @@ fn put_lines(places: &[[u32; 5]], sheet: &mut [u8]) {
     }
 }
 
-/// What the sheet's call does behind the structure call, which answered with the number; faults in its scratch too.
+/// What the sheet's call does behind the structure call, which answered with the number.
 fn print(number: u32, r: &[u16], lower: &Store, upper: &Store, su: &mut [u32], sheet: &mut [u8]) {
     if number == 0 {
         let rows = row_lengths(r.len(), lower);

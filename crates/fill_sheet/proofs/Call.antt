@@ -1,5 +1,5 @@
 -- The call from its stages.
-use Prim.Native.Nat.{ℕ, _+_}
+use Prim.Native.Nat.{ℕ, _*_}
 use mathlib.Core.Path.{_≡_, refl, sym, ap, _∙_}
 use mathlib.Core.Bool.{Bool, true, false, not, _&&_, and-true, and-false}
 use mathlib.Core.List.{List, [], _∷_, _++_}
@@ -24,7 +24,7 @@ use Rattle.outcome.specs.Structure.{structure}
 use Rattle.stages.specs.Stages.{isRefused}
 use Rattle.stages.specs.Branches.{never}
 use Rattle.lists.proofs.Handed.{Structures, structure-done}
-use Rattle.sheet.specs.Sheet.{sheetBytes}
+use Rattle.sheet.specs.Sheet.{pagesFor, sheetBytes}
 use Rattle.fill_sheet.specs.FillSheet.{fillLine, fillSheet, askSheet, sheetStructure, sheetAfter, sheetBuffers, withSheet, sheetOutcome}
 use Rattle.sheet.specs.Lent.{SheetLent, SheetPrinted}
 use Rattle.sheet.proofs.Laws.{sheet-same, sets-whole}
@@ -33,25 +33,25 @@ use Rattle.fill_sheet.proofs.Left.{line-is, sheet-lent, line-exact, few
 
 -- ---- the sheet's length
 
-pub stray-within : (n len : ℕ) (t : Bool) → t ≡ rowsWithin n → not t ≡ false → not (eqb len (sheetBytes n)) ≡ (rowsWithin n && not (eqb len (sheetBytes n)))
-stray-within n len t e h = rw (sym e ∙ not-false t h)
+pub length-within : (n len : ℕ) (t : Bool) → t ≡ rowsWithin n → not t ≡ false → (pages : ℕ) → pages ≡ pagesFor n → not (eqb len (2050 * pages)) ≡ (rowsWithin n && not (eqb len (sheetBytes n)))
+length-within n len t e h pages p = rw (sym e ∙ not-false t h, p)
 
-pub stray-beyond : (n len : ℕ) (t : Bool) → t ≡ rowsWithin n → not t ≡ true → false ≡ (rowsWithin n && not (eqb len (sheetBytes n)))
-stray-beyond n len t e h = rw (sym e ∙ not-true t h)
+pub length-beyond : (n len : ℕ) (t : Bool) → t ≡ rowsWithin n → not t ≡ true → false ≡ (rowsWithin n && not (eqb len (sheetBytes n)))
+length-beyond n len t e h = rw (sym e ∙ not-true t h)
 
-abbrev Stray : ℕ → ℕ → Bool → Type 0
-Stray n len t = t ≡ (rowsWithin n && not (eqb len (sheetBytes n)))
+abbrev Wrong : ℕ → ℕ → Bool → Type 0
+Wrong n len t = t ≡ (rowsWithin n && not (eqb len (sheetBytes n)))
 
-not-stray : (n len : ℕ) (t : Bool) → Stray n len t → t ≡ false → rowsWithin n ≡ true → eqb len (sheetBytes n) ≡ true
-not-stray n len t e h r = by-test (eqb len (sheetBytes n)) (λ q. q) (λ q. never t h (e ∙ rw (r, q)))
+not-wrong : (n len : ℕ) (t : Bool) → Wrong n len t → t ≡ false → rowsWithin n ≡ true → eqb len (sheetBytes n) ≡ true
+not-wrong n len t e h r = by-test (eqb len (sheetBytes n)) (λ q. q) (λ q. never t h (e ∙ rw (r, q)))
 
-module _ (i : Input) (s : Buffers) (len : ℕ) (t : Bool) (e : Stray (i .n) len t) where
+module _ (i : Input) (s : Buffers) (len : ℕ) (t : Bool) (e : Wrong (i .n) len t) where
   -- it is asked with the other lengths
   ask-same : t ≡ false → askSheet i (sizes s) len ≡ askShape (i .n) (patternTests i ++ structureTests Shared (i .n) (sizes s))
   unfolding askSheet askShape
   ask-same h =
       by-test (rowsWithin (i .n))
-      (λ r. rw (r, all-join (patternTests i ++ structureTests Shared (i .n) (sizes s)) (eqb len (sheetBytes (i .n)) ∷ []), not-stray (i .n) len t e h r, and-true))
+      (λ r. rw (r, all-join (patternTests i ++ structureTests Shared (i .n) (sizes s)) (eqb len (sheetBytes (i .n)) ∷ []), not-wrong (i .n) len t e h r, and-true))
       (λ r. rw r)
 
   stop-same : (a b : Asked) (rest : Outcome Answer) → a ≡ b → stop Refused a s (stop Refused b s rest) ≡ stop Refused b s rest
@@ -62,9 +62,9 @@ module _ (i : Input) (s : Buffers) (len : ℕ) (t : Bool) (e : Stray (i .n) len 
   unfolding sheetStructure structure
   sheet-structure h = stop-same (askSheet i (sizes s) len) (askShape (i .n) (patternTests i ++ structureTests Shared (i .n) (sizes s))) _ (ask-same h)
 
-  ask-stray : t ≡ true → askSheet i (sizes s) len ≡ Stop Lengths
+  ask-wrong : t ≡ true → askSheet i (sizes s) len ≡ Stop Lengths
   unfolding askSheet askShape
-  ask-stray h =
+  ask-wrong h =
       let p = and-cases (rowsWithin (i .n)) (not (eqb len (sheetBytes (i .n)))) (sym e ∙ h) in
       rw (p .0, all-join (patternTests i ++ structureTests Shared (i .n) (sizes s)) (eqb len (sheetBytes (i .n)) ∷ []), not-true (eqb len (sheetBytes (i .n))) (p .1), and-false)
 
@@ -85,10 +85,10 @@ module _ (i : Input) (s : Buffers) (old : List ℕ) where
   unfolding sheetOutcome
   ends a u new p q = ap (λ (l : List ℕ). left a (sheetBuffers u l)) p ∙ ap (withSheet i old) q
 
-module _ (i : Input) (s : Buffers) (old : List ℕ) (t : Bool) (e : Stray (i .n) (length old) t) where
-  pub stray-out : t ≡ true → Ends i s old (Refused Lengths) s old
+module _ (i : Input) (s : Buffers) (old : List ℕ) (t : Bool) (e : Wrong (i .n) (length old) t) where
+  pub wrong-out : t ≡ true → Ends i s old (Refused Lengths) s old
   unfolding sheetStructure
-  stray-out h = ends i s old (Refused Lengths) s old refl (rw (ask-stray i s (length old) t e h))
+  wrong-out h = ends i s old (Refused Lengths) s old refl (rw (ask-wrong i s (length old) t e h))
 
   module _ (h : t ≡ false) where
     pub refused-left : (a : Answer) (u : Buffers) (b : Bool) → b ≡ isRefused a → b ≡ true → ended a u ≡ structure Shared i s → Ends i s old a u old
@@ -106,7 +106,7 @@ module _ (i : Input) (s : Buffers) (old : List ℕ) (t : Bool) (e : Stray (i .n)
         unfolding fillSheet
         sheet-is =
             P .printed ∙ ap (sets old 0) (sheet-same (i .n) _ (fillLine i) (line-is i s u D (P .lower) (P .counted)))
-            ∙ sets-whole old _ (eqb-true _ _ (not-stray (i .n) (length old) t e h (D .stood .rows)) ∙ sym (sheet-long (i .n) (fillLine i) (line-exact i s u D) (few i s u D)))
+            ∙ sets-whole old _ (eqb-true _ _ (not-wrong (i .n) (length old) t e h (D .stood .rows)) ∙ sym (sheet-long (i .n) (fillLine i) (line-exact i s u D) (few i s u D)))
 
       pub done-left : (a : Answer) (b : Bool) → b ≡ isRefused a → b ≡ false → ended a u ≡ structure Shared i s → Ends i s old a (allBuffers (u .lower) (u .upper) (u .d) (u .x) (u .work) m) new
       done-left (Done c) b f g o =

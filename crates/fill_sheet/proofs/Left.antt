@@ -8,7 +8,7 @@ use lib.ListN.{length, getD, length-replicate, getD-replicate}
 use lib.Dec.{ltb}
 use borrow.Author.Tests.{lt-ltb, le-ltb, eqb-true}
 use Rattle.base.specs.Lists.{bit, count, asc, has, listAt}
-use Rattle.base.specs.AscLaws.{asc-ascends, length-asc, count-le, count-ext, has-asc, sum-part}
+use Rattle.base.specs.AscLaws.{asc-ascends, length-asc, count-ext, sum-part}
 use Rattle.base.specs.All.{all}
 use Rattle.base.specs.AllLaws.{all-true}
 use Rattle.base.specs.FirstLaws.{both-pass, holds-pass}
@@ -20,7 +20,8 @@ use Rattle.base.specs.declared.Refusal.the-variants.{Rows, Lengths}
 use Rattle.fill.specs.Fill.{Pattern, filled, upper, flip, upperRow, lowerRow}
 use Rattle.fill.specs.RowRule.{filled-flip}
 use Rattle.lent.specs.Reading.{Distinct, lengthIn}
-use Rattle.marks.specs.FillLaws.{upper-below}
+use Rattle.marks.specs.FillLaws.{has-upper, upper-below}
+use Rattle.marks.specs.ListLaws.{lower-le, upper-le}
 use Rattle.matrix.specs.Input.{Input, stored}
 use Rattle.matrix.specs.ListsLaws.{rows-range}
 use Rattle.matrix.specs.OrderLaws.{order-below}
@@ -31,10 +32,10 @@ use Rattle.questions.specs.SettledLaws.{structured}
 use Rattle.lists.proofs.Handed.{Structures}
 use Rattle.sheet.specs.Sheet.{Line}
 use Rattle.fill_sheet.specs.FillSheet.{fillLine}
-use Rattle.sheet.specs.Printing.{lineIn, Printable}
+use Rattle.sheet.specs.Printing.{lineIn, PlacesLent}
 use Rattle.sheet.specs.Counting.{Countable, RowsCounted}
 use Rattle.sheet.specs.Lent.{SheetLent}
-use Rattle.sheet.proofs.Laws.{rows-fit, slots-fit}
+use Rattle.sheet.proofs.Laws.{line-fits}
 use Rattle.sheet.proofs.Widths.{place-exact}
 
 asc-distinct : (p : ℕ → Bool) (n : ℕ) → Distinct (asc p n)
@@ -44,18 +45,10 @@ upper-distinct : (P : Pattern) (n k : ℕ) → Distinct (upperRow P n k)
 unfolding upperRow
 upper-distinct P n k = asc-distinct (upper P k) n
 
-upper-most : (P : Pattern) (n k : ℕ) → length (upperRow P n k) ≤ n
-unfolding upperRow
-upper-most P n k = rw length-asc (count-le (upper P k) n)
-
-row-most : (P : Pattern) (k : ℕ) → length (lowerRow P k) ≤ k
-unfolding lowerRow
-row-most P k = rw length-asc (count-le (filled P k) k)
-
 -- in how many lower columns k stands: as often as lower row k is long
 in-column : (P : Pattern) (n j k : ℕ) → k < n → has (upperRow (flip P) n j) k ≡ (ltb j k && filled P k j)
-unfolding upperRow upper
-in-column P n j k h = has-asc (upper (flip P) j) n k ∙ rw (lt-ltb k n h, filled-flip P j k)
+unfolding upper
+in-column P n j k h = has-upper (flip P) n j k h ∙ rw (filled-flip P j k)
 
 row-long : (P : Pattern) (n k : ℕ) → k < n → count (λ j. has (upperRow (flip P) n j) k) n ≡ length (lowerRow P k)
 unfolding lowerRow count
@@ -112,6 +105,18 @@ module _ (i : Input) (s t : Buffers) (D : Structures Shared i s t) where
     zero = λ k h. rw (D .marks) (getD-replicate (sizes s .marks) k 0 0 (omega (arith, marks-size)));
   }
 
+  places : PlacesLent (i .n) (i .r) (t .upper .starts) (t .upper .runs)
+  places = record {
+    few = few;
+    own = omega (arith, r-long);
+    lists = omega (arith, starts-long _ _ _ _ _ _ _ _ upper-side);
+    placed = omega (arith, runs-long);
+    own-below = order-below (i .r) (i .n) (structured i (D .asked) .readable .row-order);
+    rise = λ k h. omega (arith, size-at _ _ _ _ _ _ _ _ upper-side k h);
+    lists-below = λ k h. omega (arith, upper-long k h, upper-le (stored i) (i .n) k h);
+    runs-below = λ k h. omega (arith, run-inside _ _ _ _ _ _ _ _ upper-side k h, D .stood .upper .few);
+  }
+
   module _ (rows : List ℕ) (C : RowsCounted (i .n) (t .lower .starts) (t .lower .runs) (t .lower .index) (t .marks) rows) where
     rows-long : (k : ℕ) → k < i .n → getD rows k 0 ≡ length (lowerRow (stored i) k)
     rows-long k h =
@@ -119,34 +124,16 @@ module _ (i : Input) (s t : Buffers) (D : Structures Shared i s t) where
         ∙ count-ext (λ j. has (listAt (t .lower .starts) (t .lower .runs) (t .lower .index) j) k) (λ j. has (upperRow (flip (stored i)) (i .n) j) k) (i .n) (λ j l. ap (λ (q : List ℕ). has q k) (column-is j l))
         ∙ row-long (stored i) (i .n) k h
 
-    printable : Printable (i .n) (i .r) rows (t .upper .starts) (t .upper .runs)
-    printable = record {
-      few = few;
-      own = omega (arith, r-long);
-      rows = omega (arith, C .size, marks-long);
-      lists = omega (arith, starts-long _ _ _ _ _ _ _ _ upper-side);
-      placed = omega (arith, runs-long);
-      own-below = order-below (i .r) (i .n) (structured i (D .asked) .readable .row-order);
-      rows-below = λ k h. rw (C .rows k h) (count-le (λ j. has (listAt (t .lower .starts) (t .lower .runs) (t .lower .index) j) k) (i .n));
-      rise = λ k h. omega (arith, size-at _ _ _ _ _ _ _ _ upper-side k h);
-      lists-below = λ k h. omega (arith, upper-long k h, upper-most (stored i) (i .n) k);
-      runs-below = λ k h. omega (arith, run-inside _ _ _ _ _ _ _ _ upper-side k h, D .stood .upper .few);
-    }
-
     pub line-is : (k : ℕ) → k < i .n → lineIn (i .r) rows (t .upper .starts) (t .upper .runs) k ≡ fillLine i k
     unfolding lineIn fillLine
     line-is k h = rw (rows-long k h, upper-long k h, run-at _ _ _ _ _ _ _ _ upper-side k h .1)
 
   pub sheet-lent : SheetLent (i .n) (i .r) (t .lower .starts) (t .lower .runs) (t .lower .index) (t .upper .starts) (t .upper .runs) (t .marks)
-  sheet-lent = record { countable = countable; printable = printable }
+  sheet-lent = record { countable = countable; places = places }
 
   pub line-exact : (k : ℕ) → k < i .n → Line (fillLine i k)
   unfolding fillLine
   line-exact k h =
-      place-exact k _ _ _ _ (record {
-        place = rows-fit 6 k (omega arith) (omega (arith, few));
-        own-row = rows-fit 8 _ (omega arith) (omega (arith, few, order-below (i .r) (i .n) (structured i (D .asked) .readable .row-order) k h));
-        lower-row = rows-fit 8 _ (omega arith) (omega (arith, few, row-most (stored i) k));
-        upper-list = rows-fit 8 _ (omega arith) (omega (arith, few, upper-most (stored i) (i .n) k));
-        run-start = slots-fit _ (omega (arith, D .stood .upper .few, run-inside _ _ _ _ _ _ _ _ upper-side k h, run-at _ _ _ _ _ _ _ _ upper-side k h .1));
-      })
+      place-exact k _ _ _ _
+      (line-fits (i .n) k _ _ _ _ few h (places .own-below k h) (omega (arith, lower-le (stored i) k)) (omega (arith, upper-le (stored i) (i .n) k h))
+      (omega (arith, places .runs-below k h, run-at _ _ _ _ _ _ _ _ upper-side k h .1)))

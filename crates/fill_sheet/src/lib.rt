@@ -14,14 +14,14 @@ use base::Index;
 use base::Refusal;
 use matrix::Matrix;
 
-// Asks 2 of the sheet: tells whether its length is not that of n places.
-fn stray(n: usize, len: usize) -> bool
+// Asks 2 of the sheet: tells whether n is within its limits and the length is not that of n places. Of another n structure_shared asks 1.
+fn wrong_length(n: usize, len: usize) -> bool
     ensures { λ t. ⌜ t ≡ (rowsWithin n && not (eqb len (sheetBytes n))) ⌝ }
 {
     if !Matrix::rows_within(n) {
         return false;
     }
-    len != 2050 * ((n + 48) / 49)
+    len != 2050 * sheet::pages(n)
 }
 
 // Finds the fill of M' and places it in the shared form, as structure_shared does, and prints the fill sheet of it.
@@ -47,7 +47,7 @@ pub fn fill_sheet(
         ≡ sheetOutcome (inputOf n (now (starts .entry)) (now (columns .entry)) [] (now (r .entry)) (now (c .entry)) [])
         (sheetBuffers (sharedBuffers (now («lower_starts» .entry)) (now («lower_runs» .entry)) (now («lower_index» .entry)) (now («lower_values» .entry)) (now («upper_starts» .entry)) (now («upper_runs» .entry)) (now («upper_index» .entry)) (now («upper_values» .entry)) [] [] (now (work .entry)) (now (marks .entry))) (now (sheet .entry))) ⌝ }
 {
-    if stray(n, sheet.len()) {
+    if wrong_length(n, sheet.len()) {
         return Answer::Refused(Refusal::Lengths);
     }
     let a = shared_form::structure_shared(

@@ -1,6 +1,6 @@
 // The test load that every office can make: a matrix, orders and a right side from n and a 16-bit seed.
 ghost use mathlib.Core.Path.{_≡_};
-ghost use Prim.Native.Nat.{ℕ, _+_, _<_, _≤_};
+ghost use Prim.Native.Nat.{ℕ, _<_, _≤_};
 ghost use lib.ListN.{length};
 ghost use Rattle.base.specs.Lists.{has, table};
 ghost use Rattle.load.specs.Load.{drawn, columnOf, four, minusOne, one, loadOutcome};

@@ -103,7 +103,7 @@ counting-end x rest width h c =
     (omega (arith, c .counted, e), omega (arith, c .few, c .some))
 
 -- a number below 10^w has at most w digits
-width-most : (f w x : ℕ) → 0 < w → x < 10 ^ w → widthIn f x ≤ w
+pub width-most : (f w x : ℕ) → 0 < w → x < 10 ^ w → widthIn f x ≤ w
 unfolding widthIn
 width-most zero w x s h = omega arith
 width-most (suc f) zero x s h = absurd (omega arith)
@@ -112,12 +112,9 @@ width-most (suc f) (suc (suc g)) x s h =
     let d = width-most f (suc g) (x / 10) (omega arith) (omega (arith, rw (pow-succ' 10 (suc g)) at h)) in
     by-test (ltb x 10) (λ t. rw t (omega arith)) (λ t. rw t (omega (arith, d)))
 
-pub fits-below : (w x : ℕ) → 0 < w → x < 10 ^ w → widthIn 20 x ≤ w
-fits-below w x s h = width-most 20 w x s h
-
 -- ---- a column
 
-pub decimal-length : (x : ℕ) → length (decimal x) ≡ widthIn 20 x
+decimal-length : (x : ℕ) → length (decimal x) ≡ widthIn 20 x
 unfolding decimal
 decimal-length x = digits-length 10 (widthIn 20 x) x
 

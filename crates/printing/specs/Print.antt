@@ -1,4 +1,4 @@
--- What the program prints, as bytes. Definitions only.
+-- Numbers, and what the program prints, as bytes. Definitions only.
 use mathlib.Core.Bool.{cond}
 use mathlib.Core.List.{List, [], _∷_, _++_}
 use Prim.Native.Nat.{ℕ, zero, suc, _+_, _-_, _/_, _%_}

@@ -1,4 +1,4 @@
-// The program's lines, written into a lent buffer as far as it goes. Each function answers the place after what it wrote.
+// Numbers, texts and the program's lines, written into a lent buffer as far as it goes. Each function answers the place after what it wrote.
 ghost use mathlib.Core.Path.{_≡_};
 ghost use Prim.Native.Nat.{_+_, _≤_, _<_};
 ghost use lib.ListN.{length, replicate, set};

@@ -12,6 +12,8 @@ use borrow.Author.Tests.{eqb-true, eqb-false, eq-eqb, ne-eqb}
 use Rattle.base.specs.Lists.{bit, count, has, listAt}
 use Rattle.base.specs.Tests.{by-test}
 use Rattle.base.specs.AscLaws.{has-drop, bit-le, count-suc, count-zero, count-le}
+use Rattle.sheet.specs.Printing.{Printable}
+use Rattle.sheet.specs.Lent.{SheetLent}
 use Rattle.sheet.specs.Counting.{Counting, Counted, Countable, RowsCounted}
 
 has-apart : (l : List ℕ) (j : ℕ) → ((q : ℕ) → q < length l → getD l q 0 ≡ j → ⊥) → has l j ≡ false
@@ -112,3 +114,11 @@ module _ (n : ℕ) (starts runs index counts₀ : List ℕ) where
 
     pub rows-end : (j : ℕ) (counts : List ℕ) → n ≤ j → Rows j counts → RowsCounted n starts runs index counts₀ counts
     rows-end j counts h R = let e : j ≡ n = omega (arith, R .within) in record { size = R .size; rows = λ i l. R .rows i l ∙ ap (count (λ m. has (listAt starts runs index m) i)) e }
+
+-- what is counted can be printed with the other numbers
+pub rows-printable : (n : ℕ) (r ls lr li us ur counts lower : List ℕ) → SheetLent n r ls lr li us ur counts → RowsCounted n ls lr li counts lower → Printable n r lower us ur
+rows-printable n r ls lr li us ur counts lower L C = record {
+  places = L .places;
+  rows = omega (arith, C .size, L .countable .room);
+  rows-below = λ k h. rw (C .rows k h) (count-le (λ j. has (listAt ls lr li j) k) n);
+}

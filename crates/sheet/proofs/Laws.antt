@@ -15,7 +15,7 @@ use Rattle.base.specs.Limits.{maxRows, maxSlots}
 use Rattle.lent.specs.Reading.{lengthIn}
 use Rattle.printing.specs.Print.{column, widthIn}
 use Rattle.printing.specs.Written.{Written, then-written}
-use Rattle.printing.proofs.Laws.{fits-below}
+use Rattle.printing.proofs.Laws.{width-most}
 use Rattle.sheet.specs.Sheet.{placeLine, headLine, blankLine, lineOr, page, pagesFor, sheet}
 use Rattle.sheet.specs.Printing.{lineIn, Printable, sheetMost, LineFits, LineWritten, LinesWritten, PageWritten}
 
@@ -46,26 +46,25 @@ blank-line at o a q ra r A B = record { written = then-written _ _ _ _ _ _ _ _ A
 
 -- ---- the numbers fit, said once of the limits
 
-pub rows-fit : (w x : ℕ) → 6 ≤ w → x ≤ maxRows → widthIn 20 x ≤ w
-rows-fit w x h l = omega (arith, fits-below 6 x (omega arith) (omega arith))
+rows-fit : (w x : ℕ) → 6 ≤ w → x ≤ maxRows → widthIn 20 x ≤ w
+rows-fit w x h l = omega (arith, width-most 20 6 x (omega arith) (omega arith))
 
-pub slots-fit : (x : ℕ) → x ≤ maxSlots → widthIn 20 x ≤ 10
-slots-fit x l = fits-below 10 x (omega arith) (omega arith)
+slots-fit : (x : ℕ) → x ≤ maxSlots → widthIn 20 x ≤ 10
+slots-fit x l = width-most 20 10 x (omega arith) (omega arith)
 
-line-fits : (n : ℕ) (r lower starts runs : List ℕ) → Printable n r lower starts runs → (k : ℕ) → k < n
-    → LineFits k (getD r k 0) (getD lower k 0) (lengthIn starts k) (getD runs k 0)
-line-fits n r lower starts runs P k h = record {
-  place = rows-fit 6 k (omega arith) (omega (arith, P .few));
-  own-row = rows-fit 8 _ (omega arith) (omega (arith, P .few, P .own-below k h));
-  lower-row = rows-fit 8 _ (omega arith) (omega (arith, P .few, P .rows-below k h));
-  upper-list = rows-fit 8 _ (omega arith) (omega (arith, P .few, P .lists-below k h));
-  run-start = slots-fit _ (P .runs-below k h);
+pub line-fits : (n k own lower upper run : ℕ) → n ≤ maxRows → k < n → own < n → lower ≤ n → upper ≤ n → run ≤ maxSlots → LineFits k own lower upper run
+line-fits n k own lower upper run f h o l u s = record {
+  place = rows-fit 6 k (omega arith) (omega arith);
+  own-row = rows-fit 8 own (omega arith) (omega arith);
+  lower-row = rows-fit 8 lower (omega arith) (omega arith);
+  upper-list = rows-fit 8 upper (omega arith) (omega arith);
+  run-start = slots-fit run s;
 }
 
 -- the numbers as the code reads them
 pub read-fits : (n : ℕ) (r lower starts runs : List ℕ) → Printable n r lower starts runs → (k own rows list run : ℕ) → k < n
     → own ≡ getD r k 0 → rows ≡ getD lower k 0 → list ≡ lengthIn starts k → run ≡ getD runs k 0 → LineFits k own rows list run
-read-fits n r lower starts runs P k own rows list run h eo er el en = rw (eo, er, el, en) (line-fits n r lower starts runs P k h)
+read-fits n r lower starts runs P k own rows list run h eo er el en = let L = P .places in rw (eo, er, el, en) (line-fits n k _ _ _ _ (L .few) h (L .own-below k h) (P .rows-below k h) (L .lists-below k h) (L .runs-below k h))
 
 pub page-fits : (p : ℕ) → p < maxRows → widthIn 20 (p + 1) ≤ 6
 page-fits p h = rows-fit 6 (p + 1) (omega arith) (omega arith)

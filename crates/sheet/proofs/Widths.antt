@@ -63,7 +63,7 @@ place-exact k own lower upper run F =
       plain = plain-both _ e (plain-both _ d (plain-both _ c (plain-both a b (plain-column 6 k) (plain-column 8 own)) (plain-column 8 lower)) (plain-column 8 upper)) (plain-column 10 run);
     }
 
-pub head-exact : (p : ℕ) → p < maxRows → Line (headLine p)
+head-exact : (p : ℕ) → p < maxRows → Line (headLine p)
 unfolding headLine has
 head-exact p h =
     let f : List ℕ = 70 ∷ 73 ∷ 76 ∷ 76 ∷ [] in
@@ -75,7 +75,7 @@ head-exact p h =
       plain = plain-both (f ++ g) (column 6 (p + 1)) (plain-both f g refl (plain-blanks 30)) (plain-column 6 (p + 1));
     }
 
-pub blank-exact : Line blankLine
+blank-exact : Line blankLine
 unfolding blankLine
 blank-exact = record { text = replicate 40 32; is = refl; wide = length-replicate {A = ℕ} 40 32; plain = plain-blanks 40 }
 
@@ -124,7 +124,7 @@ unfolding joined
 joined-long f zero h = refl
 joined-long f (suc m) h = omega (arith, length-append (joined f m) (f m), joined-long f m (λ q l. h q (omega arith)), line-long (f m) (h m (omega arith)))
 
-pub lines-long : (m : ℕ) (s : List ℕ) → Lines m s → length s ≡ 41 * m
+lines-long : (m : ℕ) (s : List ℕ) → Lines m s → length s ≡ 41 * m
 lines-long m s L = ap length (L .are) ∙ joined-long (L .line) m (L .exact)
 
 -- ---- pages

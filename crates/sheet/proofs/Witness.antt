@@ -1,16 +1,15 @@
 -- What the functions ask for is met by computed values: the greatest numbers of a line, and one place whose lists are empty.
 use Prim.Native.Nat.{ℕ, zero, suc, _+_, _≤_, _<_}
 use mathlib.Core.Path.{_≡_, refl}
-use mathlib.Core.List.{List, [], _∷_}
+use mathlib.Core.List.{[], _∷_}
 use native.Mathlib.Omega.{arith}
 use lib.ListN.{getD}
-use Rattle.base.specs.Lists.{has, listAt}
-use Rattle.base.specs.AscLaws.{count-le}
+use Rattle.base.specs.Lists.{listAt}
 use Rattle.base.specs.Limits.{maxRows, maxSlots}
 use Rattle.lent.specs.Reading.{ListIn, Below, Distinct}
 use Rattle.printing.specs.Print.{widthIn}
-use Rattle.sheet.specs.Printing.{Printable, LineFits}
-use Rattle.sheet.specs.Counting.{Counting, Countable, RowsCounted}
+use Rattle.sheet.specs.Printing.{PlacesLent, LineFits}
+use Rattle.sheet.specs.Counting.{Counting, Countable}
 use Rattle.sheet.specs.Lent.{SheetLent}
 
 only : (P : ℕ → Type 0) → P 0 → (k : ℕ) → k < 1 → P k
@@ -39,19 +38,17 @@ countable = record {
   zero = only (λ k. getD (0 ∷ []) k 0 ≡ 0) refl;
 }
 
-printable : (lower : List ℕ) → RowsCounted 1 (0 ∷ 0 ∷ []) (0 ∷ []) [] (0 ∷ []) lower → Printable 1 (0 ∷ []) lower (0 ∷ 0 ∷ []) (0 ∷ [])
-printable lower C = record {
+places : PlacesLent 1 (0 ∷ []) (0 ∷ 0 ∷ []) (0 ∷ [])
+places = record {
   few = omega arith;
   own = omega arith;
-  rows = omega (arith, C .size);
   lists = omega arith;
   placed = omega arith;
   own-below = only (λ k. getD (0 ∷ []) k 0 < 1) (omega arith);
-  rows-below = λ k h. omega (arith, C .rows k h, count-le (λ j. has (listAt (0 ∷ 0 ∷ []) (0 ∷ []) [] j) k) 1);
   rise = only (λ k. getD (0 ∷ 0 ∷ []) k 0 ≤ getD (0 ∷ 0 ∷ []) (k + 1) 0) (omega arith);
   lists-below = only _ (omega arith);
   runs-below = only (λ k. getD (0 ∷ []) k 0 ≤ maxSlots) (omega arith);
 }
 
 pub sheet-lent : SheetLent 1 (0 ∷ []) (0 ∷ 0 ∷ []) (0 ∷ []) [] (0 ∷ 0 ∷ []) (0 ∷ []) (0 ∷ [])
-sheet-lent = record { countable = countable; printable = printable }
+sheet-lent = record { countable = countable; places = places }

@@ -5,13 +5,13 @@ use mathlib.Core.List.{List}
 use lib.Seq.{sets}
 use Rattle.base.specs.Lists.{blank}
 use Rattle.sheet.specs.Sheet.{sheet}
-use Rattle.sheet.specs.Printing.{lineIn, Printable}
+use Rattle.sheet.specs.Printing.{lineIn, PlacesLent}
 use Rattle.sheet.specs.Counting.{Countable, RowsCounted}
 
--- lower columns that can be counted along, and then numbers that can be printed
+-- lower columns that can be counted along, and numbers that can be printed
 pub record SheetLent (n : ℕ) (r ls lr li us ur counts : List ℕ) : Type 0 where
   pub countable : Countable n ls lr li counts
-  pub printable : (lower : List ℕ) → RowsCounted n ls lr li counts lower → Printable n r lower us ur
+  pub places : PlacesLent n r us ur
 
 -- the sheet, by the lengths of the lower rows
 pub record SheetPrinted (n : ℕ) (r ls lr li us ur counts out counts′ out′ : List ℕ) : Type 0 where

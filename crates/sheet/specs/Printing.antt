@@ -14,18 +14,22 @@ use Rattle.sheet.specs.Sheet.{placeLine, lineOr, page}
 unfoldable pub lineIn : List ℕ → List ℕ → List ℕ → List ℕ → ℕ → List ℕ
 lineIn r lower starts runs k = placeLine k (getD r k 0) (getD lower k 0) (lengthIn starts k) (getD runs k 0)
 
--- they are there for n places, and no number is over its limit
-pub record Printable (n : ℕ) (r lower starts runs : List ℕ) : Type 0 where
+-- the row order and the upper lists are there for n places, and no number is over its limit
+pub record PlacesLent (n : ℕ) (r starts runs : List ℕ) : Type 0 where
   pub few : n ≤ maxRows
   pub own : n ≤ length r
-  pub rows : n ≤ length lower
   pub lists : n < length starts
   pub placed : n ≤ length runs
   pub own-below : (k : ℕ) → k < n → getD r k 0 < n
-  pub rows-below : (k : ℕ) → k < n → getD lower k 0 ≤ n
   pub rise : (k : ℕ) → k < n → getD starts k 0 ≤ getD starts (k + 1) 0
   pub lists-below : (k : ℕ) → k < n → lengthIn starts k ≤ n
   pub runs-below : (k : ℕ) → k < n → getD runs k 0 ≤ maxSlots
+
+-- and so are the lengths of the lower rows
+pub record Printable (n : ℕ) (r lower starts runs : List ℕ) : Type 0 where
+  pub places : PlacesLent n r starts runs
+  pub rows : n ≤ length lower
+  pub rows-below : (k : ℕ) → k < n → getD lower k 0 ≤ n
 
 -- no byte of a sheet lies farther
 abbrev pub sheetMost : ℕ

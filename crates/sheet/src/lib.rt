@@ -3,7 +3,7 @@ ghost use mathlib.Core.Path.{_≡_};
 ghost use Prim.Native.Nat.{_+_, _*_, _<_, _≤_};
 ghost use lib.Seq.{sets};
 ghost use Rattle.base.specs.Limits.{maxRows};
-ghost use Rattle.sheet.specs.Sheet.{placeLine, headLine, blankLine, lineOr, sheet};
+ghost use Rattle.sheet.specs.Sheet.{placeLine, headLine, blankLine, lineOr, pagesFor, sheet};
 ghost use Rattle.sheet.specs.Printing.{lineIn, Printable, sheetMost, LineFits, LineWritten, LinesWritten, PageWritten};
 ghost use Rattle.sheet.specs.Counting.{Counting, Counted, Countable, RowsCounted};
 ghost use Rattle.sheet.specs.Lent.{SheetLent, SheetPrinted};
@@ -43,7 +43,8 @@ fn put_head(out: &mut [u8], at: usize, p: usize) -> usize
     printing::put_text(out, c, b"\n")
 }
 
-fn put_blank(out: &mut [u8], at: usize) -> usize
+// A line of 40 blanks.
+fn put_blank_line(out: &mut [u8], at: usize) -> usize
     requires { ⌜ at ≤ sheetMost ⌝ }
     ensures { λ r. ⌜ LineWritten blankLine (now (out .entry)) at (now (out .exit)) r ⌝ }
 {
@@ -66,7 +67,7 @@ fn put_place(
     ensures { λ e. ⌜ LineWritten (lineOr n (lineIn (now (r .entry)) (now (lower .entry)) (now (starts .entry)) (now (runs .entry))) k) (now (out .entry)) at (now (out .exit)) e ⌝ }
 {
     if n <= k {
-        return put_blank(out, at);
+        return put_blank_line(out, at);
     }
     let own = base::wide(r[k]);
     let rows = base::slot(lower[k]);
@@ -96,7 +97,7 @@ fn put_lines(
     starts: &[u32],
     runs: &[u32],
 ) -> usize
-    requires { ⌜ (at + 2009 ≤ sheetMost) × (first ≤ sheetMost) × Printable n (now r) (now lower) (now starts) (now runs) ⌝ }
+    requires { ⌜ (at + 2009 ≤ sheetMost) × (first ≤ 49 * maxRows) × Printable n (now r) (now lower) (now starts) (now runs) ⌝ }
     ensures { λ e. ⌜ LinesWritten n (lineIn (now (r .entry)) (now (lower .entry)) (now (starts .entry)) (now (runs .entry))) first 49 (now (out .entry)) at (now (out .exit)) e ⌝ }
 {
     let mut a = at;
@@ -126,15 +127,23 @@ fn put_page(
     put_lines(out, a, n, 49 * p, r, lower, starts, runs)
 }
 
+// Gives the pages that n places take.
+pub fn pages(n: usize) -> usize
+    requires { ⌜ n ≤ maxRows ⌝ }
+    ensures { λ r. ⌜ r ≡ pagesFor n ⌝ }
+{
+    (n + 48) / 49
+}
+
 // Prints the sheet of n places.
 fn put_sheet(out: &mut [u8], n: usize, r: &[Index], lower: &[u32], starts: &[u32], runs: &[u32])
     requires { ⌜ Printable n (now r) (now lower) (now starts) (now runs) ⌝ }
     ensures { λ _. ⌜ now (out .exit) ≡ sets (now (out .entry)) 0 (sheet n (lineIn (now (r .entry)) (now (lower .entry)) (now (starts .entry)) (now (runs .entry)))) ⌝ }
 {
-    let pages = (n + 48) / 49;
+    let count = pages(n);
     let mut at: usize = 0;
     let mut p: usize = 0;
-    while p < pages {
+    while p < count {
         at = put_page(out, at, n, p, r, lower, starts, runs);
         p += 1;
     }

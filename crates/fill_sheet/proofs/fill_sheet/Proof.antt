@@ -1,6 +1,6 @@
 use mathlib.Core.Path.{_∙_}
 use borrow.Author.Needs.{needs}
-use Rattle.fill_sheet.proofs.Call.{stray-out, refused-left, print-lent, done-left}
+use Rattle.fill_sheet.proofs.Call.{wrong-out, refused-left, print-lent, done-left}
 use Rattle.fill_sheet.proofs.fill_sheet.Statement.{statement}
 use Rattle.fill_sheet.proofs.fill_sheet.Tie as tie
 
@@ -15,14 +15,14 @@ abbrev Found : tie.After-print → tie.Else2
 Found s = s .before .before .before .before .before .before .before .before
 
 returns : tie.Need-returns
-returns c = stray-out _ _ _ _ (c .before .stray .ensures) (c .if1 .taken)
+returns c = wrong-out _ _ _ _ (c .before .wrong-length .ensures) (c .if1 .taken)
 
 returns-2 : tie.Need-returns-2
 returns-2 c =
     let r = c .before in
     let p = Structured r in
     let f = Fits p in
-    refused-left _ _ _ _ (f .before .stray .ensures) (f .if1 .left) _ _ _ (r .refuses .ensures) (c .if2 .taken) (p .structure-shared .ensures)
+    refused-left _ _ _ _ (f .before .wrong-length .ensures) (f .if1 .left) _ _ _ (r .refuses .ensures) (c .if2 .taken) (p .structure-shared .ensures)
 
 print-requires : tie.Need-print-requires
 print-requires c κs =
@@ -37,7 +37,7 @@ returns-3 c =
     let r = e .before in
     let q = Structured r in
     let f = Fits q in
-    done-left _ _ _ _ (f .before .stray .ensures) (f .if1 .left) _ _ _ (p .print .ensures) _ _ (r .refuses .ensures) (e .if2 .left) (q .structure-shared .ensures)
+    done-left _ _ _ _ (f .before .wrong-length .ensures) (f .if1 .left) _ _ _ (p .print .ensures) _ _ (r .refuses .ensures) (e .if2 .left) (q .structure-shared .ensures)
 
 abbrev Left : tie.After-slice-known23 → tie.After-structure-shared
 Left s = Structured (Found (s .before .before .before .before) .before)

@@ -1,6 +1,7 @@
 use mathlib.Core.Path.{_∙_}
 use Rattle.base.specs.ZerosLaws.{blank-same}
 use borrow.Author.Needs.{needs}
+use Rattle.sheet.proofs.CountLaws.{rows-printable}
 use Rattle.sheet.proofs.print.Statement.{statement}
 use Rattle.sheet.proofs.print.Tie as tie
 
@@ -11,7 +12,7 @@ abbrev Printed : tie.After-clear-u32 → tie.After-put-sheet
 Printed s = s .before .before .before .before
 
 put-sheet-requires : tie.Need-put-sheet-requires
-put-sheet-requires c κs = let k = c .before .before .before .before in k .before .before .before .before .before .before .before .before .before .before .pre .printable _ (k .count-rows .ensures)
+put-sheet-requires c κs = let k = c .before .before .before .before in rows-printable _ _ _ _ _ _ _ _ _ (k .before .before .before .before .before .before .before .before .before .before .pre) (k .count-rows .ensures)
 
 returns : tie.Need-returns
 returns c =

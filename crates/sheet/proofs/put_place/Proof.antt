@@ -18,10 +18,10 @@ abbrev Begin : tie.Else1 → tie.Start
 Begin s = s .before .before .before .before .before .before
 
 returns : tie.Need-returns
-returns c = place-none _ _ _ _ _ _ _ (c .before .before .before .before .if1 .taken) (c .before .before .put-blank .ensures)
+returns c = place-none _ _ _ _ _ _ _ (c .before .before .before .before .if1 .taken) (c .before .before .put-blank-line .ensures)
 
 list-length-requires : tie.Need-list-length-requires
-list-length-requires c κs = let t = There (c .before .before) in let P = Begin t .pre .1 in (omega (arith, P .lists, t .if1 .left), P .rise _ (t .if1 .left))
+list-length-requires c κs = let t = There (c .before .before) in let P = Begin t .pre .1 .places in (omega (arith, P .lists, t .if1 .left), P .rise _ (t .if1 .left))
 
 put-line-requires : tie.Need-put-line-requires
 put-line-requires c κs =
