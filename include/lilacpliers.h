@@ -11,17 +11,19 @@
  * overlap: r and c may be one array. The library allocates nothing and keeps nothing between calls.
  *
  * The caller's floating-point environment must be the default of IEEE 754: rounding to nearest, no flush to zero, no
- * denormals as zero, no traps. In another one numbers and answers may be others than promised here (n = 1, b = 1 and
- * the value 2^-1023 give x = 2^1023, but LP_ZERO_PIVOT where denormals are zero), and with a trap for overflow a
- * refusal LP_OVERFLOW becomes a signal.
+ * denormals as zero, no traps. In another one numbers and answers may be others than promised here (n = 1, b = 1, the
+ * floor 0 and the value 2^-1023 give x = 2^1023, but LP_ZERO_PIVOT where denormals are zero), and with a trap for
+ * overflow a refusal LP_OVERFLOW becomes a signal.
  *
- * Matrix, orders, right side:
+ * Matrix, orders, right side, floor:
  *   n        rows, 1 to LP_MAX_ROWS
  *   starts   n + 1 row starts: row i has the entries starts[i] to starts[i + 1] - 1
  *   columns  e columns, e at most LP_MAX_ENTRIES, in any order within a row
  *   values   e numbers
  *   r, c     row order and column order: place k takes row r[k] and column c[k]
  *   b        right side, n numbers by own row
+ *   floor    the calls that factor refuse a pivot whose magnitude is at most floor, which is finite and not negative;
+ *            0 and -0 refuse a pivot of zero only
  *
  * Lists and factors, by elimination place:
  *   lower_starts, upper_starts   n + 1 list starts
@@ -46,7 +48,7 @@
  *
  * What the buffers hold afterwards, unless a call says otherwise:
  *   LP_ROWS, LP_LENGTHS                nothing but the report was written
- *   LP_STARTS to LP_REPEATED,
+ *   LP_STARTS to LP_REPEATED, LP_FLOOR,
  *   LP_OTHER_STRUCTURE, LP_BAD_FACTORS scratch is zero, all else untouched
  *   LP_NULL_PIVOT to LP_OVERFLOW       scratch is zero, and so is every other buffer but x and sheet that the call
  *                                      writes
@@ -65,7 +67,7 @@ extern "C" {
 
 /* The version of this interface. It is raised whenever a function, a number or what a buffer holds changes, so that
  * a caller can refuse to be compiled against another one. */
-#define LP_VERSION 4
+#define LP_VERSION 5
 
 /* The limits of n, of e and of the slots of a store. */
 #define LP_MAX_ROWS 4096
@@ -95,13 +97,14 @@ extern "C" {
 #define LP_NULL_PIVOT 9       /* (k, k) is not filled: k */
 #define LP_LOWER_SLOTS 10     /* the lower lists do not fit index or value store: k */
 #define LP_UPPER_SLOTS 11     /* the upper lists do not fit index or value store: k */
-#define LP_ZERO_PIVOT 12      /* the pivot is a zero of either sign: k */
+#define LP_ZERO_PIVOT 12      /* the magnitude of the pivot is at most the floor (floor 0: a zero of either sign): k */
 #define LP_OVERFLOW 13        /* a result is not finite: the k at work */
 #define LP_OTHER_STRUCTURE 14 /* presented lists are not those that the structure call places: k */
 #define LP_BAD_FACTORS 15     /* presented lists are ill shaped, or a factor is not finite: k */
 #define LP_FILE_LENGTH 16     /* the file's length is no positive multiple of 512 up to 2^41 */
 #define LP_BLOCK 17           /* a block's number or checks are wrong: its number */
 #define LP_FILE_SHAPE 18      /* e is over its limit, or blocks and closing zeros do not fit n and e */
+#define LP_FLOOR 19           /* the floor is negative, infinite or not a number; asked right after 6 */
 
 /* Sides of the diagonal, for lp_list_plain and lp_list_shared. Every number but LP_LOWER is the upper side. */
 #define LP_LOWER 0
@@ -177,7 +180,7 @@ uint32_t lp_fill_sheet(
     uint64_t *report, size_t report_len);
 
 /* Finds structure, factors and one solution, in the plain form.
- * Asks 1 to 13. Writes list starts, index and value stores, d, x and scratch. */
+ * Asks 1 to 6, 19, then 7 to 13. Writes list starts, index and value stores, d, x and scratch. */
 uint32_t lp_solve_plain(
     size_t n,
     const uint32_t *starts, size_t starts_len,
@@ -186,6 +189,7 @@ uint32_t lp_solve_plain(
     const uint16_t *r, size_t r_len,
     const uint16_t *c, size_t c_len,
     const double *b, size_t b_len,
+    double floor,
     uint32_t *lower_starts, size_t lower_starts_len,
     uint16_t *lower_index, size_t lower_index_len,
     double *lower_values, size_t lower_values_len,
@@ -199,7 +203,7 @@ uint32_t lp_solve_plain(
     uint64_t *report, size_t report_len);
 
 /* Finds structure, factors and one solution, in the shared form.
- * Asks 1 to 13. Writes list starts, run starts, index and value stores, d, x and scratch. */
+ * Asks 1 to 6, 19, then 7 to 13. Writes list starts, run starts, index and value stores, d, x and scratch. */
 uint32_t lp_solve_shared(
     size_t n,
     const uint32_t *starts, size_t starts_len,
@@ -208,6 +212,7 @@ uint32_t lp_solve_shared(
     const uint16_t *r, size_t r_len,
     const uint16_t *c, size_t c_len,
     const double *b, size_t b_len,
+    double floor,
     uint32_t *lower_starts, size_t lower_starts_len,
     uint32_t *lower_runs, size_t lower_runs_len,
     uint16_t *lower_index, size_t lower_index_len,
@@ -223,8 +228,8 @@ uint32_t lp_solve_shared(
     uint64_t *report, size_t report_len);
 
 /* Finds one solution without keeping L: the row form. It is lent the shared form's upper side and d as working room.
- * Asks 1 to 9, then 11 to 13. Writes the upper side, d, x and scratch; afterwards all of it but x is zero, also when
- * it is done. */
+ * Asks 1 to 6, 19, then 7 to 9 and 11 to 13. Writes the upper side, d, x and scratch; afterwards all of it but x is
+ * zero, also when it is done. */
 uint32_t lp_solve_row(
     size_t n,
     const uint32_t *starts, size_t starts_len,
@@ -233,6 +238,7 @@ uint32_t lp_solve_row(
     const uint16_t *r, size_t r_len,
     const uint16_t *c, size_t c_len,
     const double *b, size_t b_len,
+    double floor,
     uint32_t *upper_starts, size_t upper_starts_len,
     uint32_t *upper_runs, size_t upper_runs_len,
     uint16_t *upper_index, size_t upper_index_len,
@@ -244,9 +250,9 @@ uint32_t lp_solve_row(
     uint64_t *report, size_t report_len);
 
 /* Factors new values over lists that lp_structure_plain or lp_solve_plain left for the same pattern and orders, and
- * finds one solution. Asks 1 to 8, 14, then 12 and 13; 14 also where the structure call would give 9 to 11. Reads list
- * starts and index stores, and never changes them; writes value stores, d, x and scratch. report[0] is the place; there
- * are no counts. */
+ * finds one solution. Asks 1 to 6, 19, 7, 8, 14, then 12 and 13; 14 also where the structure call would give 9 to 11.
+ * The floor may be another than the one given before. Reads list starts and index stores, and never changes them;
+ * writes value stores, d, x and scratch. report[0] is the place; there are no counts. */
 uint32_t lp_refactor_plain(
     size_t n,
     const uint32_t *starts, size_t starts_len,
@@ -255,6 +261,7 @@ uint32_t lp_refactor_plain(
     const uint16_t *r, size_t r_len,
     const uint16_t *c, size_t c_len,
     const double *b, size_t b_len,
+    double floor,
     const uint32_t *lower_starts, size_t lower_starts_len,
     const uint16_t *lower_index, size_t lower_index_len,
     double *lower_values, size_t lower_values_len,
@@ -276,6 +283,7 @@ uint32_t lp_refactor_shared(
     const uint16_t *r, size_t r_len,
     const uint16_t *c, size_t c_len,
     const double *b, size_t b_len,
+    double floor,
     const uint32_t *lower_starts, size_t lower_starts_len,
     const uint32_t *lower_runs, size_t lower_runs_len,
     const uint16_t *lower_index, size_t lower_index_len,

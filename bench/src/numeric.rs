@@ -47,7 +47,7 @@ impl Work {
     }
 
     /// Step 3: d(k), y(k) and row k of u; the working row is zero again at k and after it.
-    pub fn finish(&mut self, k: usize, s: f64, upper: &mut Upper) -> Result<f64, Refusal> {
+    pub fn finish(&mut self, k: usize, s: f64, floor: f64, upper: &mut Upper) -> Result<f64, Refusal> {
         let from = upper.starts[k] as usize;
         let length = upper.starts[k + 1] as usize - from;
         let run = upper.runs[k] as usize;
@@ -57,7 +57,7 @@ impl Work {
         if !sound {
             return refuse(13, k);
         }
-        if pivot == 0.0 {
+        if pivot.abs() <= floor {
             return refuse(12, k);
         }
         let d = 1.0 / pivot;

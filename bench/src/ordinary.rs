@@ -1,4 +1,4 @@
-//! Structure and solve of the ordinary solver, for matrices that pass questions 1 to 8. It leaves in the buffers
+//! Structure and solve of the ordinary solver, for matrices that pass questions 1 to 8 and 19. It leaves in the buffers
 //! what the product leaves when it ends well; after a refusal it leaves them as they are.
 use crate::numeric::{back, Upper, Work};
 use crate::symbolic::{by_place, Members, Pattern, Placing};
@@ -19,8 +19,8 @@ pub fn solve(form: Form, input: &Input, buffers: &mut Buffers) -> Result<Counts,
     let counts = place_lists(form, &pattern, buffers)?;
     let right: Vec<f64> = input.r.iter().map(|&row| input.b[row as usize]).collect();
     let z = match form {
-        Form::Plain => eliminate_plain(&pattern, &values, &right, buffers)?,
-        _ => eliminate_shared(&pattern, &values, &right, buffers)?,
+        Form::Plain => eliminate_plain(&pattern, &values, &right, input.floor, buffers)?,
+        _ => eliminate_shared(&pattern, &values, &right, input.floor, buffers)?,
     };
     for (&column, t) in input.c.iter().zip(z) {
         buffers.x[column as usize] = t;
@@ -74,6 +74,7 @@ fn eliminate_plain(
     pattern: &Pattern,
     values: &[f64],
     right: &[f64],
+    floor: f64,
     buffers: &mut Buffers,
 ) -> Result<Vec<f64>, Refusal> {
     let n = right.len();
@@ -93,7 +94,7 @@ fn eliminate_plain(
             // a multiplier that is not finite leaves a sum that is not finite
             s = if m.is_finite() { s } else { f64::NAN };
         }
-        d[k] = work.finish(k, s, &mut upper)?;
+        d[k] = work.finish(k, s, floor, &mut upper)?;
     }
     back(&mut work.y, &upper)?;
     Ok(work.y)
@@ -140,6 +141,7 @@ fn eliminate_shared(
     pattern: &Pattern,
     values: &[f64],
     right: &[f64],
+    floor: f64,
     buffers: &mut Buffers,
 ) -> Result<Vec<f64>, Refusal> {
     let n = right.len();
@@ -162,7 +164,7 @@ fn eliminate_shared(
             links.link(i, lower);
         }
         links.link(k, lower);
-        d[k] = work.finish(k, s, &mut upper)?;
+        d[k] = work.finish(k, s, floor, &mut upper)?;
     }
     back(&mut work.y, &upper)?;
     Ok(work.y)
@@ -199,7 +201,10 @@ mod tests {
         for case in 0..4000 {
             let mut random = Random::for_case(5, case);
             let n = random.between(1, 20);
-            let input = generate::sound_input(&mut random, n);
+            let mut input = generate::sound_input(&mut random, n);
+            if random.per_mille(500) {
+                input.floor = generate::sound_floor(&mut random, &input);
+            }
             let slots = Slots::all(random.pick(&[n * n, n, 2 * n]));
             for form in [Form::Plain, Form::Shared] {
                 agrees(Call::Structure(form), &input, slots);

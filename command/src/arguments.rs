@@ -22,6 +22,7 @@ pub struct Solve {
     pub form: FormName,
     pub right: Option<PathBuf>,
     pub orders: OrderFiles,
+    pub floor: f64,
     pub hex: bool,
     pub numbers: bool,
     pub out: Option<PathBuf>,
@@ -85,7 +86,7 @@ const HELP: [&str; 2] = ["--help", "-h"];
 fn valued(topic: Topic) -> &'static [&'static str] {
     match topic {
         Topic::All => &[],
-        Topic::Solve => &["--form", "--right", "--order", "--rows", "--columns", "--refusals", "--output"],
+        Topic::Solve => &["--form", "--right", "--order", "--rows", "--columns", "--floor", "--refusals", "--output"],
         Topic::Structure => &["--order", "--rows", "--columns", "--refusals"],
         Topic::Convert => &["--right", "--order", "--rows", "--columns", "--refusals"],
         Topic::Picture | Topic::Sheet => &["--order", "--rows", "--columns", "--refusals", "--output"],
@@ -210,6 +211,7 @@ fn solve(mut sorted: Sorted, orders: OrderFiles, numbers: bool) -> Result<Task, 
         form,
         right: sorted.path("--right"),
         orders,
+        floor: sorted.floor()?,
         hex: sorted.take("--hex").is_some(),
         numbers,
         out: sorted.path("--output"),
@@ -308,6 +310,13 @@ impl Sorted {
         }
     }
 
+    /// Any number is for the library to judge, also NaN and those below zero.
+    fn floor(&mut self) -> Result<f64, String> {
+        let Some(word) = self.take("--floor") else { return Ok(0.0) };
+        let floor = word.to_str().and_then(|text| text.parse().ok());
+        floor.ok_or_else(|| format!("--floor is a decimal number, zero or greater, not {word:?}"))
+    }
+
     fn only_file(&mut self) -> Result<PathBuf, String> {
         match &self.files[..] {
             [file] => Ok(PathBuf::from(file)),
@@ -355,6 +364,7 @@ mod tests {
             form: FormName::Row,
             right: None,
             orders: OrderFiles { both: Some("r.txt".into()), ..OrderFiles::default() },
+            floor: 0.0,
             hex: true,
             numbers: true,
             out: Some("x.txt".into()),
@@ -367,6 +377,36 @@ mod tests {
             parsed("solve --form=row --order r.txt --refusals=numbers --hex --output x.txt -- a.lp"),
             Ok(expected)
         );
+    }
+
+    #[test]
+    fn a_floor_is_any_number() {
+        let bits = |line: &str| match parsed(line) {
+            Ok(Task::Solve(solve)) => solve.floor.to_bits(),
+            other => panic!("{line}: {other:?}"),
+        };
+        let floors = [
+            ("1e-8", 1e-8),
+            ("0", 0.0),
+            ("-0", -0.0),
+            ("+2.5", 2.5),
+            ("5e-324", f64::from_bits(1)),
+            // The library judges these.
+            ("-1", -1.0),
+            ("inf", f64::INFINITY),
+            ("1e999", f64::INFINITY),
+            ("-infinity", f64::NEG_INFINITY),
+        ];
+        for (word, floor) in floors {
+            assert_eq!(bits(&format!("solve a --floor {word}")), floor.to_bits(), "{word}");
+            assert_eq!(bits(&format!("solve --floor={word} a")), floor.to_bits(), "{word}");
+        }
+        assert!(f64::from_bits(bits("solve a --floor NaN")).is_nan());
+        assert_eq!(bits("solve a"), 0);
+        for word in ["x", "1,5", "0x1", "--hex", "1e"] {
+            let due = format!("--floor is a decimal number, zero or greater, not {word:?}");
+            assert_eq!(parsed(&format!("solve a --floor {word}")), Err(due));
+        }
     }
 
     #[test]
@@ -445,6 +485,12 @@ mod tests {
             "sheet a --right b",
             "sheet a --order r --columns c",
             "solve a --refusals x",
+            "solve a --floor",
+            "solve a --floor=",
+            "solve a --floor 1 --floor 1",
+            "structure a --floor 1",
+            "sheet a --floor 1",
+            "load 5 1 --floor 1",
             "--help x",
         ];
         for line in bad {

@@ -7,7 +7,7 @@ use crate::input::{self, shown};
 use crate::output::{self, column, Place};
 use crate::picture::{draw, Subject};
 use crate::progress;
-use lilacpliers::{Form, Matrix, Orders, Side, Structure, System};
+use lilacpliers::{solve_above, Form, Matrix, Orders, Side, Structure, System};
 use std::path::Path;
 
 pub fn solve(asked: &Solve) -> Result<(), Fault> {
@@ -16,8 +16,8 @@ pub fn solve(asked: &Solve) -> Result<(), Fault> {
         let _sign = progress::during(format!("solving {}", shown(&asked.file)));
         let loaded = input::load(&asked.file, asked.right.as_deref(), &asked.orders)?;
         let System { matrix, orders, right } = &loaded.system;
-        let found = lilacpliers::solve(form(asked.form), matrix, orders, right).map_err(|error| loaded.fault(error))?;
-        column(&found.x, asked.hex)
+        let found = solve_above(form(asked.form), matrix, orders, right, asked.floor);
+        column(&found.map_err(|error| loaded.fault(error))?.x, asked.hex)
     };
     Ok(output::write(place(asked.out.as_deref()), text.as_bytes())?)
 }

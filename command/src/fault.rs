@@ -1,6 +1,7 @@
 //! What went wrong, how it is said, and the exit status.
 use crate::output::{say, say_bare};
 use lilacpliers::{Error, Refusal};
+use std::ops::RangeInclusive;
 
 pub enum Fault {
     /// The library refused; the name of the file it was about, and a hint for whoever reads it, which may be empty.
@@ -9,8 +10,8 @@ pub enum Fault {
     Bad(String),
 }
 
-/// Refusals from here on are about a file, which then cannot be read.
-const FIRST_OF_FILES: u32 = 16;
+/// These refusals are about a file, which then cannot be read.
+const OF_FILES: RangeInclusive<u32> = 16..=18;
 const LONGEST_LINE: usize = 500;
 
 impl From<String> for Fault {
@@ -38,7 +39,7 @@ impl Fault {
 
     pub fn status(&self) -> u8 {
         match self {
-            Fault::Refused { refusal, .. } if refusal.number() < FIRST_OF_FILES => 1,
+            Fault::Refused { refusal, .. } if !OF_FILES.contains(&refusal.number()) => 1,
             _ => 2,
         }
     }

@@ -27,7 +27,8 @@ FILE is a matrix file or a Matrix Market file; its contents tell which. The name
 output where something is written.
 A matrix has up to 4096 rows and 65536 entries. lilac COMMAND --help says more about a command.
 
-Exit status: 0 done; 1 the library refused the system, or the size of a load; 2 bad usage, or a file that cannot be read or written.
+Exit status: 0 done; 1 the library refused the system, the floor, or the size of a load; 2 bad usage, or a file that
+cannot be read or written.
 Places, rows and columns count from 0, but lines, rows and columns of a Matrix Market file from 1.
 Messages go to standard error, and so do signs of life when the work takes over a second.
 ";
@@ -44,6 +45,8 @@ Solves M x = b and prints x, one number a line, by own column. A printed number 
                               (that of the matrix file; 0, 1, .. for a Matrix Market file)
   --rows FILE                 the order of the rows alone, and
   --columns FILE              the order of the columns alone, in place of --order
+  --floor F                   refuse a pivot whose magnitude is at most F, a decimal number, zero or greater
+                              (0, under which only a pivot of zero is refused)
   --hex                       print the 16 hexadecimal digits of each number's bits
   --refusals words|numbers    say a refusal in plain words (the default) or as `refused NUMBER PLACE`
   -o FILE                     write to FILE instead of standard output

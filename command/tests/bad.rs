@@ -119,7 +119,7 @@ fn bad_right_sides_and_orders() {
 #[test]
 fn bad_usage_has_status_2() {
     let two = example("two_by_two.lp");
-    let cases: [&[&str]; 17] = [
+    let cases: [&[&str]; 22] = [
         &[],
         &["sovle", &two],
         &["solve"],
@@ -127,6 +127,11 @@ fn bad_usage_has_status_2() {
         &["solve", &two, "--form", "wide"],
         &["solve", &two, "--form"],
         &["solve", &two, "--hexagon"],
+        &["solve", &two, "--floor"],
+        &["solve", &two, "--floor", "low"],
+        &["solve", &two, "--floor", "1.5.2"],
+        &["solve", &two, "--floor", "1", "--floor", "1"],
+        &["structure", &two, "--floor", "1"],
         &["structure", &two, "--hex"],
         &["convert", &two],
         &["convert", &two, "a.txt"],

@@ -179,6 +179,60 @@ fn refusals_have_status_1() {
     }
 }
 
+/// Pivots 4 and -3, and the solution (-1, 2) for the right side (12, -3).
+fn four_and_three(name: &str) -> [String; 4] {
+    let matrix = file(&format!("{name}.mtx"), format!("{HEADER}2 2 4\n1 1 4\n1 2 8\n2 1 1\n2 2 -1\n"));
+    ["solve".into(), matrix, "--right".into(), file(&format!("{name}.txt"), "12 -3\n")]
+}
+
+#[test]
+fn a_floor_refuses_pivots_of_at_most_its_magnitude() {
+    let asked = four_and_three("floor");
+    for form in ["plain", "shared", "row"] {
+        let with = |floor, refusals| {
+            let words = ["--form", form, "--refusals", refusals, "--floor", floor];
+            asked.iter().map(String::as_str).chain(words).collect::<Vec<_>>()
+        };
+        for floor in ["0", "-0", "5e-324", "1e-400", "2.9999999999999996"] {
+            assert_eq!(done(&with(floor, "numbers")), "-1\n2\n");
+        }
+        for (floor, place) in [("3", 1), ("3.0000000000000004", 1), ("3.9999999999999996", 1), ("4e0", 0), ("1e308", 0)]
+        {
+            assert_eq!(failed(1, &with(floor, "numbers")), format!("refused 12 {place}\n"));
+        }
+        let words = "the magnitude of the pivot at place 1 (row 1) is at most the floor; another order or a lower floor may avoid it";
+        let line = format!("lilac: {}: {words} (counted from 0; row 2 of the file)\n", asked[1]);
+        assert_eq!(failed(1, &with("3", "words")), line);
+    }
+}
+
+#[test]
+fn what_is_no_floor_is_refused() {
+    let asked = four_and_three("no_floor");
+    let path = own("no_floor_solution.txt");
+    for floor in ["-1", "-5e-324", "nan", "NaN", "inf", "-inf", "1e999"] {
+        for form in ["plain", "shared", "row"] {
+            let with = |refusals| {
+                let words = ["--form", form, "--refusals", refusals, "-o", &path, "--floor", floor];
+                asked.iter().map(String::as_str).chain(words).collect::<Vec<_>>()
+            };
+            assert_eq!(failed(1, &with("numbers")), "refused 19 0\n");
+            let words = "the floor under pivots must be a finite number, zero or greater";
+            assert_eq!(failed(1, &with("words")), format!("lilac: {}: {words}\n", asked[1]));
+            assert!(!std::path::Path::new(&path).exists());
+        }
+    }
+}
+
+#[test]
+fn a_floor_is_asked_between_the_values_and_the_rows() {
+    let not_finite = file("floor_6.mtx", format!("{HEADER}2 2 1\n1 1 inf\n"));
+    let empty_row = file("floor_7.mtx", format!("{HEADER}2 2 1\n1 1 1\n"));
+    let with = |matrix, floor| failed(1, &["solve", matrix, "--refusals", "numbers", "--floor", floor]);
+    assert_eq!([with(&not_finite, "-1"), with(&not_finite, "1")], ["refused 6 0\n"; 2]);
+    assert_eq!([with(&empty_row, "-1"), with(&empty_row, "1")], ["refused 19 0\n", "refused 7 1\n"]);
+}
+
 #[test]
 fn matrices_out_of_the_limits_are_refused() {
     for (k, body) in ["0 0 0\n", "4097 4097 1\n1 1 1\n", "4000000000 4000000000 1\n1 1 1\n"].iter().enumerate() {
@@ -226,7 +280,7 @@ fn help_is_printed() {
 fn help_names_every_option() {
     let orders = ["--order", "--rows", "--columns", "--refusals"];
     let more: [(&str, &[&str]); 5] = [
-        ("solve", &["--form", "--right", "--hex", "-o FILE"]),
+        ("solve", &["--form", "--right", "--floor F", "--hex", "-o FILE"]),
         ("structure", &[]),
         ("convert", &["--right"]),
         ("picture", &["-o FILE"]),

@@ -25,10 +25,29 @@ pub struct Solution {
 /// # Ok::<(), lilacpliers::Error>(())
 /// ```
 pub fn solve(form: Form, matrix: &Matrix, orders: &Orders, right: &[f64]) -> Result<Solution, Error> {
+    solve_above(form, matrix, orders, right, 0.0)
+}
+
+/// Solves as [`solve`] does, but refuses with 12 a pivot whose magnitude is at most the floor, for what is divided by a
+/// pivot near zero outweighs all else. The floor 0, of either sign, refuses pivots of zero only, as [`solve`] does; a
+/// floor that is negative, infinite or not a number is refused itself, with 19.
+///
+/// ```
+/// use lilacpliers::{solve_above, Error, Form, Matrix, Orders};
+/// let matrix = Matrix::from_triplets(2, &[(0, 0, 1.0), (0, 1, 1.0), (1, 0, 1.0), (1, 1, 1.25)])?;
+/// let above = |floor| solve_above(Form::Plain, &matrix, &Orders::natural(2), &[2.0, 3.0], floor);
+/// assert_eq!(above(0.125)?.x, [-2.0, 4.0]);
+/// // The pivots are 1 and 0.25.
+/// let Err(Error::Refused(refusal)) = above(0.25) else { panic!() };
+/// assert_eq!((refusal.number(), refusal.place()), (12, 1));
+/// assert!(refusal.to_string().starts_with("the magnitude of the pivot at place 1 (row 1) is at most the floor"));
+/// # Ok::<(), Error>(())
+/// ```
+pub fn solve_above(form: Form, matrix: &Matrix, orders: &Orders, right: &[f64], floor: f64) -> Result<Solution, Error> {
     let asked = Equations { matrix, orders, right };
     match form.kept() {
-        Some(form) => Ok(factor(form, asked)?.1),
-        None => solve_row(asked),
+        Some(form) => Ok(factor(form, asked, floor)?.1),
+        None => solve_row(asked, floor),
     }
 }
 
@@ -54,19 +73,47 @@ pub struct Factors {
 impl Factors {
     /// Finds structure, factors and one solution, in the plain or the shared form.
     pub fn solve(form: Form, matrix: &Matrix, orders: &Orders, right: &[f64]) -> Result<(Factors, Solution), Error> {
+        Factors::solve_above(form, matrix, orders, right, 0.0)
+    }
+
+    /// The same, but refuses a pivot whose magnitude is at most the floor, as [`solve_above`] does. The factors do not
+    /// keep the floor: [`Factors::refactor_above`] takes one of its own.
+    ///
+    /// ```
+    /// use lilacpliers::{Factors, Form, Matrix, Orders};
+    /// let matrix = Matrix::from_triplets(2, &[(0, 0, 2.0), (1, 0, 1.0), (1, 1, -4.0)])?;
+    /// let (mut factors, _) = Factors::solve_above(Form::Plain, &matrix, &Orders::natural(2), &[2.0, 1.0], 1.0)?;
+    /// let other = matrix.with_values(vec![2.0, 1.0, -0.5])?;
+    /// assert!(factors.refactor_above(&other, &[2.0, 1.0], 0.5).is_err());
+    /// assert_eq!(factors.refactor_above(&other, &[2.0, 2.0], 0.25)?, [1.0, -2.0]);
+    /// # Ok::<(), lilacpliers::Error>(())
+    /// ```
+    pub fn solve_above(
+        form: Form,
+        matrix: &Matrix,
+        orders: &Orders,
+        right: &[f64],
+        floor: f64,
+    ) -> Result<(Factors, Solution), Error> {
         let form = form.kept().ok_or(Error::RowForm)?;
-        factor(form, Equations { matrix, orders, right })
+        factor(form, Equations { matrix, orders, right }, floor)
     }
 
     /// Factors a matrix of the same pattern with new values, and solves for one right side. After a refusal the
     /// factors are those from before.
     pub fn refactor(&mut self, matrix: &Matrix, right: &[f64]) -> Result<Vec<f64>, Error> {
+        self.refactor_above(matrix, right, 0.0)
+    }
+
+    /// The same, but refuses a pivot whose magnitude is at most the floor, as [`solve_above`] does. The floor may be
+    /// another than before.
+    pub fn refactor_above(&mut self, matrix: &Matrix, right: &[f64], floor: f64) -> Result<Vec<f64>, Error> {
         let n = rows_lent(matrix);
         let asked = Equations { matrix, orders: &self.orders, right };
         let (mut values, mut x, mut scratch) = (self.values.blank(), vec![0.0; n], Scratch::new(n));
-        let answer =
-            ffi::refactor(self.structure.form, asked, &self.structure.lists, &mut values, &mut x, &mut scratch);
-        Question::refactor(asked, self.rows()).settle(&answer)?;
+        let (form, lists) = (self.structure.form, &self.structure.lists);
+        let answer = ffi::refactor(form, asked, floor, lists, &mut values, &mut x, &mut scratch);
+        Question::refactor(asked, floor, self.rows()).settle(&answer)?;
         self.values = values;
         Ok(x)
     }
@@ -106,29 +153,29 @@ impl Factors {
     }
 }
 
-fn factor(form: Kept, asked: Equations) -> Result<(Factors, Solution), Error> {
+fn factor(form: Kept, asked: Equations, floor: f64) -> Result<(Factors, Solution), Error> {
     let n = rows_lent(asked.matrix);
     let (mut x, mut scratch) = (vec![0.0; n], Scratch::new(n));
     let (answer, (mut lists, mut values)) = grow(asked.matrix, |room| {
         let (mut lists, mut values) = (Pair::new(form, n, room), Values::new(n, room));
-        let answer = ffi::solve(form, asked, &mut lists, &mut values, &mut x, &mut scratch);
+        let answer = ffi::solve(form, asked, floor, &mut lists, &mut values, &mut x, &mut scratch);
         (answer, (lists, values))
     });
-    Question::solve(asked).settle(&answer)?;
+    Question::solve(asked, floor).settle(&answer)?;
     lists.trim(&mut values);
     let counts = counts(&answer);
     let structure = Structure { form, lists, counts };
     Ok((Factors { structure, values, orders: asked.orders.clone() }, Solution { x, counts }))
 }
 
-fn solve_row(asked: Equations) -> Result<Solution, Error> {
+fn solve_row(asked: Equations, floor: f64) -> Result<Solution, Error> {
     let n = rows_lent(asked.matrix);
     let (mut x, mut scratch) = (vec![0.0; n], Scratch::new(n));
     let (answer, ()) = grow(asked.matrix, |room| {
         let mut upper = Lists::new(Kept::Shared, n, room.upper);
         let mut values = Values::new(n, room.upper_only());
-        (ffi::solve_row(asked, &mut upper, &mut values, &mut x, &mut scratch), ())
+        (ffi::solve_row(asked, floor, &mut upper, &mut values, &mut x, &mut scratch), ())
     });
-    Question::solve(asked).settle(&answer)?;
+    Question::solve(asked, floor).settle(&answer)?;
     Ok(Solution { x, counts: counts(&answer) })
 }

@@ -19,6 +19,9 @@ mod raw {
         ($name:ident [$($done:tt)*] $arg:ident: short, $($rest:tt)*) => {
             declare! { $name [$($done)* $arg: u16,] $($rest)* }
         };
+        ($name:ident [$($done:tt)*] $arg:ident: real, $($rest:tt)*) => {
+            declare! { $name [$($done)* $arg: f64,] $($rest)* }
+        };
         ($name:ident [$($done:tt)*] $arg:ident: lent $kind:ty, $($rest:tt)*) => {
             declare! { $name [$($done)* $arg: *const $kind, _: usize,] $($rest)* }
         };
@@ -43,30 +46,30 @@ mod raw {
     scratch_f64: out f64, scratch_u32: out u32, sheet: out u8, report: out u64, }
 
     declare! { lp_solve_plain [] n: size, starts: lent u32, columns: lent u16, values: lent f64,
-    r: lent u16, c: lent u16, b: lent f64,
+    r: lent u16, c: lent u16, b: lent f64, floor: real,
     lower_starts: out u32, lower_index: out u16, lower_values: out f64,
     upper_starts: out u32, upper_index: out u16, upper_values: out f64,
     d: out f64, x: out f64, scratch_f64: out f64, scratch_u32: out u32, report: out u64, }
 
     declare! { lp_solve_shared [] n: size, starts: lent u32, columns: lent u16, values: lent f64,
-    r: lent u16, c: lent u16, b: lent f64,
+    r: lent u16, c: lent u16, b: lent f64, floor: real,
     lower_starts: out u32, lower_runs: out u32, lower_index: out u16, lower_values: out f64,
     upper_starts: out u32, upper_runs: out u32, upper_index: out u16, upper_values: out f64,
     d: out f64, x: out f64, scratch_f64: out f64, scratch_u32: out u32, report: out u64, }
 
     declare! { lp_solve_row [] n: size, starts: lent u32, columns: lent u16, values: lent f64,
-    r: lent u16, c: lent u16, b: lent f64,
+    r: lent u16, c: lent u16, b: lent f64, floor: real,
     upper_starts: out u32, upper_runs: out u32, upper_index: out u16, upper_values: out f64,
     d: out f64, x: out f64, scratch_f64: out f64, scratch_u32: out u32, report: out u64, }
 
     declare! { lp_refactor_plain [] n: size, starts: lent u32, columns: lent u16, values: lent f64,
-    r: lent u16, c: lent u16, b: lent f64,
+    r: lent u16, c: lent u16, b: lent f64, floor: real,
     lower_starts: lent u32, lower_index: lent u16, lower_values: out f64,
     upper_starts: lent u32, upper_index: lent u16, upper_values: out f64,
     d: out f64, x: out f64, scratch_f64: out f64, scratch_u32: out u32, report: out u64, }
 
     declare! { lp_refactor_shared [] n: size, starts: lent u32, columns: lent u16, values: lent f64,
-    r: lent u16, c: lent u16, b: lent f64,
+    r: lent u16, c: lent u16, b: lent f64, floor: real,
     lower_starts: lent u32, lower_runs: lent u32, lower_index: lent u16, lower_values: out f64,
     upper_starts: lent u32, upper_runs: lent u32, upper_index: lent u16, upper_values: out f64,
     d: out f64, x: out f64, scratch_f64: out f64, scratch_u32: out u32, report: out u64, }
@@ -177,6 +180,7 @@ pub(crate) fn fill_sheet(
 pub(crate) fn solve(
     form: Kept,
     asked: Equations,
+    floor: f64,
     lists: &mut Pair,
     values: &mut Values,
     x: &mut [f64],
@@ -186,10 +190,10 @@ pub(crate) fn solve(
     let (l, u, v) = (&mut lists.lower, &mut lists.upper, values);
     match form {
         Kept::Plain => call!(lp_solve_plain: [m.rows()] (m.starts()) (m.columns()) (m.values())
-            (o.rows()) (o.columns()) (b) {l.starts} {l.index} {v.lower} {u.starts} {u.index} {v.upper}
+            (o.rows()) (o.columns()) (b) [floor] {l.starts} {l.index} {v.lower} {u.starts} {u.index} {v.upper}
             {v.d} {x} {s.floats} {s.marks}),
         Kept::Shared => call!(lp_solve_shared: [m.rows()] (m.starts()) (m.columns()) (m.values())
-            (o.rows()) (o.columns()) (b) {l.starts} {l.runs} {l.index} {v.lower}
+            (o.rows()) (o.columns()) (b) [floor] {l.starts} {l.runs} {l.index} {v.lower}
             {u.starts} {u.runs} {u.index} {v.upper} {v.d} {x} {s.floats} {s.marks}),
     }
 }
@@ -197,13 +201,14 @@ pub(crate) fn solve(
 /// One solution in the row form; lower values are not lent.
 pub(crate) fn solve_row(
     asked: Equations,
+    floor: f64,
     upper: &mut Lists,
     values: &mut Values,
     x: &mut [f64],
     s: &mut Scratch,
 ) -> Answer {
     let (m, o, b) = (asked.matrix, asked.orders, asked.right);
-    call!(lp_solve_row: [m.rows()] (m.starts()) (m.columns()) (m.values()) (o.rows()) (o.columns()) (b)
+    call!(lp_solve_row: [m.rows()] (m.starts()) (m.columns()) (m.values()) (o.rows()) (o.columns()) (b) [floor]
         {upper.starts} {upper.runs} {upper.index} {values.upper} {values.d} {x} {s.floats} {s.marks})
 }
 
@@ -211,6 +216,7 @@ pub(crate) fn solve_row(
 pub(crate) fn refactor(
     form: Kept,
     asked: Equations,
+    floor: f64,
     lists: &Pair,
     values: &mut Values,
     x: &mut [f64],
@@ -220,10 +226,10 @@ pub(crate) fn refactor(
     let (l, u, v) = (&lists.lower, &lists.upper, values);
     match form {
         Kept::Plain => call!(lp_refactor_plain: [m.rows()] (m.starts()) (m.columns()) (m.values())
-            (o.rows()) (o.columns()) (b) (l.starts) (l.index) {v.lower} (u.starts) (u.index) {v.upper}
+            (o.rows()) (o.columns()) (b) [floor] (l.starts) (l.index) {v.lower} (u.starts) (u.index) {v.upper}
             {v.d} {x} {s.floats} {s.marks}),
         Kept::Shared => call!(lp_refactor_shared: [m.rows()] (m.starts()) (m.columns()) (m.values())
-            (o.rows()) (o.columns()) (b) (l.starts) (l.runs) (l.index) {v.lower}
+            (o.rows()) (o.columns()) (b) [floor] (l.starts) (l.runs) (l.index) {v.lower}
             (u.starts) (u.runs) (u.index) {v.upper} {v.d} {x} {s.floats} {s.marks}),
     }
 }

@@ -21,10 +21,11 @@
 //! # Ok::<(), lilacpliers::Error>(())
 //! ```
 //!
-//! [`solve`] keeps nothing but the solution; [`Factors`] serve more right sides and new values; [`Structure`] is the
-//! fill alone, and [`Structure::fill_sheet`] prints it on pages; [`System`] is what a matrix file holds, and
-//! [`System::test_load`] makes one that is the same everywhere. Nothing here panics, whatever it is given: what cannot
-//! be solved is an [`Error`], mostly a [`Refusal`] with the library's number and place.
+//! [`solve`] keeps nothing but the solution; [`Factors`] serve more right sides and new values; [`solve_above`],
+//! [`Factors::solve_above`] and [`Factors::refactor_above`] refuse pivots near zero; [`Structure`] is the fill alone,
+//! and [`Structure::fill_sheet`] prints it on pages; [`System`] is what a matrix file holds, and [`System::test_load`]
+//! makes one that is the same everywhere. Nothing here panics, whatever it is given: what cannot be solved is an
+//! [`Error`], mostly a [`Refusal`] with the library's number and place.
 //!
 //! The library is for x86-64 and for the floating-point environment that every Rust program starts with.
 #![deny(missing_docs)]
@@ -45,7 +46,7 @@ mod system;
 mod text;
 
 pub use error::Error;
-pub use factors::{solve, Factors, Solution};
+pub use factors::{solve, solve_above, Factors, Solution};
 pub use form::{Counts, Form, Side, Slots};
 pub use matrix::Matrix;
 pub use orders::Orders;

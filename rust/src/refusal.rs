@@ -64,6 +64,7 @@ pub(crate) struct Question<'a> {
     matrix: Option<&'a Matrix>,
     orders: Option<&'a Orders>,
     right: Option<&'a [f64]>,
+    floor: Option<f64>,
 }
 
 /// The calls, as far as the words differ.
@@ -81,27 +82,32 @@ enum Call {
 impl<'a> Question<'a> {
     pub fn structure(matrix: &'a Matrix, orders: &'a Orders) -> Question<'a> {
         let rows = Some(matrix.rows());
-        Question { call: Call::Solve, rows, matrix: Some(matrix), orders: Some(orders), right: None }
+        Question { call: Call::Solve, rows, matrix: Some(matrix), orders: Some(orders), right: None, floor: None }
     }
 
-    pub fn solve(asked: Equations<'a>) -> Question<'a> {
+    pub fn write(asked: Equations<'a>) -> Question<'a> {
         Question { right: Some(asked.right), ..Question::structure(asked.matrix, asked.orders) }
     }
 
-    pub fn refactor(asked: Equations<'a>, factored: usize) -> Question<'a> {
-        Question { call: Call::Refactor(factored), ..Question::solve(asked) }
+    pub fn solve(asked: Equations<'a>, floor: f64) -> Question<'a> {
+        Question { floor: Some(floor), ..Question::write(asked) }
+    }
+
+    pub fn refactor(asked: Equations<'a>, floor: f64, factored: usize) -> Question<'a> {
+        Question { call: Call::Refactor(factored), ..Question::solve(asked, floor) }
     }
 
     pub fn resolve(n: usize, orders: &'a Orders, right: &'a [f64]) -> Question<'a> {
-        Question { call: Call::Solve, rows: Some(n), matrix: None, orders: Some(orders), right: Some(right) }
+        let (orders, right) = (Some(orders), Some(right));
+        Question { call: Call::Solve, rows: Some(n), matrix: None, orders, right, floor: None }
     }
 
     pub fn read(file: &[u8]) -> Question<'a> {
-        Question { call: Call::Read(file.len()), rows: None, matrix: None, orders: None, right: None }
+        Question { call: Call::Read(file.len()), rows: None, matrix: None, orders: None, right: None, floor: None }
     }
 
     pub fn load(n: usize) -> Question<'a> {
-        Question { call: Call::Load, rows: Some(n), matrix: None, orders: None, right: None }
+        Question { call: Call::Load, rows: Some(n), matrix: None, orders: None, right: None, floor: None }
     }
 
     /// Nothing if the answer is "done", else its refusal.
@@ -138,6 +144,7 @@ impl<'a> Question<'a> {
             7 => format!("row {place} has no entry: no order can solve it; give the row an entry or leave it out"),
             8 => format!("row {place} has a column twice: add the values up{}", self.twice_words(place)),
             9..=15 => self.place_words(number, place),
+            19 => "the floor under pivots must be a finite number, zero or greater".into(),
             _ => self.file_words(number, place),
         }
     }
@@ -216,6 +223,9 @@ impl<'a> Question<'a> {
             11 => format!(
                 "the lists above the diagonal need over {MAX_SLOTS} slots from {at} on; another order may fill less"
             ),
+            12 if self.floor.is_some_and(|floor| floor > 0.0) => {
+                format!("the magnitude of the pivot at {at} is at most the floor; another order or a lower floor may avoid it")
+            }
             12 => format!("the pivot at {at} is zero; another order may avoid it"),
             13 => format!("a result at {at} is not finite; scaled rows or another order may avoid it"),
             14 => format!("the matrix has another structure than the factors from {at} on: solve it anew"),

@@ -73,7 +73,7 @@ impl System {
         let mut file = vec![0; (12 + 16 * n + 10 * e).div_ceil(504) * 512];
         let asked = Equations { matrix: &self.matrix, orders: &self.orders, right: &self.right };
         let answer = ffi::write_matrix(asked, &mut file);
-        Question::solve(asked).settle(&answer)?;
+        Question::write(asked).settle(&answer)?;
         Ok(file)
     }
 }

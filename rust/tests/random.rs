@@ -27,6 +27,19 @@ impl Random {
         }
     }
 
+    /// Mostly a floor that lets pivots pass.
+    fn floor(&mut self) -> f64 {
+        match self.below(24) {
+            0 => f64::NAN,
+            1 => f64::INFINITY,
+            2 => -5e-324,
+            3 => -0.0,
+            4 => 5e-324,
+            5..=9 => self.below(129) as f64 / 64.0,
+            _ => 0.0,
+        }
+    }
+
     fn order(&mut self, n: usize) -> Vec<usize> {
         let mut order: Vec<usize> = (0..n).collect();
         for k in 0..n {
@@ -83,18 +96,18 @@ fn refused(error: Error) -> (u32, u64, String) {
     }
 }
 
-fn solved(form: Form, matrix: &Matrix, orders: &Orders, right: &[f64]) -> Outcome {
-    let solution = solve(form, matrix, orders, right).map_err(refused)?;
+fn solved(form: Form, matrix: &Matrix, orders: &Orders, right: &[f64], floor: f64) -> Outcome {
+    let solution = solve_above(form, matrix, orders, right, floor).map_err(refused)?;
     Ok((bits(&solution.x), Some(solution.counts)))
 }
 
 /// Factors, refactor and another right side beside the solve.
-fn reuse(form: Form, matrix: &Matrix, orders: &Orders, right: &[f64], other: &Matrix) {
+fn reuse(form: Form, matrix: &Matrix, orders: &Orders, right: &[f64], other: &Matrix, floor: f64) {
     let Ok((mut factors, solution)) = Factors::solve(form, matrix, orders, right) else { return };
     assert_eq!(Structure::find(form, matrix, orders).unwrap(), *factors.structure());
     assert_eq!(bits(&factors.solve_again(right).unwrap()), bits(&solution.x));
-    let anew: Outcome = solved(form, other, orders, right).map(|(x, _)| (x, None));
-    let found: Outcome = factors.refactor(other, right).map(|x| (bits(&x), None)).map_err(refused);
+    let anew: Outcome = solved(form, other, orders, right, floor).map(|(x, _)| (x, None));
+    let found: Outcome = factors.refactor_above(other, right, floor).map(|x| (bits(&x), None)).map_err(refused);
     assert_eq!(found, anew);
     let last = if let Ok((x, _)) = anew { x } else { bits(&solution.x) };
     assert_eq!(bits(&factors.solve_again(right).unwrap()), last);
@@ -119,23 +132,26 @@ fn sheet(matrix: &Matrix, orders: &Orders) {
 #[test]
 fn forms_agree() {
     let mut random = Random(1);
-    let mut done = 0;
+    let (mut done, mut met) = (0, Vec::new());
     for _ in 0..3000 {
         let n = 1 + random.below(12);
         let matrix = random.matrix(n);
         let orders = Orders::new(&random.order(n), &random.order(n)).unwrap();
         let natural = if random.chance(2) { Orders::natural(n) } else { orders };
-        let right = random.numbers(n);
-        let plain = solved(Form::Plain, &matrix, &natural, &right);
-        assert_eq!(plain, solved(Form::Shared, &matrix, &natural, &right));
-        assert_eq!(plain, solved(Form::Row, &matrix, &natural, &right));
+        let (right, floor) = (random.numbers(n), random.floor());
+        let plain = solved(Form::Plain, &matrix, &natural, &right, floor);
+        assert_eq!(plain, solved(Form::Shared, &matrix, &natural, &right, floor));
+        assert_eq!(plain, solved(Form::Row, &matrix, &natural, &right, floor));
         sheet(&matrix, &natural);
         let other = matrix.with_values((0..matrix.entries()).map(|_| random.value()).collect()).unwrap();
-        reuse(Form::Plain, &matrix, &natural, &right, &other);
-        reuse(Form::Shared, &matrix, &natural, &right, &other);
+        reuse(Form::Plain, &matrix, &natural, &right, &other, floor);
+        reuse(Form::Shared, &matrix, &natural, &right, &other, floor);
         done += usize::from(plain.is_ok());
+        met.extend(plain.err().map(|(number, ..)| number));
     }
     assert!(done > 300, "{done}");
+    let times = |number: u32| met.iter().filter(|&&other| other == number).count();
+    assert!(times(12) > 30 && times(19) > 30, "{} {}", times(12), times(19));
 }
 
 #[test]
@@ -145,9 +161,9 @@ fn any_parts() {
         let matrix = random.parts();
         let n = matrix.rows();
         let orders = Orders::natural(n);
-        let right = random.numbers(n);
-        let plain = solved(Form::Plain, &matrix, &orders, &right);
-        assert_eq!(plain, solved(Form::Row, &matrix, &orders, &right));
+        let (right, floor) = (random.numbers(n), random.floor());
+        let plain = solved(Form::Plain, &matrix, &orders, &right, floor);
+        assert_eq!(plain, solved(Form::Row, &matrix, &orders, &right, floor));
         sheet(&matrix, &orders);
         let lines = matrix.to_matrix_market().lines().count();
         assert!(lines <= matrix.entries() + 2);

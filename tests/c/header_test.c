@@ -1,17 +1,18 @@
-/* Solves the paper's 2 by 2 file through the C interface, prints its fill, makes a test load, holds the length macros
- * to the lengths that the calls take, tries NULL for buffers of length 0, and shows what another floating-point
- * environment changes.
+/* Solves the paper's 2 by 2 file through the C interface, tries floors under pivots, prints the fill, makes a test
+ * load, holds the length macros to the lengths that the calls take, tries NULL for buffers of length 0, and shows what
+ * another floating-point environment changes.
  * The exit status is 0 if every answer is as the header promises. */
 #include "lilacpliers.h"
 
+#include <math.h>
 #include <setjmp.h>
 #include <signal.h>
 #include <stdio.h>
 #include <string.h>
 #include <xmmintrin.h>
 
-#if LP_VERSION != 4
-#error "this test is written for version 4 of the interface"
+#if LP_VERSION != 5
+#error "this test is written for version 5 of the interface"
 #endif
 
 #define NONE NULL, 0
@@ -88,7 +89,7 @@ static const double twice_right[] = {20.0, 18.0};
 static void plain_again(void)
 {
     expect(lp_refactor_plain(N, LENT(starts), LENT(columns), LENT(twice_values), LENT(order), LENT(order),
-                             LENT(twice_right), LENT(lower.starts), LENT(lower.index), LENT(lower.values),
+                             LENT(twice_right), 0.0, LENT(lower.starts), LENT(lower.index), LENT(lower.values),
                              LENT(upper.starts), LENT(upper.index), LENT(upper.values),
                              LENT(d), LENT(x), LENT(scratch_f64), LENT(scratch_u32), LENT(report)) == LP_DONE,
            "refactor");
@@ -104,7 +105,7 @@ static void plain_again(void)
                             LENT(lower.values), LENT(upper.starts), LENT(upper.index), LENT(upper.values),
                             LENT(d), LENT(x), LENT(scratch_f64), LENT(scratch_u32), LENT(report)) == LP_BAD_FACTORS
            && report[0] == 0, "a list outside its store");
-    expect(lp_refactor_plain(N, LENT(starts), LENT(columns), LENT(values), LENT(order), LENT(order), LENT(right),
+    expect(lp_refactor_plain(N, LENT(starts), LENT(columns), LENT(values), LENT(order), LENT(order), LENT(right), 0.0,
                              LENT(lower.starts), LENT(lower.index), LENT(lower.values),
                              LENT(upper.starts), LENT(upper.index), LENT(upper.values),
                              LENT(d), LENT(x), LENT(scratch_f64), LENT(scratch_u32), LENT(report))
@@ -113,7 +114,7 @@ static void plain_again(void)
 
 static void plain_form(void)
 {
-    expect(lp_solve_plain(N, LENT(starts), LENT(columns), LENT(values), LENT(order), LENT(order), LENT(right),
+    expect(lp_solve_plain(N, LENT(starts), LENT(columns), LENT(values), LENT(order), LENT(order), LENT(right), 0.0,
                           LENT(lower.starts), LENT(lower.index), LENT(lower.values),
                           LENT(upper.starts), LENT(upper.index), LENT(upper.values),
                           LENT(d), LENT(x), LENT(scratch_f64), LENT(scratch_u32), LENT(report)) == LP_DONE, "solve");
@@ -147,7 +148,7 @@ static void shared_form(void)
     expect(lp_list_shared(LP_UPPER, 0, N, LENT(lower.starts), LENT(lower.runs), LENT(lower.index),
                           LENT(upper.starts), LENT(upper.runs), LENT(upper.index), LENT(report)) == LP_DONE
            && report[0] == 0 && report[1] == 1, "upper list 0");
-    expect(lp_solve_shared(N, LENT(starts), LENT(columns), LENT(values), LENT(order), LENT(order), LENT(right),
+    expect(lp_solve_shared(N, LENT(starts), LENT(columns), LENT(values), LENT(order), LENT(order), LENT(right), 0.0,
                            LENT(lower.starts), LENT(lower.runs), LENT(lower.index), LENT(lower.values),
                            LENT(upper.starts), LENT(upper.runs), LENT(upper.index), LENT(upper.values),
                            LENT(d), LENT(x), LENT(scratch_f64), LENT(scratch_u32), LENT(report)) == LP_DONE,
@@ -155,7 +156,7 @@ static void shared_form(void)
     expect_counts("counts of the shared solve");
     expect_solution("x of the shared solve");
     expect(lp_refactor_shared(N, LENT(starts), LENT(columns), LENT(twice_values), LENT(order), LENT(order),
-                              LENT(twice_right), LENT(lower.starts), LENT(lower.runs), LENT(lower.index),
+                              LENT(twice_right), 0.0, LENT(lower.starts), LENT(lower.runs), LENT(lower.index),
                               LENT(lower.values), LENT(upper.starts), LENT(upper.runs), LENT(upper.index),
                               LENT(upper.values), LENT(d), LENT(x), LENT(scratch_f64), LENT(scratch_u32),
                               LENT(report)) == LP_DONE, "shared refactor");
@@ -169,12 +170,111 @@ static void shared_form(void)
 
 static void row_form(void)
 {
-    expect(lp_solve_row(N, LENT(starts), LENT(columns), LENT(values), LENT(order), LENT(order), LENT(right),
+    expect(lp_solve_row(N, LENT(starts), LENT(columns), LENT(values), LENT(order), LENT(order), LENT(right), 0.0,
                         LENT(upper.starts), LENT(upper.runs), LENT(upper.index), LENT(upper.values),
                         LENT(d), LENT(x), LENT(scratch_f64), LENT(scratch_u32), LENT(report)) == LP_DONE, "row solve");
     expect_counts("counts of the row solve");
     expect_solution("x of the row solve");
     expect(d[0] == 0.0 && upper.values[0] == 0.0 && upper.index[0] == 0, "the row form leaves zeros");
+}
+
+/* Rows (4, 4), (1, -1), b = (8, -1): the pivots are 4 and -2, x is (0.5, 1.5). */
+static const double floor_values[E] = {4, 4, 1, -1};
+static const double floor_right[N] = {8, -1};
+
+/* The calls that factor. */
+enum { PLAIN, SHARED, ROW, PLAIN_AGAIN, SHARED_AGAIN, FACTORING };
+
+#define MATRIX LENT(starts), LENT(columns), LENT(floor_values), LENT(order), LENT(order), LENT(floor_right)
+#define PLAIN_SIDES LENT(lower.starts), LENT(lower.index), LENT(lower.values), \
+                    LENT(upper.starts), LENT(upper.index), LENT(upper.values)
+#define SHARED_UPPER LENT(upper.starts), LENT(upper.runs), LENT(upper.index), LENT(upper.values)
+#define SHARED_SIDES LENT(lower.starts), LENT(lower.runs), LENT(lower.index), LENT(lower.values), SHARED_UPPER
+#define REST LENT(d), LENT(x), LENT(scratch_f64), LENT(scratch_u32), LENT(report)
+
+static uint32_t factor_above(int call, double floor)
+{
+    switch (call) {
+    case PLAIN:
+        return lp_solve_plain(N, MATRIX, floor, PLAIN_SIDES, REST);
+    case SHARED:
+        return lp_solve_shared(N, MATRIX, floor, SHARED_SIDES, REST);
+    case ROW:
+        return lp_solve_row(N, MATRIX, floor, SHARED_UPPER, REST);
+    case PLAIN_AGAIN:
+        return lp_refactor_plain(N, MATRIX, floor, PLAIN_SIDES, REST);
+    default:
+        return lp_refactor_shared(N, MATRIX, floor, SHARED_SIDES, REST);
+    }
+}
+
+/* Noise everywhere, but for the lists that refactor reads. */
+static void prepare(int call)
+{
+    memset(&lower, 0xA5, sizeof lower);
+    memset(&upper, 0xA5, sizeof upper);
+    if (call == PLAIN_AGAIN)
+        expect(lp_solve_plain(N, MATRIX, 0.0, PLAIN_SIDES, REST) == LP_DONE, "lists for a plain refactor");
+    if (call == SHARED_AGAIN)
+        expect(lp_solve_shared(N, MATRIX, 0.0, SHARED_SIDES, REST) == LP_DONE, "lists for a shared refactor");
+    memset(lower.values, 0xA5, sizeof lower.values);
+    memset(upper.values, 0xA5, sizeof upper.values);
+    memset(d, 0xA5, sizeof d);
+    memset(x, 0xA5, sizeof x);
+    memset(scratch_f64, 0xA5, sizeof scratch_f64);
+    memset(scratch_u32, 0xA5, sizeof scratch_u32);
+    memset(report, 0xA5, sizeof report);
+}
+
+static int all_bytes(const void *from, size_t length, unsigned char byte)
+{
+    const unsigned char *bytes = from;
+    for (size_t i = 0; i < length; i++)
+        if (bytes[i] != byte)
+            return 0;
+    return 1;
+}
+
+/* A floor, and what every call that factors answers under it. */
+struct tried {
+    double floor;
+    uint32_t number;
+    uint64_t place;
+};
+
+static const struct tried tried[] = {
+    {0.0, LP_DONE, 0}, {-0.0, LP_DONE, 0}, {0x1p-1074, LP_DONE, 0}, {0x1.fffffffffffffp0, LP_DONE, 0},
+    {2.0, LP_ZERO_PIVOT, 1}, {0x1.0000000000001p1, LP_ZERO_PIVOT, 1}, {0x1.fffffffffffffp1, LP_ZERO_PIVOT, 1},
+    {4.0, LP_ZERO_PIVOT, 0}, {0x1.fffffffffffffp1023, LP_ZERO_PIVOT, 0},
+    {-0x1p-1074, LP_FLOOR, 0}, {-2.0, LP_FLOOR, 0}, {INFINITY, LP_FLOOR, 0}, {-INFINITY, LP_FLOOR, 0},
+    {NAN, LP_FLOOR, 0}, {-NAN, LP_FLOOR, 0}};
+
+static void floor_in(int call, struct tried t)
+{
+    prepare(call);
+    struct side lower_before, upper_before;
+    memcpy(&lower_before, &lower, sizeof lower);
+    memcpy(&upper_before, &upper, sizeof upper);
+    expect(factor_above(call, t.floor) == t.number && report[0] == t.place, "number and place under a floor");
+    expect(all_bytes(scratch_f64, sizeof scratch_f64, 0) && all_bytes(scratch_u32, sizeof scratch_u32, 0),
+           "scratch is zero under a floor");
+    if (t.number == LP_DONE)
+        expect(x[0] == 0.5 && x[1] == 1.5, "x under a floor");
+    else
+        expect(all_bytes(x, sizeof x, 0xA5), "x is untouched");
+    if (t.number == LP_ZERO_PIVOT)
+        expect(all_bytes(d, sizeof d, 0) && all_bytes(upper.values, sizeof upper.values, 0),
+               "d and the values are zero after LP_ZERO_PIVOT");
+    if (t.number == LP_FLOOR)
+        expect(all_bytes(d, sizeof d, 0xA5) && memcmp(&lower, &lower_before, sizeof lower) == 0
+               && memcmp(&upper, &upper_before, sizeof upper) == 0, "d and the stores are untouched after LP_FLOOR");
+}
+
+static void floors(void)
+{
+    for (int call = PLAIN; call < FACTORING; call++)
+        for (size_t i = 0; i < LENGTH(tried); i++)
+            floor_in(call, tried[i]);
 }
 
 /* The first lines of the fill sheet; blank ones follow. Both orders are 1, 0, so that own row and place differ. */
@@ -292,7 +392,7 @@ static uint32_t solve_identity(size_t n, size_t starts_len, size_t lists_len, si
         natural[i] = (uint16_t)i;
         ones[i] = 1.0;
     }
-    return lp_solve_plain(n, row_starts, starts_len, natural, n, ones, n, natural, n, natural, n, zeros, n,
+    return lp_solve_plain(n, row_starts, starts_len, natural, n, ones, n, natural, n, natural, n, zeros, n, 0.0,
                           lower_starts, lists_len, NONE, NONE, upper_starts, lists_len, NONE, NONE, pivots, n,
                           solution, n, work, f64_len, marks, u32_len, NONE);
 }
@@ -393,7 +493,7 @@ static uint32_t solve_one(double value, double b, double *solution)
     const uint16_t zero[1] = {0};
     uint32_t lower_starts[2], upper_starts[2], marks[16];
     double pivot[1], work[3];
-    return lp_solve_plain(1, LENT(one_row), LENT(zero), &value, 1, LENT(zero), LENT(zero), &b, 1,
+    return lp_solve_plain(1, LENT(one_row), LENT(zero), &value, 1, LENT(zero), LENT(zero), &b, 1, 0.0,
                           LENT(lower_starts), NONE, NONE, LENT(upper_starts), NONE, NONE,
                           LENT(pivot), solution, 1, LENT(work), LENT(marks), NONE);
 }
@@ -403,13 +503,13 @@ static void nulls(void)
 {
     double solution = 0.0;
     expect(solve_one(2.0, 8.0, &solution) == LP_DONE && solution == 4.0, "n = 1 with NULL stores and report");
-    expect(lp_solve_plain(0, NONE, NONE, NONE, NONE, NONE, NONE, NONE, NONE, NONE, NONE, NONE, NONE, NONE, NONE, NONE,
-                          NONE, NONE) == LP_ROWS, "plain solve, n = 0, all NULL");
-    expect(lp_solve_plain(1, NONE, NONE, NONE, NONE, NONE, NONE, NONE, NONE, NONE, NONE, NONE, NONE, NONE, NONE, NONE,
-                          NONE, NONE) == LP_LENGTHS, "plain solve, all NULL");
-    expect(lp_solve_shared(1, NONE, NONE, NONE, NONE, NONE, NONE, NONE, NONE, NONE, NONE, NONE, NONE, NONE, NONE, NONE,
-                           NONE, NONE, NONE, NONE) == LP_LENGTHS, "shared solve, all NULL");
-    expect(lp_solve_row(1, NONE, NONE, NONE, NONE, NONE, NONE, NONE, NONE, NONE, NONE, NONE, NONE, NONE, NONE,
+    expect(lp_solve_plain(0, NONE, NONE, NONE, NONE, NONE, NONE, 0.0, NONE, NONE, NONE, NONE, NONE, NONE, NONE, NONE,
+                          NONE, NONE, NONE) == LP_ROWS, "plain solve, n = 0, all NULL");
+    expect(lp_solve_plain(1, NONE, NONE, NONE, NONE, NONE, NONE, 0.0, NONE, NONE, NONE, NONE, NONE, NONE, NONE, NONE,
+                          NONE, NONE, NONE) == LP_LENGTHS, "plain solve, all NULL");
+    expect(lp_solve_shared(1, NONE, NONE, NONE, NONE, NONE, NONE, 0.0, NONE, NONE, NONE, NONE, NONE, NONE, NONE, NONE,
+                           NONE, NONE, NONE, NONE, NONE) == LP_LENGTHS, "shared solve, all NULL");
+    expect(lp_solve_row(1, NONE, NONE, NONE, NONE, NONE, NONE, 0.0, NONE, NONE, NONE, NONE, NONE, NONE, NONE, NONE,
                         NONE) == LP_LENGTHS, "row solve, all NULL");
     expect(lp_structure_plain(1, NONE, NONE, NONE, NONE, NONE, NONE, NONE, NONE, NONE, NONE, NONE, NONE,
                               NONE) == LP_LENGTHS, "plain structure, all NULL");
@@ -417,10 +517,10 @@ static void nulls(void)
                                NONE) == LP_LENGTHS, "shared structure, all NULL");
     expect(lp_fill_sheet(1, NONE, NONE, NONE, NONE, NONE, NONE, NONE, NONE, NONE, NONE, NONE, NONE, NONE, NONE, NONE,
                          NONE) == LP_LENGTHS, "fill sheet, all NULL");
-    expect(lp_refactor_plain(1, NONE, NONE, NONE, NONE, NONE, NONE, NONE, NONE, NONE, NONE, NONE, NONE, NONE, NONE,
+    expect(lp_refactor_plain(1, NONE, NONE, NONE, NONE, NONE, NONE, 0.0, NONE, NONE, NONE, NONE, NONE, NONE, NONE, NONE,
                              NONE, NONE, NONE) == LP_LENGTHS, "plain refactor, all NULL");
-    expect(lp_refactor_shared(1, NONE, NONE, NONE, NONE, NONE, NONE, NONE, NONE, NONE, NONE, NONE, NONE, NONE, NONE,
-                              NONE, NONE, NONE, NONE, NONE) == LP_LENGTHS, "shared refactor, all NULL");
+    expect(lp_refactor_shared(1, NONE, NONE, NONE, NONE, NONE, NONE, 0.0, NONE, NONE, NONE, NONE, NONE, NONE, NONE,
+                              NONE, NONE, NONE, NONE, NONE, NONE) == LP_LENGTHS, "shared refactor, all NULL");
     expect(lp_resolve_plain(1, NONE, NONE, NONE, NONE, NONE, NONE, NONE, NONE, NONE, NONE, NONE, NONE, NONE,
                             NONE) == LP_LENGTHS, "plain, another right side, all NULL");
     expect(lp_resolve_shared(1, NONE, NONE, NONE, NONE, NONE, NONE, NONE, NONE, NONE, NONE, NONE, NONE, NONE, NONE,
@@ -507,6 +607,7 @@ int main(void)
     plain_form();
     shared_form();
     row_form();
+    floors();
     fill_sheet();
     test_load();
     lengths();

@@ -5,7 +5,7 @@ use crate::model::*;
 use crate::reference::Lists;
 use std::cell::Cell;
 
-/// The functions as the header declares them: `lent` and `out` stand for a pointer and a length.
+/// The functions as the header declares them: `lent` and `out` stand for a pointer and a length, `real` for a double.
 pub mod raw {
     macro_rules! declare {
         ($name:ident [$($done:tt)*]) => { extern "C" { pub fn $name($($done)*) -> u32; } };
@@ -17,6 +17,9 @@ pub mod raw {
         };
         ($name:ident [$($done:tt)*] $arg:ident: short, $($rest:tt)*) => {
             declare! { $name [$($done)* $arg: u16,] $($rest)* }
+        };
+        ($name:ident [$($done:tt)*] $arg:ident: real, $($rest:tt)*) => {
+            declare! { $name [$($done)* $arg: f64,] $($rest)* }
         };
         ($name:ident [$($done:tt)*] $arg:ident: lent $kind:ty, $($rest:tt)*) => {
             declare! { $name [$($done)* $arg: *const $kind, _: usize,] $($rest)* }
@@ -42,30 +45,30 @@ pub mod raw {
     scratch_f64: out f64, scratch_u32: out u32, sheet: out u8, report: out u64, }
 
     declare! { lp_solve_plain [] n: size, starts: lent u32, columns: lent u16, values: lent f64,
-    r: lent u16, c: lent u16, b: lent f64,
+    r: lent u16, c: lent u16, b: lent f64, floor: real,
     lower_starts: out u32, lower_index: out u16, lower_values: out f64,
     upper_starts: out u32, upper_index: out u16, upper_values: out f64,
     d: out f64, x: out f64, scratch_f64: out f64, scratch_u32: out u32, report: out u64, }
 
     declare! { lp_solve_shared [] n: size, starts: lent u32, columns: lent u16, values: lent f64,
-    r: lent u16, c: lent u16, b: lent f64,
+    r: lent u16, c: lent u16, b: lent f64, floor: real,
     lower_starts: out u32, lower_runs: out u32, lower_index: out u16, lower_values: out f64,
     upper_starts: out u32, upper_runs: out u32, upper_index: out u16, upper_values: out f64,
     d: out f64, x: out f64, scratch_f64: out f64, scratch_u32: out u32, report: out u64, }
 
     declare! { lp_solve_row [] n: size, starts: lent u32, columns: lent u16, values: lent f64,
-    r: lent u16, c: lent u16, b: lent f64,
+    r: lent u16, c: lent u16, b: lent f64, floor: real,
     upper_starts: out u32, upper_runs: out u32, upper_index: out u16, upper_values: out f64,
     d: out f64, x: out f64, scratch_f64: out f64, scratch_u32: out u32, report: out u64, }
 
     declare! { lp_refactor_plain [] n: size, starts: lent u32, columns: lent u16, values: lent f64,
-    r: lent u16, c: lent u16, b: lent f64,
+    r: lent u16, c: lent u16, b: lent f64, floor: real,
     lower_starts: lent u32, lower_index: lent u16, lower_values: out f64,
     upper_starts: lent u32, upper_index: lent u16, upper_values: out f64,
     d: out f64, x: out f64, scratch_f64: out f64, scratch_u32: out u32, report: out u64, }
 
     declare! { lp_refactor_shared [] n: size, starts: lent u32, columns: lent u16, values: lent f64,
-    r: lent u16, c: lent u16, b: lent f64,
+    r: lent u16, c: lent u16, b: lent f64, floor: real,
     lower_starts: lent u32, lower_runs: lent u32, lower_index: lent u16, lower_values: out f64,
     upper_starts: lent u32, upper_runs: lent u32, upper_index: lent u16, upper_values: out f64,
     d: out f64, x: out f64, scratch_f64: out f64, scratch_u32: out u32, report: out u64, }
@@ -186,6 +189,7 @@ struct GuardedInput {
     r: Guarded<u16>,
     c: Guarded<u16>,
     b: Guarded<f64>,
+    floor: f64,
 }
 
 impl GuardedInput {
@@ -197,6 +201,7 @@ impl GuardedInput {
             r: guard_u16(&input.r),
             c: guard_u16(&input.c),
             b: guard_f64(&input.b),
+            floor: input.floor,
         }
     }
 
@@ -215,6 +220,7 @@ impl GuardedInput {
             r: self.r.contents(),
             c: self.c.contents(),
             b: self.b.contents(),
+            floor: self.floor,
         })
     }
 
@@ -410,23 +416,23 @@ fn structure(form: Form, n: usize, m: &mut GuardedInput, g: &mut GuardedBuffers,
 
 fn solve(form: Form, n: usize, m: &mut GuardedInput, g: &mut GuardedBuffers, report: &mut Report) -> u32 {
     match form {
-        Form::Plain => call!(lp_solve_plain: [n] (m.starts) (m.columns) (m.values) (m.r) (m.c) (m.b)
+        Form::Plain => call!(lp_solve_plain: [n] (m.starts) (m.columns) (m.values) (m.r) (m.c) (m.b) [m.floor]
             (g.l.starts) (g.l.index) (g.l.values) (g.u.starts) (g.u.index) (g.u.values)
             (g.d) (g.x) (g.sf) (g.su) (report)),
-        Form::Shared => call!(lp_solve_shared: [n] (m.starts) (m.columns) (m.values) (m.r) (m.c) (m.b)
+        Form::Shared => call!(lp_solve_shared: [n] (m.starts) (m.columns) (m.values) (m.r) (m.c) (m.b) [m.floor]
             (g.l.starts) (g.l.runs) (g.l.index) (g.l.values) (g.u.starts) (g.u.runs) (g.u.index) (g.u.values)
             (g.d) (g.x) (g.sf) (g.su) (report)),
-        Form::Row => call!(lp_solve_row: [n] (m.starts) (m.columns) (m.values) (m.r) (m.c) (m.b)
+        Form::Row => call!(lp_solve_row: [n] (m.starts) (m.columns) (m.values) (m.r) (m.c) (m.b) [m.floor]
             (g.u.starts) (g.u.runs) (g.u.index) (g.u.values) (g.d) (g.x) (g.sf) (g.su) (report)),
     }
 }
 
 fn refactor(form: Form, n: usize, m: &mut GuardedInput, g: &mut GuardedBuffers, report: &mut Report) -> u32 {
     match form {
-        Form::Plain => call!(lp_refactor_plain: [n] (m.starts) (m.columns) (m.values) (m.r) (m.c) (m.b)
+        Form::Plain => call!(lp_refactor_plain: [n] (m.starts) (m.columns) (m.values) (m.r) (m.c) (m.b) [m.floor]
             (g.l.starts) (g.l.index) (g.l.values) (g.u.starts) (g.u.index) (g.u.values)
             (g.d) (g.x) (g.sf) (g.su) (report)),
-        Form::Shared => call!(lp_refactor_shared: [n] (m.starts) (m.columns) (m.values) (m.r) (m.c) (m.b)
+        Form::Shared => call!(lp_refactor_shared: [n] (m.starts) (m.columns) (m.values) (m.r) (m.c) (m.b) [m.floor]
             (g.l.starts) (g.l.runs) (g.l.index) (g.l.values) (g.u.starts) (g.u.runs) (g.u.index) (g.u.values)
             (g.d) (g.x) (g.sf) (g.su) (report)),
         Form::Row => unreachable!("the row form has no refactor call"),

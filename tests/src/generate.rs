@@ -245,7 +245,7 @@ pub fn renamed(random: &mut Random, input: &Input) -> Input {
     let (rows, columns) = (random.permutation(input.n), random.permutation(input.n));
     let mut place = vec![0; input.n];
     rows.iter().enumerate().for_each(|(new, &old)| place[old] = new as u16);
-    let mut other = Input { n: input.n, starts: vec![0], ..Input::default() };
+    let mut other = Input { n: input.n, starts: vec![0], floor: input.floor, ..Input::default() };
     for &row in &rows {
         let entries = input.starts[row] as usize..input.starts[row + 1] as usize;
         other.columns.extend(input.columns[entries.clone()].iter().map(|&j| columns[j as usize] as u16));
@@ -337,6 +337,61 @@ pub fn any_input(random: &mut Random) -> Input {
         break_input(random, &mut input);
     }
     input
+}
+
+// ---- floors
+
+/// The numbers on both sides of a floor that is not negative, and itself; below 0 there is none.
+pub fn beside(floor: f64) -> [f64; 3] {
+    let bits = floor.to_bits();
+    [bits.saturating_sub(1), bits, (bits + 1).min(f64::MAX.to_bits())].map(f64::from_bits)
+}
+
+/// Floors that question 19 lets pass, the smallest and the greatest among them.
+pub const FLOORS: [f64; 9] = [
+    0.0,
+    -0.0,
+    f64::from_bits(1),
+    f64::from_bits(1 << 51),
+    f64::from_bits((1 << 52) - 1),
+    f64::MIN_POSITIVE,
+    1.0,
+    1e300,
+    f64::MAX,
+];
+
+/// Floors that question 19 refuses: NaNs of both signs, quiet and signaling, infinities, negative numbers.
+pub const BAD_FLOORS: [f64; 11] = [
+    f64::from_bits(0x7FF8_0000_0000_0000),
+    f64::from_bits(0xFFF8_0000_0000_0000),
+    f64::from_bits(0x7FF0_0000_0000_0001),
+    f64::from_bits(0xFFF0_0000_0000_0001),
+    f64::from_bits(0x7FFF_FFFF_FFFF_FFFF),
+    f64::INFINITY,
+    f64::NEG_INFINITY,
+    f64::from_bits(1 << 63 | 1),
+    -f64::MIN_POSITIVE,
+    -1.0,
+    f64::MIN,
+];
+
+/// A floor that question 19 lets pass, mostly the magnitude of a pivot of the input or a number beside it.
+pub fn sound_floor(random: &mut Random, input: &Input) -> f64 {
+    let pivots = reference::pivots(input);
+    if pivots.is_empty() || random.per_mille(150) {
+        return random.pick(&FLOORS);
+    }
+    let pivot = random.pick(&pivots).abs();
+    random.pick(&beside(pivot))
+}
+
+/// A floor of any kind, half of the time 0.
+pub fn any_floor(random: &mut Random, input: &Input) -> f64 {
+    match random.below(20) {
+        0..=9 => 0.0,
+        10..=18 => sound_floor(random, input),
+        _ => random.pick(&BAD_FLOORS),
+    }
 }
 
 // ---- buffers
@@ -608,6 +663,7 @@ pub fn only_lent(case: &mut Case) {
         Call::Structure(_) => {
             input.values.clear();
             input.b.clear();
+            input.floor = 0.0;
             buffers.d.clear();
             buffers.x.clear();
         }
@@ -615,6 +671,7 @@ pub fn only_lent(case: &mut Case) {
             input.starts.clear();
             input.columns.clear();
             input.values.clear();
+            input.floor = 0.0;
         }
         _ => {}
     }
@@ -640,6 +697,9 @@ pub fn case_of(random: &mut Random, call: Call) -> Case {
         Call::Refactor(_) => present_for_refactor(random, &mut case),
         Call::Resolve(_) => present_for_resolve(random, &mut case),
         _ => {}
+    }
+    if FACTORING.contains(&call) {
+        case.input.floor = any_floor(random, &case.input);
     }
     if random.per_mille(50) {
         wrong_length(random, &mut case);
@@ -678,9 +738,19 @@ pub fn case(random: &mut Random, calls: &[Call]) -> Case {
     case_of(random, call)
 }
 
+/// A call that factors over noise, with stores of these lengths; refactor is lent the lists of the input.
+pub fn factoring(random: &mut Random, call: Call, input: &Input, slots: Slots) -> Case {
+    let mut buffers = dirty_buffers(random, call, input.n, slots);
+    if let Call::Refactor(_) = call {
+        present_structure(call, input, &mut buffers);
+    }
+    Case { call, input: input.clone(), buffers, report: 5 }
+}
+
 /// One input with the buffers of the three solves.
 pub fn three_forms(random: &mut Random) -> (Input, [Case; 3]) {
-    let input = any_input(random);
+    let mut input = any_input(random);
+    input.floor = any_floor(random, &input);
     let cases = [Form::Plain, Form::Shared, Form::Row].map(|form| {
         let call = Call::Solve(form);
         let buffers = buffers_for(random, call, &input);
@@ -755,6 +825,7 @@ pub fn dirty_matrix(random: &mut Random, n: usize, lengths: [usize; 6]) -> Input
         r: dirty_u16(random, r),
         c: dirty_u16(random, c),
         b: dirty_floats(random, b),
+        floor: 0.0,
     }
 }
 

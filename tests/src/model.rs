@@ -53,7 +53,16 @@ pub const CALLS: [Call; 9] = [
     Call::Resolve(Form::Shared),
 ];
 
-/// A matrix, its orders and a right side. A call reads only the parts it is lent.
+/// The calls that factor: those that take a floor.
+pub const FACTORING: [Call; 5] = [
+    Call::Solve(Form::Plain),
+    Call::Solve(Form::Shared),
+    Call::Solve(Form::Row),
+    Call::Refactor(Form::Plain),
+    Call::Refactor(Form::Shared),
+];
+
+/// A matrix, its orders, a right side and a floor under pivots. A call reads only the parts it is lent.
 #[derive(Clone, Debug, Default)]
 pub struct Input {
     pub n: usize,
@@ -63,6 +72,7 @@ pub struct Input {
     pub r: Vec<u16>,
     pub c: Vec<u16>,
     pub b: Vec<f64>,
+    pub floor: f64,
 }
 
 /// One side's buffers. What a call is not lent stays empty.

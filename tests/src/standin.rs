@@ -73,10 +73,44 @@ pub enum Fault {
     SheetScratch,
     /// A sheet refused for its length leaves the counts of the report as they were.
     SheetReport,
+    /// A pivot of just the floor's magnitude passes.
+    FloorStrict,
+    /// A negative pivot passes.
+    FloorMagnitude,
+    /// Every negative pivot is refused.
+    FloorSign,
+    /// The floor is not compared.
+    FloorIgnored,
+    /// The row form compares with 0.
+    FloorRow,
+    /// Refactor compares with 0.
+    FloorRefactor,
+    /// The reciprocal is tested before the pivot.
+    FloorReciprocal,
+    /// 19 is asked before 6.
+    FloorEarly,
+    /// 19 is asked after 7.
+    FloorLate,
+    /// 19 is asked after the structure is found.
+    FloorLast,
+    /// A floor of -0 is refused.
+    FloorZero,
+    /// A floor of the subnormal range is refused.
+    FloorSubnormal,
+    /// A negative floor is taken.
+    FloorNegative,
+    /// An infinite floor is taken.
+    FloorInfinite,
+    /// A floor that is not a number is taken.
+    FloorNan,
+    /// After 19 a scratch slot is not zero.
+    FloorScratch,
+    /// After 19 all that the call writes is zero.
+    FloorClears,
 }
 
 /// Every fault.
-pub const FAULTS: [Fault; 33] = [
+pub const FAULTS: [Fault; 50] = [
     Fault::Scratch,
     Fault::Place,
     Fault::Products,
@@ -110,6 +144,23 @@ pub const FAULTS: [Fault; 33] = [
     Fault::SheetLate,
     Fault::SheetScratch,
     Fault::SheetReport,
+    Fault::FloorStrict,
+    Fault::FloorMagnitude,
+    Fault::FloorSign,
+    Fault::FloorIgnored,
+    Fault::FloorRow,
+    Fault::FloorRefactor,
+    Fault::FloorReciprocal,
+    Fault::FloorEarly,
+    Fault::FloorLate,
+    Fault::FloorLast,
+    Fault::FloorZero,
+    Fault::FloorSubnormal,
+    Fault::FloorNegative,
+    Fault::FloorInfinite,
+    Fault::FloorNan,
+    Fault::FloorScratch,
+    Fault::FloorClears,
 ];
 
 thread_local! {
@@ -163,6 +214,9 @@ macro_rules! export {
     };
     (@ $name:ident [$($param:tt)*] [$($make:stmt;)*] $arg:ident: short, $($rest:tt)*) => {
         export! { @ $name [$($param)* $arg: u16,] [$($make;)*] $($rest)* }
+    };
+    (@ $name:ident [$($param:tt)*] [$($make:stmt;)*] $arg:ident: real, $($rest:tt)*) => {
+        export! { @ $name [$($param)* $arg: f64,] [$($make;)*] $($rest)* }
     };
     (@ $name:ident [$($param:tt)*] [$($make:stmt;)*] $arg:ident: lent $kind:ty, $($rest:tt)*) => {
         export! { @ $name [$($param)* $arg: *const $kind, length: usize,]
@@ -219,7 +273,11 @@ fn run(call: Call, input: Input, mut lower: Lent, mut upper: Lent, rest: Rest) -
         scratch_f64: rest.sf.to_vec(),
         scratch_u32: rest.su.to_vec(),
     };
-    let answer = reference::run(call, &input, &mut buffers);
+    let answer = if FACTORING.contains(&call) {
+        factor(call, &input, &mut buffers)
+    } else {
+        reference::run(call, &input, &mut buffers)
+    };
     let answer = spoil(call, answer, &mut buffers);
     lower.put(&buffers.lower);
     upper.put(&buffers.upper);
@@ -230,6 +288,88 @@ fn run(call: Call, input: Input, mut lower: Lent, mut upper: Lent, rest: Rest) -
     let counts = answer.counts;
     put_report(rest.report, &[answer.place, counts.lower, counts.upper, counts.products]);
     answer.number
+}
+
+/// Whether question 19 refuses the floor.
+fn floor_refused(floor: f64) -> bool {
+    if (has(Fault::FloorZero) && floor.to_bits() == 1 << 63) || (has(Fault::FloorSubnormal) && floor.is_subnormal()) {
+        return true;
+    }
+    let taken = (has(Fault::FloorNegative) && floor < 0.0)
+        || (has(Fault::FloorInfinite) && floor == f64::INFINITY)
+        || (has(Fault::FloorNan) && floor.is_nan());
+    !taken && (floor < 0.0 || !floor.is_finite())
+}
+
+/// Whether a number refused before 19 is answered where both are to be refused.
+fn comes_first(number: u32) -> bool {
+    match number {
+        6 => !has(Fault::FloorEarly),
+        7 => has(Fault::FloorLate) || has(Fault::FloorLast),
+        8..=11 | 14 => has(Fault::FloorLast),
+        _ => (1..6).contains(&number),
+    }
+}
+
+/// The floor as the call takes it.
+fn taken_floor(call: Call, floor: f64) -> f64 {
+    let none = has(Fault::FloorIgnored)
+        || (has(Fault::FloorRow) && call.form() == Form::Row)
+        || (has(Fault::FloorRefactor) && matches!(call, Call::Refactor(_)));
+    if none {
+        0.0
+    } else {
+        floor
+    }
+}
+
+/// Whether the floor refuses the pivot.
+fn low(pivot: f64, floor: f64) -> bool {
+    if has(Fault::FloorStrict) {
+        return pivot == 0.0 || pivot.abs() < floor;
+    }
+    if has(Fault::FloorMagnitude) {
+        return pivot == 0.0 || (pivot > 0.0 && pivot <= floor);
+    }
+    if has(Fault::FloorReciprocal) && pivot != 0.0 && !(1.0 / pivot).is_finite() {
+        return false;
+    }
+    let magnitude = if has(Fault::FloorSign) { pivot } else { pivot.abs() };
+    pivot == 0.0 || magnitude <= floor
+}
+
+/// A call that factors. The reference asks all but 19 under the floor 0; a 12 is taken from the greatest floor, under
+/// which it stops at the first pivot and leaves what a stop at another one leaves.
+fn factor(call: Call, input: &Input, buffers: &mut Buffers) -> Answer {
+    let before = buffers.clone();
+    let answer = reference::run(call, &Input { floor: 0.0, ..input.clone() }, buffers);
+    if floor_refused(input.floor) && !comes_first(answer.number) {
+        return refuse_floor(call, input, buffers, before);
+    }
+    let floor = taken_floor(call, input.floor);
+    let pivots = if matches!(answer.number, 0 | 12 | 13) { reference::pivots(input) } else { Vec::new() };
+    match pivots.iter().position(|&pivot| low(pivot, floor)) {
+        Some(place) => {
+            *buffers = before;
+            let stopped = reference::run(call, &Input { floor: f64::MAX, ..input.clone() }, buffers);
+            Answer { place: place as u64, ..stopped }
+        }
+        None => answer,
+    }
+}
+
+/// 19, with a fault in what it leaves where one is planted.
+fn refuse_floor(call: Call, input: &Input, buffers: &mut Buffers, before: Buffers) -> Answer {
+    *buffers = before;
+    if has(Fault::FloorClears) {
+        reference::run(call, &Input { floor: f64::MAX, ..input.clone() }, buffers);
+    }
+    buffers.scratch_f64.fill(0.0);
+    buffers.scratch_u32.fill(0);
+    if has(Fault::FloorScratch) {
+        buffers.scratch_f64[0] = 1.0;
+    }
+    Refusal { number: 19, place: 0 }.into()
 }
 
 /// The planted faults of the calls.
@@ -288,6 +428,7 @@ macro_rules! matrix {
             r: $r.to_vec(),
             c: $c.to_vec(),
             b: $b.to_vec(),
+            floor: 0.0,
         }
     };
 }
@@ -313,42 +454,47 @@ sf: out f64, su: out u32, report: out u64,
     run(Call::Structure(Form::Shared), input, side!(ls, lr, li, lv), side!(us, ur, ui, uv), rest)
 } }
 
-export! { lp_solve_plain: n: size, starts: lent u32, columns: lent u16, values: lent f64, r: lent u16, c: lent u16, b: lent f64,
+export! { lp_solve_plain: n: size, starts: lent u32, columns: lent u16, values: lent f64,
+r: lent u16, c: lent u16, b: lent f64, floor: real,
 ls: out u32, li: out u16, lv: out f64, us: out u32, ui: out u16, uv: out f64,
 d: out f64, x: out f64, sf: out f64, su: out u32, report: out u64,
 => {
-    let input = matrix!(n, starts, columns, values, r, c, b);
+    let input = Input { floor, ..matrix!(n, starts, columns, values, r, c, b) };
     run(Call::Solve(Form::Plain), input, side!(ls, &mut [], li, lv), side!(us, &mut [], ui, uv), Rest { d, x, sf, su, report })
 } }
 
-export! { lp_solve_shared: n: size, starts: lent u32, columns: lent u16, values: lent f64, r: lent u16, c: lent u16, b: lent f64,
+export! { lp_solve_shared: n: size, starts: lent u32, columns: lent u16, values: lent f64,
+r: lent u16, c: lent u16, b: lent f64, floor: real,
 ls: out u32, lr: out u32, li: out u16, lv: out f64, us: out u32, ur: out u32, ui: out u16, uv: out f64,
 d: out f64, x: out f64, sf: out f64, su: out u32, report: out u64,
 => {
-    let input = matrix!(n, starts, columns, values, r, c, b);
+    let input = Input { floor, ..matrix!(n, starts, columns, values, r, c, b) };
     run(Call::Solve(Form::Shared), input, side!(ls, lr, li, lv), side!(us, ur, ui, uv), Rest { d, x, sf, su, report })
 } }
 
-export! { lp_solve_row: n: size, starts: lent u32, columns: lent u16, values: lent f64, r: lent u16, c: lent u16, b: lent f64,
+export! { lp_solve_row: n: size, starts: lent u32, columns: lent u16, values: lent f64,
+r: lent u16, c: lent u16, b: lent f64, floor: real,
 us: out u32, ur: out u32, ui: out u16, uv: out f64, d: out f64, x: out f64, sf: out f64, su: out u32, report: out u64,
 => {
-    let input = matrix!(n, starts, columns, values, r, c, b);
+    let input = Input { floor, ..matrix!(n, starts, columns, values, r, c, b) };
     run(Call::Solve(Form::Row), input, none!(), side!(us, ur, ui, uv), Rest { d, x, sf, su, report })
 } }
 
-export! { lp_refactor_plain: n: size, starts: lent u32, columns: lent u16, values: lent f64, r: lent u16, c: lent u16, b: lent f64,
+export! { lp_refactor_plain: n: size, starts: lent u32, columns: lent u16, values: lent f64,
+r: lent u16, c: lent u16, b: lent f64, floor: real,
 ls: out u32, li: out u16, lv: out f64, us: out u32, ui: out u16, uv: out f64,
 d: out f64, x: out f64, sf: out f64, su: out u32, report: out u64,
 => {
-    let input = matrix!(n, starts, columns, values, r, c, b);
+    let input = Input { floor, ..matrix!(n, starts, columns, values, r, c, b) };
     run(Call::Refactor(Form::Plain), input, side!(ls, &mut [], li, lv), side!(us, &mut [], ui, uv), Rest { d, x, sf, su, report })
 } }
 
-export! { lp_refactor_shared: n: size, starts: lent u32, columns: lent u16, values: lent f64, r: lent u16, c: lent u16, b: lent f64,
+export! { lp_refactor_shared: n: size, starts: lent u32, columns: lent u16, values: lent f64,
+r: lent u16, c: lent u16, b: lent f64, floor: real,
 ls: out u32, lr: out u32, li: out u16, lv: out f64, us: out u32, ur: out u32, ui: out u16, uv: out f64,
 d: out f64, x: out f64, sf: out f64, su: out u32, report: out u64,
 => {
-    let input = matrix!(n, starts, columns, values, r, c, b);
+    let input = Input { floor, ..matrix!(n, starts, columns, values, r, c, b) };
     let (lower, upper) = (side!(ls, lr, li, lv), side!(us, ur, ui, uv));
     run(Call::Refactor(Form::Shared), input, lower, upper, Rest { d, x, sf, su, report })
 } }

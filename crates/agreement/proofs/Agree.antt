@@ -33,7 +33,7 @@ use borrow.Author.Tests.{not-true, not-false}
 use Rattle.outcome.specs.Buffers.{plainBuffers, sharedBuffers, rowBuffers, Buffers, sizes, Outcome}
 use Rattle.base.specs.Answers.{numberOf, numberOfAnswer, countsOf, absent, placeOfAnswer}
 use Rattle.base.specs.Tests.{by-test}
-use Rattle.outcome.proofs.Asking.{number-some, Within}
+use Rattle.outcome.proofs.Asking.{number-some, turned, Within}
 use Rattle.outcome.proofs.Places.{null, nullAt, wants, wanting, Fails, unfilled, lack, places-pass, places-stop, lack-stops, only-null}
 use Rattle.outcome.proofs.Ends.{solve-ends}
 use Rattle.outcome.proofs.Answers.{verdict, solve-answer, solve-x, Early, earlier-early, ofMatrix, earlier-stated}
@@ -149,13 +149,13 @@ and-both e = (λ h. (h .0, e .0 (h .1)), λ h. (h .0, e .1 (h .1)))
 join : {A B C : Type 0} → A ↔ B → B ↔ C → A ↔ C
 join e h = (λ a. h .0 (e .0 a), λ c. e .1 (h .1 c))
 
-listed-meets : (i : Input) (q : Fault) → (listed i ≡ met q) ↔ Meets (operations i) q
+listed-meets : (i : Input) (q : Fault) → (listed i ≡ met q) ↔ Meets (i .floor) (operations i) q
 unfolding listed operations
-listed-meets i q = judged-meets (wholeRun (system i)) q
+listed-meets i q = judged-meets (i .floor) (wholeRun (system i)) q
 
 listed-result : (i : Input) (a : Result) → listed i ≡ ok a → result i ≡ a
 unfolding listed result
-listed-result i a e = judged-value (wholeRun (system i)) a e
+listed-result i a e = judged-value (i .floor) (wholeRun (system i)) a e
 
 heard : (f : Form) (i : Input) (s : Buffers) → Stated f i s → Roomy f i s → Passed f i s → Heard i (solve f i s .answer)
 unfolding Stated
@@ -178,8 +178,8 @@ bits-told f i s e = let b = solve-x f i s e in b .2 ∙ ap (λ (a : Result). own
 
 early-not : (a : Asked) (q : Refusal) → Early a → a ≡ Stop q → ((numberOf q ≡ 10) ⊎ (numberOf q ≡ 11)) → ⊥
 unfolding Within
-early-not a q h e (inl n) = omega (arith, h q e .1)
-early-not a q h e (inr n) = omega (arith, h q e .1)
+early-not a q h e (inl n) = omega (arith, h q e .1, turned q)
+early-not a q h e (inr n) = omega (arith, h q e .1, turned q)
 
 fault-not : (q : Fault) → ((numberOf (faultOf q) ≡ 10) ⊎ (numberOf (faultOf q) ≡ 11)) → ⊥
 fault-not (zeroPivot k) (inl n) = omega arith

@@ -92,11 +92,11 @@ pub record FormsAgree (i : Input) (s : Form → Buffers) (a : Form → Answer) (
   pub null : (f : Form) → Roomy f i (s f) → Passed f i (s f) → (numberOfAnswer (a f) ≡ 9) ↔ ((k : ℕ) × (k < i .n) × (WalkBack i k → ⊥))
   -- "at the first such place;"
   pub null-first : (f : Form) → Roomy f i (s f) → Passed f i (s f) → numberOfAnswer (a f) ≡ 9 → FirstNull i (placeOfAnswer (a f))
-  -- "failing that, zero pivot or overflow exactly when the listed operations meet one, whichever they meet first and at the place where they do;"
-  pub zero : (f : Form) → Roomy f i (s f) → Passed f i (s f) → (k : ℕ) → ((numberOfAnswer (a f) ≡ 12) × (placeOfAnswer (a f) ≡ k)) ↔ (AllBack i × Meets (operations i) (zeroPivot k))
-  pub over : (f : Form) → Roomy f i (s f) → Passed f i (s f) → (k : ℕ) → ((numberOfAnswer (a f) ≡ 13) × (placeOfAnswer (a f) ≡ k)) ↔ (AllBack i × Meets (operations i) (overflow k))
+  -- "failing that, zero pivot or overflow exactly when the listed operations meet one, whichever they meet first and at the place where they do;": "a pivot of magnitude at most f standing where it says zero pivot"
+  pub zero : (f : Form) → Roomy f i (s f) → Passed f i (s f) → (k : ℕ) → ((numberOfAnswer (a f) ≡ 12) × (placeOfAnswer (a f) ≡ k)) ↔ (AllBack i × Meets (i .floor) (operations i) (zeroPivot k))
+  pub over : (f : Form) → Roomy f i (s f) → Passed f i (s f) → (k : ℕ) → ((numberOfAnswer (a f) ≡ 13) × (placeOfAnswer (a f) ≡ k)) ↔ (AllBack i × Meets (i .floor) (operations i) (overflow k))
   -- "and failing that, a solution."
-  pub solution : (f : Form) → Roomy f i (s f) → Passed f i (s f) → (numberOfAnswer (a f) ≡ 0) ↔ (AllBack i × ((q : Fault) → Meets (operations i) q → ⊥))
+  pub solution : (f : Form) → Roomy f i (s f) → Passed f i (s f) → (numberOfAnswer (a f) ≡ 0) ↔ (AllBack i × ((q : Fault) → Meets (i .floor) (operations i) q → ⊥))
   -- "those of demand 2, with the same three counts, .. those the paper defines"
   pub bits : (f : Form) → numberOfAnswer (a f) ≡ 0 → t f .x ≡ ownOrder (i .c) (i .n) (result i .z)
   pub counted : (f : Form) → numberOfAnswer (a f) ≡ 0 → countsOf (a f) ≡ counts i

@@ -6,9 +6,10 @@ use mathlib.Core.Bool.{Bool, false, not, cond}
 use mathlib.Core.List.{List, [], _∷_, _++_}
 use lib.ListN.{getD, set, replicate}
 use lib.IntN.{pos}
-use lib.Ieee.{Float, nan, fin, binary64, sub, mul, div, eq}
+use lib.Ieee.{Float, nan, fin, binary64, sub, mul, div}
 use lib.Ieee.Scale.{finite}
 use Rattle.base.specs.Lists.{nought, pairs}
+use Rattle.base.specs.Magnitude.{atMost}
 
 -- ---- runs
 
@@ -40,13 +41,10 @@ pub data Fault : Type 0 where
   zeroPivot : ℕ → Fault
   overflow : ℕ → Fault
 
--- "a zero of either sign": -0 equals +0
-abbrev pub vanishes : Float → Bool
-vanishes p = eq p nought
-
-abbrev pub bad : Event → Bool
-bad (result k v) = not (finite v)
-bad (pivoted k v) = vanishes v
+-- under the floor f: "a pivot is refused with 12 when its magnitude is at most f"
+abbrev pub bad : Float → Event → Bool
+bad f (result k v) = not (finite v)
+bad f (pivoted k v) = atMost v f
 
 abbrev pub fault : Event → Fault
 fault (result k v) = overflow k
@@ -57,13 +55,13 @@ pub data Out (A : Type 0) : Type 0 where
   ok : A → Out A
   met : Fault → Out A
 
-abbrev pub firstBad : {A : Type 0} → List Event → A → Out A
-firstBad [] a = ok a
-firstBad (e ∷ es) a = cond (bad e) (met (fault e)) (firstBad es a)
+abbrev pub firstBad : {A : Type 0} → Float → List Event → A → Out A
+firstBad f [] a = ok a
+firstBad f (e ∷ es) a = cond (bad f e) (met (fault e)) (firstBad f es a)
 
 -- "of 12 and 13, whichever the arithmetic meets first"
-unfoldable pub judged : {A : Type 0} → Run A → Out A
-judged m = firstBad (m .events) (m .value)
+unfoldable pub judged : {A : Type 0} → Float → Run A → Out A
+judged f m = firstBad f (m .events) (m .value)
 
 -- ---- the structure and the values, by elimination place
 pub record System : Type 0 where
@@ -72,6 +70,7 @@ pub record System : Type 0 where
   pub upper : ℕ → List ℕ  -- T(k)
   pub entries : ℕ → List (ℕ × Float)  -- row k of M'
   pub rhs : ℕ → Float  -- b(r(k))
+  pub floor : Float  -- f, by which the pivots are judged
 
 -- what is kept of row k: L along lower row k, u along T(k)
 pub record Row : Type 0 where
@@ -142,7 +141,7 @@ scaledRun k d w (j ∷ js) = op k (mul binary64 (getD w j nan) d) ▸ λ u. scal
 abbrev pub one : Float
 one = fin false 1 (pos 0)
 
--- "3. Zero pivot if w(k) is a zero of either sign. d(k) = 1 / w(k), y(k) = s·d(k), then u(k, j) .."
+-- "3. Zero pivot if .. d(k) = 1 / w(k), y(k) = s·d(k), then u(k, j) ..": whether the pivot is refused, `bad` says
 unfoldable pub step3 : ℕ → List ℕ → Work → Run Row
 unfolding scaledRun
 step3 k above a =

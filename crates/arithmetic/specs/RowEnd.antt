@@ -26,5 +26,5 @@ products d w [] = []
 products d w (j ∷ js) = mul binary64 (getD w j nan) d ∷ products d w js
 
 -- a row from the end of step 2 on: one test of its filled places, and step 3
-abbrev pub rowEnd : ℕ → List ℕ → List ℕ → Work → Out Row
-rowEnd k lower above a = quiet k (lower ++ k ∷ above) a >>= finish (at k) k above
+abbrev pub rowEnd : ℕ → Float → List ℕ → List ℕ → Work → Out Row
+rowEnd k f lower above a = quiet k (lower ++ k ∷ above) a >>= finish (at k) k f above

@@ -219,7 +219,7 @@ pub row-at : (S : System) (rows : List Row) (k : ℕ) (P : List ℕ) (a F : Work
     → ((i j : ℕ) → List·Memᴰ i (S .lower k) → List·Memᴰ j (S .upper i) → List·Memᴰ j P)
     → ((j : ℕ) → List·Memᴰ j P → j < length (a .w))
     → finite (a .s) ≡ true → finiteOn P (a .w) ≡ true
-    → row S rows k ≡ quiet k P F >>= finish (at k) k (S .upper k)
+    → row S rows k ≡ quiet k P F >>= finish (at k) k (S .floor) (S .upper k)
 unfolding row
 row-at S rows k P a F b e within range fs fw = rw (b, steps-at k (given S rows) P (S .lower k) a F e within range fs fw)
 

@@ -7,7 +7,8 @@ use lib.ListN.{getD, set, replicate}
 use lib.Ieee.{Float, nan, binary64, sub, mul, div}
 use lib.Ieee.Scale.{finite}
 use Rattle.base.specs.Lists.{nought}
-use Rattle.arithmetic.specs.Arith.{zeroPivot, overflow, Out, ok, met, vanishes, one, System, Row, Given, given, Work, Result}
+use Rattle.base.specs.Magnitude.{atMost}
+use Rattle.arithmetic.specs.Arith.{zeroPivot, overflow, Out, ok, met, one, System, Row, Given, given, Work, Result}
 use Rattle.arithmetic.specs.Again.{Factors, givenBy}
 
 infixl 20 _>>=_
@@ -27,8 +28,8 @@ abbrev pub at : ℕ → Check
 at k x = cond (finite x) (ok x) (met (overflow k))
 
 -- question 12 at place k
-abbrev pub pivot : ℕ → Float → Out Float
-pivot k p = cond (vanishes p) (met (zeroPivot k)) (ok p)
+abbrev pub pivot : ℕ → Float → Float → Out Float
+pivot k f p = cond (atMost p f) (met (zeroPivot k)) (ok p)
 
 abbrev pub less : Check → Float → Float → Float → Out Float
 less c v a b = c (mul binary64 a b) >>= λ p. c (sub binary64 v p)
@@ -66,10 +67,10 @@ unfoldable pub scaled : Check → Float → List Float → List ℕ → Out (Lis
 scaled c d w [] = ok []
 scaled c d w (j ∷ js) = c (mul binary64 (getD w j nan) d) >>= λ u. scaled c d w js >>= λ us. ok (u ∷ us)
 
-unfoldable pub finish : Check → ℕ → List ℕ → Work → Out Row
+unfoldable pub finish : Check → ℕ → Float → List ℕ → Work → Out Row
 unfolding scaled
-finish c k above a =
-    pivot k (getD (a .w) k nan) >>= λ p.
+finish c k f above a =
+    pivot k f (getD (a .w) k nan) >>= λ p.
     c (div binary64 one p) >>= λ d.
     c (mul binary64 (a .s) d) >>= λ y.
     scaled c d (a .w) above >>= λ u.
@@ -77,7 +78,7 @@ finish c k above a =
 
 unfoldable pub row : System → List Row → ℕ → Out Row
 unfolding start steps finish
-row S rows k = start (at k) S k >>= λ a. steps (at k) (given S rows) (S .lower k) a >>= finish (at k) k (S .upper k)
+row S rows k = start (at k) S k >>= λ a. steps (at k) (given S rows) (S .lower k) a >>= finish (at k) k (S .floor) (S .upper k)
 
 unfoldable pub forward : System → ℕ → ℕ → List Row → Out (List Row)
 unfolding row

@@ -4,7 +4,7 @@ use Rattle.base.specs.declared.OwnNumber.{OwnNumber}
 use Rattle.base.specs.declared.Place.{Place}
 use Rattle.base.specs.declared.Counts.{Counts}
 use Rattle.base.specs.declared.Refusal.{Refusal}
-use Rattle.base.specs.declared.Refusal.the-variants.{Rows, Lengths, Starts, Column, Order, NotFinite, EmptyRow, Repeated, NullPivot, LowerSlots, UpperSlots, ZeroPivot, Overflow, OtherStructure, BadFactors, FileLength, Block, FileShape}
+use Rattle.base.specs.declared.Refusal.the-variants.{Rows, Lengths, Starts, Column, Order, NotFinite, EmptyRow, Repeated, NullPivot, LowerSlots, UpperSlots, ZeroPivot, Overflow, OtherStructure, BadFactors, FileLength, Block, FileShape, Floor}
 use Rattle.base.specs.declared.Found.{Found}
 use Rattle.base.specs.declared.Found.the-variants.{At, Nothing}
 use Rattle.base.specs.declared.Asked.{Asked}
@@ -37,6 +37,7 @@ numberOf (BadFactors k) = 15
 numberOf FileLength = 16
 numberOf (Block p) = 17
 numberOf FileShape = 18
+numberOf Floor = 19
 
 -- "and a place (0 where none is named)"
 abbrev pub placeOf : Refusal → ℕ
@@ -58,6 +59,7 @@ placeOf (BadFactors k) = k .0
 placeOf FileLength = 0
 placeOf (Block p) = p
 placeOf FileShape = 0
+placeOf Floor = 0
 
 -- 0 for done
 abbrev pub numberOfAnswer : Answer → ℕ

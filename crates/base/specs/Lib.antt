@@ -12,3 +12,4 @@ pub mod AscLaws
 pub mod TableLaws
 pub mod ZerosLaws
 pub mod FirstLaws
+pub mod Magnitude

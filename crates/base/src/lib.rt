@@ -3,6 +3,7 @@ ghost use mathlib.Core.Path.{_≡_};
 ghost use Prim.Native.Nat.{_<_};
 ghost use lib.Ieee.Scale.{finite};
 ghost use Rattle.base.specs.Lists.{blank, nought};
+ghost use Rattle.base.specs.Magnitude.{atMost};
 ghost use Rattle.base.specs.Index.{indexBound};
 ghost use Rattle.base.specs.Answers.{numberOf, placeOf, numberOfAnswer, placeOfAnswer, countsOf, numberOfEnd, placeOfEnd, numberOfMade, placeOfMade, entriesOf};
 
@@ -101,7 +102,7 @@ pub struct RowSums {
     pub y: f64,
 }
 
-// A question answered with no, in the order of the questions, and where.
+// A question answered with no, in the order of the numbers, and where.
 pub enum Refusal {
     Rows,
     Lengths,
@@ -121,6 +122,7 @@ pub enum Refusal {
     FileLength,
     Block(u32),
     FileShape,
+    Floor,
 }
 
 // What a question, or a run of questions, answers.
@@ -172,6 +174,7 @@ impl Refusal {
             Refusal::FileLength => 16,
             Refusal::Block(_) => 17,
             Refusal::FileShape => 18,
+            Refusal::Floor => 19,
         }
     }
 
@@ -199,6 +202,7 @@ impl Refusal {
             Refusal::FileLength => 0,
             Refusal::Block(p) => p,
             Refusal::FileShape => 0,
+            Refusal::Floor => 0,
         }
     }
 }
@@ -306,6 +310,16 @@ pub fn is_finite(x: f64) -> bool
     ensures { λ r. ⌜ r ≡ finite x ⌝ }
 {
     x - x == 0.0
+}
+
+// Tells whether the magnitude of p is at most f.
+pub fn at_most(p: f64, f: f64) -> bool
+    ensures { λ r. ⌜ r ≡ atMost p f ⌝ }
+{
+    if p < 0.0 {
+        return -p <= f;
+    }
+    p <= f
 }
 
 // Writes 0 into every slot.

@@ -5,7 +5,7 @@ ghost use mathlib.Core.List.{[]};
 ghost use lib.Seq.{sets};
 ghost use Rattle.base.specs.Answers.{numberOfAnswer};
 ghost use Rattle.base.specs.declared.Form.{Form};
-ghost use Rattle.matrix.specs.Input.{inputOf};
+ghost use Rattle.matrix.specs.Input.{inputOf, withFloor};
 ghost use Rattle.outcome.specs.Buffers.{plainBuffers, sharedBuffers, rowBuffers};
 ghost use Rattle.outcome.specs.Structure.{structure};
 ghost use Rattle.outcome.specs.Solve.{solve};
@@ -70,6 +70,7 @@ pub extern "C" fn lp_solve_plain(
     r: &[Index],
     c: &[Index],
     b: &[f64],
+    floor: f64,
     lower_starts: &mut [u32],
     lower_index: &mut [Index],
     lower_values: &mut [f64],
@@ -82,7 +83,7 @@ pub extern "C" fn lp_solve_plain(
     scratch_u32: &mut [u32],
     report: &mut [u64],
 ) -> u32
-    ensures { λ q. ⌜ Told (solve Form.Plain (inputOf n (now (starts .entry)) (now (columns .entry)) (now (values .entry)) (now (r .entry)) (now (c .entry)) (now (b .entry)))
+    ensures { λ q. ⌜ Told (solve Form.Plain (withFloor floor (inputOf n (now (starts .entry)) (now (columns .entry)) (now (values .entry)) (now (r .entry)) (now (c .entry)) (now (b .entry))))
         (plainBuffers (now («lower_starts» .entry)) (now («lower_index» .entry)) (now («lower_values» .entry)) (now («upper_starts» .entry)) (now («upper_index» .entry)) (now («upper_values» .entry)) (now (d .entry)) (now (x .entry)) (now («scratch_f64» .entry)) (now («scratch_u32» .entry))))
         (now (report .entry)) (now (report .exit))
         (plainBuffers (now («lower_starts» .exit)) (now («lower_index» .exit)) (now («lower_values» .exit)) (now («upper_starts» .exit)) (now («upper_index» .exit)) (now («upper_values» .exit)) (now (d .exit)) (now (x .exit)) (now («scratch_f64» .exit)) (now («scratch_u32» .exit))) q ⌝ }
@@ -95,6 +96,7 @@ pub extern "C" fn lp_solve_plain(
         r,
         c,
         b,
+        floor,
         lower_starts,
         lower_index,
         lower_values,
@@ -211,6 +213,7 @@ pub extern "C" fn lp_solve_shared(
     r: &[Index],
     c: &[Index],
     b: &[f64],
+    floor: f64,
     lower_starts: &mut [u32],
     lower_runs: &mut [u32],
     lower_index: &mut [Index],
@@ -225,7 +228,7 @@ pub extern "C" fn lp_solve_shared(
     scratch_u32: &mut [u32],
     report: &mut [u64],
 ) -> u32
-    ensures { λ q. ⌜ Told (solve Form.Shared (inputOf n (now (starts .entry)) (now (columns .entry)) (now (values .entry)) (now (r .entry)) (now (c .entry)) (now (b .entry)))
+    ensures { λ q. ⌜ Told (solve Form.Shared (withFloor floor (inputOf n (now (starts .entry)) (now (columns .entry)) (now (values .entry)) (now (r .entry)) (now (c .entry)) (now (b .entry))))
         (sharedBuffers (now («lower_starts» .entry)) (now («lower_runs» .entry)) (now («lower_index» .entry)) (now («lower_values» .entry)) (now («upper_starts» .entry)) (now («upper_runs» .entry)) (now («upper_index» .entry)) (now («upper_values» .entry)) (now (d .entry)) (now (x .entry)) (now («scratch_f64» .entry)) (now («scratch_u32» .entry))))
         (now (report .entry)) (now (report .exit))
         (sharedBuffers (now («lower_starts» .exit)) (now («lower_runs» .exit)) (now («lower_index» .exit)) (now («lower_values» .exit)) (now («upper_starts» .exit)) (now («upper_runs» .exit)) (now («upper_index» .exit)) (now («upper_values» .exit)) (now (d .exit)) (now (x .exit)) (now («scratch_f64» .exit)) (now («scratch_u32» .exit))) q ⌝ }
@@ -238,6 +241,7 @@ pub extern "C" fn lp_solve_shared(
         r,
         c,
         b,
+        floor,
         lower_starts,
         lower_runs,
         lower_index,
@@ -264,6 +268,7 @@ pub extern "C" fn lp_solve_row(
     r: &[Index],
     c: &[Index],
     b: &[f64],
+    floor: f64,
     upper_starts: &mut [u32],
     upper_runs: &mut [u32],
     upper_index: &mut [Index],
@@ -274,7 +279,7 @@ pub extern "C" fn lp_solve_row(
     scratch_u32: &mut [u32],
     report: &mut [u64],
 ) -> u32
-    ensures { λ q. ⌜ Told (solve Form.ByRow (inputOf n (now (starts .entry)) (now (columns .entry)) (now (values .entry)) (now (r .entry)) (now (c .entry)) (now (b .entry)))
+    ensures { λ q. ⌜ Told (solve Form.ByRow (withFloor floor (inputOf n (now (starts .entry)) (now (columns .entry)) (now (values .entry)) (now (r .entry)) (now (c .entry)) (now (b .entry))))
         (rowBuffers (now («upper_starts» .entry)) (now («upper_runs» .entry)) (now («upper_index» .entry)) (now («upper_values» .entry)) (now (d .entry)) (now (x .entry)) (now («scratch_f64» .entry)) (now («scratch_u32» .entry))))
         (now (report .entry)) (now (report .exit))
         (rowBuffers (now («upper_starts» .exit)) (now («upper_runs» .exit)) (now («upper_index» .exit)) (now («upper_values» .exit)) (now (d .exit)) (now (x .exit)) (now («scratch_f64» .exit)) (now («scratch_u32» .exit))) q ⌝ }
@@ -287,6 +292,7 @@ pub extern "C" fn lp_solve_row(
         r,
         c,
         b,
+        floor,
         upper_starts,
         upper_runs,
         upper_index,
@@ -309,6 +315,7 @@ pub extern "C" fn lp_refactor_plain(
     r: &[Index],
     c: &[Index],
     b: &[f64],
+    floor: f64,
     lower_starts: &[u32],
     lower_index: &[Index],
     lower_values: &mut [f64],
@@ -321,7 +328,7 @@ pub extern "C" fn lp_refactor_plain(
     scratch_u32: &mut [u32],
     report: &mut [u64],
 ) -> u32
-    ensures { λ q. ⌜ ToldEnd (asLeft (refactor Form.Plain (inputOf n (now (starts .entry)) (now (columns .entry)) (now (values .entry)) (now (r .entry)) (now (c .entry)) (now (b .entry)))
+    ensures { λ q. ⌜ ToldEnd (asLeft (refactor Form.Plain (withFloor floor (inputOf n (now (starts .entry)) (now (columns .entry)) (now (values .entry)) (now (r .entry)) (now (c .entry)) (now (b .entry))))
         (plainBuffers (now («lower_starts» .entry)) (now («lower_index» .entry)) (now («lower_values» .entry)) (now («upper_starts» .entry)) (now («upper_index» .entry)) (now («upper_values» .entry)) (now (d .entry)) (now (x .entry)) (now («scratch_f64» .entry)) (now («scratch_u32» .entry)))))
         (now (report .entry)) (now (report .exit))
         (plainBuffers (now («lower_starts» .entry)) (now («lower_index» .entry)) (now («lower_values» .exit)) (now («upper_starts» .entry)) (now («upper_index» .entry)) (now («upper_values» .exit)) (now (d .exit)) (now (x .exit)) (now («scratch_f64» .exit)) (now («scratch_u32» .exit))) q ⌝ }
@@ -334,6 +341,7 @@ pub extern "C" fn lp_refactor_plain(
         r,
         c,
         b,
+        floor,
         lower_starts,
         lower_index,
         lower_values,
@@ -358,6 +366,7 @@ pub extern "C" fn lp_refactor_shared(
     r: &[Index],
     c: &[Index],
     b: &[f64],
+    floor: f64,
     lower_starts: &[u32],
     lower_runs: &[u32],
     lower_index: &[Index],
@@ -372,7 +381,7 @@ pub extern "C" fn lp_refactor_shared(
     scratch_u32: &mut [u32],
     report: &mut [u64],
 ) -> u32
-    ensures { λ q. ⌜ ToldEnd (asLeft (refactor Form.Shared (inputOf n (now (starts .entry)) (now (columns .entry)) (now (values .entry)) (now (r .entry)) (now (c .entry)) (now (b .entry)))
+    ensures { λ q. ⌜ ToldEnd (asLeft (refactor Form.Shared (withFloor floor (inputOf n (now (starts .entry)) (now (columns .entry)) (now (values .entry)) (now (r .entry)) (now (c .entry)) (now (b .entry))))
         (sharedBuffers (now («lower_starts» .entry)) (now («lower_runs» .entry)) (now («lower_index» .entry)) (now («lower_values» .entry)) (now («upper_starts» .entry)) (now («upper_runs» .entry)) (now («upper_index» .entry)) (now («upper_values» .entry)) (now (d .entry)) (now (x .entry)) (now («scratch_f64» .entry)) (now («scratch_u32» .entry)))))
         (now (report .entry)) (now (report .exit))
         (sharedBuffers (now («lower_starts» .entry)) (now («lower_runs» .entry)) (now («lower_index» .entry)) (now («lower_values» .exit)) (now («upper_starts» .entry)) (now («upper_runs» .entry)) (now («upper_index» .entry)) (now («upper_values» .exit)) (now (d .exit)) (now (x .exit)) (now («scratch_f64» .exit)) (now («scratch_u32» .exit))) q ⌝ }
@@ -385,6 +394,7 @@ pub extern "C" fn lp_refactor_shared(
         r,
         c,
         b,
+        floor,
         lower_starts,
         lower_runs,
         lower_index,

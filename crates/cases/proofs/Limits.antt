@@ -10,7 +10,7 @@ use lib.Dec.{leb, eqb}
 use lib.Ieee.{Float}
 use Rattle.base.specs.All.{all}
 use Rattle.base.specs.First.{first}
-use Rattle.base.specs.Lists.{listAt}
+use Rattle.base.specs.Lists.{listAt, nought}
 use Rattle.base.specs.Answers.{numberOf, numberOfAnswer, numberOfEnd, numberOfMade, spot, holds, left, orUntouched}
 use Rattle.base.specs.Limits.{maxEntries, rowsWithin}
 use Rattle.matrix.specs.Input.{Input, stored}
@@ -30,7 +30,7 @@ use Rattle.outcome.specs.Structure.{askPlaces, structure}
 use Rattle.outcome.specs.Solve.{faultOf, listed, concluded, shape, solve}
 use Rattle.outcome.specs.Refactor.{differs, askPresented, refactored, refactor}
 use Rattle.outcome.specs.Resolve.{badAt, askFactors, factorsOf, resolved, resolve}
-use Rattle.outcome.proofs.Asking.{Within, within-wide, within-holds, within-absent, within-then}
+use Rattle.outcome.proofs.Asking.{turned, Within, within-wide, within-holds, within-absent, within-then}
 use Rattle.outcome.proofs.Answers.{structure-within, solve-within, right-within, places-within}
 use Rattle.cases.specs.Boundary.{Refuses, Passes}
 use Rattle.matrix.specs.declared.Matrix.{Matrix}
@@ -124,7 +124,7 @@ module _ {A : Type 0} (number : A → ℕ) (refuse : Refusal → A) (told : (q :
   first-not : (a : Asked) (s : Buffers) (o : Outcome A) → Later a → (number (o .answer) ≡ 1 → ⊥) → number (stop refuse a s o .answer) ≡ 1 → ⊥
   unfolding Within
   first-not Pass s o v h e = h e
-  first-not (Stop q) s o v h e = omega (arith, v q refl, told q)
+  first-not (Stop q) s o v h e = omega (arith, v q refl, told q, turned q)
 
   -- three questions, and what follows
   never : (a b c : Asked) (s t u : Buffers) (o : Outcome A) → Later a → Later b → Later c → (number (o .answer) ≡ 1 → ⊥) → number (stop refuse a s (stop refuse b t (stop refuse c u o)) .answer) ≡ 1 → ⊥
@@ -172,7 +172,7 @@ made n e o l = rw (o, le-leb e maxEntries l)
 not-shaped : (a : Asked) (m : Matrix) → Within 16 18 a → shaped a m ≡ Unshaped Rows → ⊥
 unfolding Within
 not-shaped Pass m w e = let z : _≡_ {A = ℕ} 0 1 = cc in omega arith
-not-shaped (Stop q) m w e = let r : q ≡ Rows = cc in omega (arith, w q refl, ap numberOf r)
+not-shaped (Stop q) m w e = let r : q ≡ Rows = cc in omega (arith, w q refl, ap numberOf r, turned q)
 
 load-later : (n : ℕ) (l : MatrixLists) → rowsWithin n ≡ true → Later (askLoad n l)
 unfolding askLoad
@@ -182,7 +182,7 @@ not-left : {R A : Type 0} (number : R → ℕ) (refused : Refusal → R) (told :
     → number done ≡ 0 → Later a → number (orUntouched refused a done new old .answer) ≡ 1 → ⊥
 unfolding Within
 not-left number refused told Pass done new old z w e = omega arith
-not-left number refused told (Stop q) done new old z w e = omega (arith, w q refl, told q)
+not-left number refused told (Stop q) done new old z w e = omega (arith, w q refl, told q, turned q)
 
 looked : (f : Form) (side : Side) (k : Place) (n : ℕ) (l u : lookup.SideLists) → lookup.sized f n l ≡ true → lookup.sized f n u ≡ true
     → k .0 < n → (o : lookup.SideLists) → o ≡ lookup.ofSide side l u → getD (o .starts) (k .0) 0 ≤ getD (o .starts) (k .0 + 1) 0
@@ -237,7 +237,7 @@ module _ (f : Form) (i : Input) (s : Buffers) where
 
     resolve-not : numberOfEnd (resolve f i s .answer) ≡ 1 → ⊥
     unfolding resolve
-    resolve-not = never numberOfEnd ends.Refused (λ q. refl) _ (askRight (i .n) (i .r) (i .c) (i .b)) _ _ _ _ _ (shape-later (i .n) _ o) (later 5 6 _ (omega arith) (omega arith) (right-within (i .n) (i .r) (i .c) (i .b))) factored (resolved-not (judged (wholeAgain (factorsOf f i s))))
+    resolve-not = never numberOfEnd ends.Refused (λ q. refl) _ (askRight (i .n) (i .r) (i .c) (i .b)) _ _ _ _ _ (shape-later (i .n) _ o) (later 5 6 _ (omega arith) (omega arith) (right-within (i .n) (i .r) (i .c) (i .b))) factored (resolved-not (judged nought (wholeAgain (factorsOf f i s))))
 
 sheet-not : (i : Input) (s : SheetBuffers) → rowsWithin (i .n) ≡ true → numberOfAnswer (sheetOutcome i s .answer) ≡ 1 → ⊥
 unfolding sheetOutcome sheetStructure askSheet

@@ -11,7 +11,7 @@ use Rattle.matrix.specs.Input.{Input, stored}
 use Rattle.outcome.specs.Buffers.{Buffers, sizes}
 use Rattle.outcome.specs.Structure.{askPlaces, counts}
 use Rattle.outcome.specs.Solve.{earlier, listed, solve}
-use Rattle.outcome.proofs.Asking.{Within}
+use Rattle.outcome.proofs.Asking.{turned, Within}
 use Rattle.outcome.proofs.Answers.{verdict, solve-answer, Early, earlier-early}
 use Rattle.agreement.specs.Demand.{Stated, Short, Roomy, Passed}
 use Rattle.agreement.proofs.Agree.{short-told, by-form}
@@ -30,22 +30,22 @@ pub record Met (i : Input) (s : Form → Buffers) (m : ℕ) : Type 0 where
   pub passed : (f : Form) → Passed f i (s f)
   pub number : (f : Form) → numberOfAnswer (solve f i (s f) .answer) ≡ m
 
-passed-of : (a b : Asked) (o : Out Result) (c : Counts) (m : ℕ) → Early a → numberOfAnswer (verdict a b o c) ≡ m → (1 ≤ m → 9 ≤ m) → a ≡ Pass
+passed-of : (a b : Asked) (o : Out Result) (c : Counts) (m : ℕ) → Early a → numberOfAnswer (verdict a b o c) ≡ m → (1 ≤ m → 9 ≤ m) → m ≤ 18 → a ≡ Pass
 unfolding Within
-passed-of Pass b o c m w e h = refl
-passed-of (Stop q) b o c m w e h = absurd (omega (arith, w q refl, e, h (omega (arith, w q refl, e))))
+passed-of Pass b o c m w e h k = refl
+passed-of (Stop q) b o c m w e h k = absurd (omega (arith, w q refl, e, turned q, h (omega (arith, w q refl, e, turned q))))
 
 -- neither 10 nor 11 is answered
 roomy-of : (f : Form) (i : Input) (s : Buffers) (m : ℕ) → numberOfAnswer (solve f i s .answer) ≡ m → (m ≡ 10 → ⊥) → (m ≡ 11 → ⊥) → Roomy f i s
 roomy-of f i s m e a b h = elim (short-told f i s .1 h) [ inl c ↦ a (sym e ∙ c) | inr c ↦ b (sym e ∙ c) ]
 
 -- from the lengths, and from a number that is 0 or at least 9, and neither 10 nor 11
-met-by : (i : Input) (s : Form → Buffers) (m : ℕ) → ((f : Form) → Stated f i (s f)) → ((f : Form) → numberOfAnswer (solve f i (s f) .answer) ≡ m) → (1 ≤ m → 9 ≤ m) → (m ≡ 10 → ⊥) → (m ≡ 11 → ⊥) → Met i s m
-met-by i s m h e l a b =
+met-by : (i : Input) (s : Form → Buffers) (m : ℕ) → ((f : Form) → Stated f i (s f)) → ((f : Form) → numberOfAnswer (solve f i (s f) .answer) ≡ m) → (1 ≤ m → 9 ≤ m) → m ≤ 18 → (m ≡ 10 → ⊥) → (m ≡ 11 → ⊥) → Met i s m
+met-by i s m h e l k a b =
     record {
       stated = h;
       roomy = λ f. roomy-of f i (s f) m (e f) a b;
-      passed = λ f. passed-of (earlier f i (sizes (s f))) (askPlaces f (stored i) (i .n) (sizes (s f)) (i .n)) (listed i) (counts i) m (earlier-early f i (sizes (s f))) (ap numberOfAnswer (sym (solve-answer f i (s f))) ∙ e f) l;
+      passed = λ f. passed-of (earlier f i (sizes (s f))) (askPlaces f (stored i) (i .n) (sizes (s f)) (i .n)) (listed i) (counts i) m (earlier-early f i (sizes (s f))) (ap numberOfAnswer (sym (solve-answer f i (s f))) ∙ e f) l k;
       number = e;
     }
 
@@ -62,28 +62,28 @@ pub met-solution : Met two (λ f. dirty f 2 (slots 1 1 1 1)) 0
 unfolding Stated two graph boundary outcomeOf seen
 met-solution =
     met-by two (λ f. dirty f 2 (slots 1 1 1 1)) 0 (by-form _ refl refl refl)
-    (by-form (Answers two (λ f. dirty f 2 (slots 1 1 1 1)) 0) (ap (numberAt 0) holds) (ap (numberAt 1) holds) (ap (numberAt 2) holds)) (λ l. omega arith) (λ e. omega arith) (λ e. omega arith)
+    (by-form (Answers two (λ f. dirty f 2 (slots 1 1 1 1)) 0) (ap (numberAt 0) holds) (ap (numberAt 1) holds) (ap (numberAt 2) holds)) (λ l. omega arith) (omega arith) (λ e. omega arith) (λ e. omega arith)
 
 -- a zero pivot
 pub met-zero : Met (single 0x8000000000000000) (λ f. dirty f 1 (slots 0 0 0 0)) 12
 unfolding Stated single graph boundary outcomeOf seen
 met-zero =
     met-by (single 0x8000000000000000) (λ f. dirty f 1 (slots 0 0 0 0)) 12 (by-form _ refl refl refl)
-    (by-form (Answers (single 0x8000000000000000) (λ f. dirty f 1 (slots 0 0 0 0)) 12) (ap (numberAt 3) holds) (ap (numberAt 4) holds) (ap (numberAt 5) holds)) (λ l. omega arith) (λ e. omega arith) (λ e. omega arith)
+    (by-form (Answers (single 0x8000000000000000) (λ f. dirty f 1 (slots 0 0 0 0)) 12) (ap (numberAt 3) holds) (ap (numberAt 4) holds) (ap (numberAt 5) holds)) (λ l. omega arith) (omega arith) (λ e. omega arith) (λ e. omega arith)
 
 -- an overflow
 pub met-over : Met (single 0x0004000000000000) (λ f. dirty f 1 (slots 0 0 0 0)) 13
 unfolding Stated single graph boundary outcomeOf seen
 met-over =
     met-by (single 0x0004000000000000) (λ f. dirty f 1 (slots 0 0 0 0)) 13 (by-form _ refl refl refl)
-    (by-form (Answers (single 0x0004000000000000) (λ f. dirty f 1 (slots 0 0 0 0)) 13) (ap (numberAt 9) holds) (ap (numberAt 10) holds) (ap (numberAt 11) holds)) (λ l. omega arith) (λ e. omega arith) (λ e. omega arith)
+    (by-form (Answers (single 0x0004000000000000) (λ f. dirty f 1 (slots 0 0 0 0)) 13) (ap (numberAt 9) holds) (ap (numberAt 10) holds) (ap (numberAt 11) holds)) (λ l. omega arith) (omega arith) (λ e. omega arith) (λ e. omega arith)
 
 -- a null pivot
 pub met-null : Met (swapped (0 ∷ 1 ∷ [])) (λ f. dirty f 2 (slots 1 1 1 1)) 9
 unfolding Stated swapped graph boundary outcomeOf seen
 met-null =
     met-by (swapped (0 ∷ 1 ∷ [])) (λ f. dirty f 2 (slots 1 1 1 1)) 9 (by-form _ refl refl refl)
-    (by-form (Answers (swapped (0 ∷ 1 ∷ [])) (λ f. dirty f 2 (slots 1 1 1 1)) 9) (ap (numberAt 12) holds) (ap (numberAt 13) holds) (ap (numberAt 14) holds)) (λ l. omega arith) (λ e. omega arith) (λ e. omega arith)
+    (by-form (Answers (swapped (0 ∷ 1 ∷ [])) (λ f. dirty f 2 (slots 1 1 1 1)) 9) (ap (numberAt 12) holds) (ap (numberAt 13) holds) (ap (numberAt 14) holds)) (λ l. omega arith) (omega arith) (λ e. omega arith) (λ e. omega arith)
 
 -- the plain form is short of an upper index slot, the shared form with as few is not
 pub short-plain : Short Plain arrow (dirty Plain 3 (slots 3 3 2 3))

@@ -1,4 +1,4 @@
--- The boundary graphs of the paper as one table: an input, a form, the slots of its stores, and what must come out. Definitions only.
+-- The boundary graphs of the paper and systems under floors as one table: an input, a form, the slots of its stores, and what must come out. Definitions only.
 use mathlib.Core.List.{List, [], _∷_, _++_, map}
 use Prim.Native.Nat.{ℕ, _+_, _*_}
 use lib.ListN.{replicate}
@@ -7,7 +7,7 @@ use Rattle.base.specs.Answers.{numberOfAnswer, placeOfAnswer, countsOf}
 use Rattle.base.specs.declared.Form.{Form}
 use Rattle.base.specs.declared.Form.the-variants.{Plain, Shared, ByRow}
 use Rattle.base.specs.declared.Answer.{Answer}
-use Rattle.matrix.specs.Input.{Input}
+use Rattle.matrix.specs.Input.{Input, inputOf, withFloor}
 use Rattle.outcome.specs.Buffers.{SideBuffers, sideBuffers, noSide, Buffers, allBuffers, Outcome}
 use Rattle.outcome.specs.Solve.{solve}
 
@@ -63,6 +63,12 @@ refusedAt ByRow n z q k = record { number = q; place = k; counts = 0 ∷ 0 ∷ 0
 refusedAt Plain n z q k = record { number = q; place = k; counts = 0 ∷ 0 ∷ 0 ∷ []; x = replicate n 1; d = replicate n 0; lower = replicate (z .li) 0; upper = replicate (z .ui) 0 }
 refusedAt Shared n z q k = record { number = q; place = k; counts = 0 ∷ 0 ∷ 0 ∷ []; x = replicate n 1; d = replicate n 0; lower = replicate (z .li) 0; upper = replicate (z .ui) 0 }
 
+-- a refusal before 9: all but scratch as it was
+abbrev pub untouchedAt : Form → ℕ → Slots → ℕ → ℕ → Seen
+untouchedAt ByRow n z q k = record { number = q; place = k; counts = 0 ∷ 0 ∷ 0 ∷ []; x = replicate n 1; d = replicate n 0x7ff8000000000000; lower = []; upper = replicate (z .ui) 79 }
+untouchedAt Plain n z q k = record { number = q; place = k; counts = 0 ∷ 0 ∷ 0 ∷ []; x = replicate n 1; d = replicate n 0x7ff8000000000000; lower = replicate (z .li) 79; upper = replicate (z .ui) 79 }
+untouchedAt Shared n z q k = record { number = q; place = k; counts = 0 ∷ 0 ∷ 0 ∷ []; x = replicate n 1; d = replicate n 0x7ff8000000000000; lower = replicate (z .li) 79; upper = replicate (z .ui) 79 }
+
 -- counts, x, d and the index stores; the row form keeps only x
 abbrev pub solvedAs : Form → ℕ → Slots → List ℕ → List ℕ → List ℕ → List ℕ → List ℕ → Seen
 solvedAs ByRow n z c x d l u = record { number = 0; place = 0; counts = c; x = x; d = replicate n 0; lower = []; upper = replicate (z .ui) 0 }
@@ -88,6 +94,9 @@ lowerOf ByRow rows columns = []
 abbrev pub refusals : Input → Slots → ℕ → ℕ → List Case
 refusals i z q k = map (λ f. record { form = f; input = i; stores = z; expected = refusedAt f (i .n) z q k }) (Plain ∷ Shared ∷ ByRow ∷ [])
 
+abbrev pub early : Input → Slots → ℕ → ℕ → List Case
+early i z q k = map (λ f. record { form = f; input = i; stores = z; expected = untouchedAt f (i .n) z q k }) (Plain ∷ Shared ∷ ByRow ∷ [])
+
 abbrev pub solutions : Input → Slots → List ℕ → List ℕ → List ℕ → List ℕ → List ℕ → List ℕ → List Case
 solutions i z c x d rows columns u = map (λ f. record { form = f; input = i; stores = z; expected = solvedAs f (i .n) z c x d (lowerOf f rows columns) u }) (Plain ∷ Shared ∷ ByRow ∷ [])
 
@@ -97,7 +106,7 @@ unfoldable pub floats : List ℕ → List Float
 floats = map (ofBits binary64)
 
 unfoldable pub graph : ℕ → List ℕ → List ℕ → List ℕ → List ℕ → List ℕ → List ℕ → Input
-graph n s j v r c b = record { n = n; starts = s; columns = j; values = floats v; r = r; c = c; b = floats b }
+graph n s j v r c b = inputOf n s j (floats v) r c (floats b)
 
 -- rows (2, 4), (1, 4), b = (10, 9)
 unfoldable pub two : Input
@@ -106,6 +115,10 @@ two = graph 2 (0 ∷ 2 ∷ 4 ∷ []) (0 ∷ 1 ∷ 0 ∷ 1 ∷ []) (0x40000000000
 -- n = 1, b = 1
 unfoldable pub single : ℕ → Input
 single v = graph 1 (0 ∷ 1 ∷ []) (0 ∷ []) (v ∷ []) (0 ∷ []) (0 ∷ []) (0x3ff0000000000000 ∷ [])
+
+-- the same under a floor
+unfoldable pub under : ℕ → ℕ → Input
+under f v = withFloor (ofBits binary64 f) (single v)
 
 -- entries (0, 1), (1, 0), all 1, b = (2, 1)
 unfoldable pub swapped : List ℕ → Input
@@ -139,7 +152,7 @@ arrowSolved f z l u =
 abbrev pub arrowRefused : Form → Slots → ℕ → ℕ → Case
 arrowRefused f z q k = record { form = f; input = arrow; stores = z; expected = refusedAt f 3 z q k }
 
--- the table: every graph marked P that a solve decides
+-- the table: every graph marked P that a solve decides, then systems under floors
 unfoldable pub boundary : List Case
 boundary =
     solutions two (slots 1 1 1 1) (1 ∷ 1 ∷ 1 ∷ []) (0x3ff0000000000000 ∷ 0x4000000000000000 ∷ []) (0x3fe0000000000000 ∷ 0x3fe0000000000000 ∷ []) (0 ∷ []) (1 ∷ []) (1 ∷ [])
@@ -160,3 +173,15 @@ boundary =
     ∷ arrowRefused Shared (slots 3 2 3 3) 10 1
     ∷ arrowRefused ByRow (slots 0 0 3 2) 11 1
     ∷ [])
+    -- a value of 2 and of −2 under the floor 2, of 2 under the floor just below it, −0 under −0; a floor of −1, of infinity, of no number, of −infinity; of 2 under the least floor above zero
+    ++ refusals (under 0x4000000000000000 0x4000000000000000) (slots 0 0 0 0) 12 0
+    ++ refusals (under 0x4000000000000000 0xc000000000000000) (slots 0 0 0 0) 12 0
+    ++ solutions (under 0x3fffffffffffffff 0x4000000000000000) (slots 0 0 0 0) (0 ∷ 0 ∷ 0 ∷ []) (0x3fe0000000000000 ∷ []) (0x3fe0000000000000 ∷ []) [] [] []
+    ++ refusals (under 0x8000000000000000 0x8000000000000000) (slots 0 0 0 0) 12 0
+    ++ early (under 0xbff0000000000000 0x4000000000000000) (slots 2 2 2 2) 19 0
+    ++ early (under 0x7ff0000000000000 0x4000000000000000) (slots 2 2 2 2) 19 0
+    ++ early (under 0x7ff8000000000000 0x4000000000000000) (slots 2 2 2 2) 19 0
+    ++ early (under 0xfff0000000000000 0x4000000000000000) (slots 2 2 2 2) 19 0
+    ++ solutions (under 0x0000000000000001 0x4000000000000000) (slots 0 0 0 0) (0 ∷ 0 ∷ 0 ∷ []) (0x3fe0000000000000 ∷ []) (0x3fe0000000000000 ∷ []) [] [] []
+    -- the arrow's second pivot, 3/2 after step 2, under the floor 3/2
+    ++ refusals (withFloor (ofBits binary64 0x3ff8000000000000) arrow) (slots 3 3 3 3) 12 1

@@ -1,14 +1,14 @@
 -- Report 114's 5 by 5 example and its 3 by 3 grid in two orders: patterns only. Definitions only.
 use mathlib.Core.List.{List, [], _∷_}
 use Prim.Native.Nat.{ℕ}
-use Rattle.matrix.specs.Input.{Input, stored}
+use Rattle.matrix.specs.Input.{Input, inputOf, stored}
 use Rattle.outcome.specs.Forms.{indexNeed}
 use Rattle.outcome.specs.Structure.{counts}
 use Rattle.base.specs.declared.Form.the-variants.{Shared}
 use Rattle.base.specs.declared.Side.the-variants.{Lower, Upper}
 
 unfoldable pub pattern : ℕ → List ℕ → List ℕ → List ℕ → Input
-pattern n s j o = record { n = n; starts = s; columns = j; values = []; r = o; c = o; b = [] }
+pattern n s j o = inputOf n s j [] o o []
 
 -- lower, upper, products
 unfoldable pub countsOf : Input → List ℕ

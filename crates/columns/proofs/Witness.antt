@@ -5,7 +5,7 @@ use Prim.Native.Nat.{ℕ, zero, suc}
 use native.Mathlib.Omega.{arith}
 use Rattle.base.specs.Lists.{listAt}
 use Rattle.base.specs.First.{first}
-use Rattle.matrix.specs.Input.{Input, ic, isOf}
+use Rattle.matrix.specs.Input.{Input, inputOf, ic, isOf}
 use Rattle.lent.specs.Reading.{orderOf, placed}
 use Rattle.questions.specs.Lent.{Inverse}
 use Rattle.questions.proofs.Witness.{holds}
@@ -14,7 +14,7 @@ use Rattle.columns.specs.Sides.{Sound, rowsIn}
 use Rattle.columns.proofs.Stored.{given-sound}
 
 abbrev one : Input
-one = record { n = 1; starts = 0 ∷ 1 ∷ []; columns = 0 ∷ []; values = []; r = 0 ∷ []; c = 0 ∷ []; b = [] }
+one = inputOf 1 (0 ∷ 1 ∷ []) (0 ∷ []) [] (0 ∷ []) (0 ∷ []) []
 
 -- head 0 counts one entry, or leads to node 0: row 0 and no more
 abbrev scratch : List ℕ

@@ -1,5 +1,5 @@
 -- The system of an input that passed its questions: the fill closes each row, and a row of M is lent as the steps ask for it.
-use mathlib.Core.Path.{_≡_, sym, ap, _∙_}
+use mathlib.Core.Path.{_≡_, refl, sym, ap, _∙_}
 use mathlib.Core.Bool.{true, _&&_, _||_}
 use mathlib.Core.List.{List, _∷_, _++_, map}
 use Prim.Native.Nat.{ℕ, _+_, _-_, _<_, _≤_}
@@ -165,11 +165,12 @@ module _ (i : Input) (k below : ℕ) (us ur ui marks : List ℕ) (upper work : �
         row-has (stored i) (i .n) k (getD (placesAt i k) p 0) b
         (filled-stored (stored i) k (getD (placesAt i k) p 0) (has-at (placesAt i k) p g))
 
-    pub row-lent : RowLent (system i) k lower (placed (orderOf (i .n) marks) columns) values b
+    pub row-lent : RowLent (system i) k lower (placed (orderOf (i .n) marks) columns) values b (i .floor)
     unfolding system entries rightAt Finite
     row-lent = record {
       entries = rw (places-are, ev);
       right = sym eb;
+      under = refl;
       below = sym (el ∙ R .lower);
       filled = rw places-are place-filled;
       sum = rw eb (R .settled .right own (R .right));

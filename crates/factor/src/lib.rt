@@ -15,7 +15,7 @@ ghost use lib.ListN.{length, getD, take, drop};
 ghost use lib.Seq.{sets};
 ghost use Rattle.base.specs.Lists.{nought, blank, listAt, rowOf};
 ghost use Rattle.base.specs.declared.Form.the-variants.{Shared};
-ghost use Rattle.matrix.specs.Input.{inputOf};
+ghost use Rattle.matrix.specs.Input.{inputOf, withFloor};
 ghost use Rattle.arithmetic.specs.Arith.{Row};
 ghost use Rattle.arithmetic.specs.Stopping.{back};
 ghost use Rattle.outcome.specs.Solve.{system};
@@ -303,6 +303,7 @@ fn reduce_at(
     values: &[f64],
     r: &[Index],
     b: &[f64],
+    floor: f64,
     lower_starts: &[u32],
     lower_index: &[Index],
     upper_starts: &[u32],
@@ -312,15 +313,15 @@ fn reduce_at(
     work: &mut [f64],
     marks: &mut [u32],
 ) -> RowReduced
-    requires { ⌜ ((c : List ℕ) × RowReady form (inputOf n (now starts) (now columns) (now values) (now r) c (now b)) (lists (now «lower_starts») (now «lower_index») (now «upper_starts») (now «upper_runs») (now «upper_index»)) (k .0) (length (now «upper_values»)) (length (now work)) (now marks)) ⌝ }
+    requires { ⌜ ((c : List ℕ) × RowReady form (withFloor floor (inputOf n (now starts) (now columns) (now values) (now r) c (now b))) (lists (now «lower_starts») (now «lower_index») (now «upper_starts») (now «upper_runs») (now «upper_index»)) (k .0) (length (now «upper_values»)) (length (now work)) (now marks)) ⌝ }
     ensures { λ p. ⌜ LowerGiven (readsLower form) n (k .0) (p .below) (now (starts .entry)) (now (columns .entry)) (now (r .entry))
         (lists (now («lower_starts» .entry)) (now («lower_index» .entry)) (now («upper_starts» .entry)) (now («upper_runs» .entry)) (now («upper_index» .entry))) (now (marks .entry)) (now (marks .exit))
         × ((c : List ℕ) (rows : List Row)
-        → RowReady form (inputOf n (now (starts .entry)) (now (columns .entry)) (now (values .entry)) (now (r .entry)) c (now (b .entry)))
+        → RowReady form (withFloor floor (inputOf n (now (starts .entry)) (now (columns .entry)) (now (values .entry)) (now (r .entry)) c (now (b .entry))))
         (lists (now («lower_starts» .entry)) (now («lower_index» .entry)) (now («upper_starts» .entry)) (now («upper_runs» .entry)) (now («upper_index» .entry))) (k .0) (length (now («upper_values» .entry))) (length (now (work .entry))) (now (marks .entry))
-        → RowsHeld (system (inputOf n (now (starts .entry)) (now (columns .entry)) (now (values .entry)) (now (r .entry)) c (now (b .entry)))) rows n (k .0)
+        → RowsHeld (system (withFloor floor (inputOf n (now (starts .entry)) (now (columns .entry)) (now (values .entry)) (now (r .entry)) c (now (b .entry))))) rows n (k .0)
         (now (work .entry)) (now («upper_starts» .entry)) (now («upper_runs» .entry)) (now («upper_index» .entry)) (now («upper_values» .entry))
-        → Reduced (system (inputOf n (now (starts .entry)) (now (columns .entry)) (now (values .entry)) (now (r .entry)) c (now (b .entry)))) rows n (k .0)
+        → Reduced (system (withFloor floor (inputOf n (now (starts .entry)) (now (columns .entry)) (now (values .entry)) (now (r .entry)) c (now (b .entry))))) rows n (k .0)
         (now («upper_starts» .entry)) (now (work .entry)) (now (work .exit)) (now («upper_values» .entry)) (now («upper_values» .exit)) (p .pivot)) ⌝ }
 {
     let below = lower_at(
@@ -351,6 +352,7 @@ fn reduce_at(
         own,
         entries,
         right,
+        floor,
         lower,
         upper_starts,
         upper_runs,
@@ -370,6 +372,7 @@ fn eliminate_row(
     values: &[f64],
     r: &[Index],
     b: &[f64],
+    floor: f64,
     lower_starts: &[u32],
     lower_index: &[Index],
     lower_values: &mut [f64],
@@ -381,10 +384,10 @@ fn eliminate_row(
     work: &mut [f64],
     marks: &mut [u32],
 ) -> Factored
-    requires { ⌜ (k .0 < n) × ((c : List ℕ) × Going form (inputOf n (now starts) (now columns) (now values) (now r) c (now b)) (lists (now «lower_starts») (now «lower_index») (now «upper_starts») (now «upper_runs») (now «upper_index»)) (k .0) (written (now «lower_values») (now «upper_values») (now d) (now work) (now marks))) ⌝ }
+    requires { ⌜ (k .0 < n) × ((c : List ℕ) × Going form (withFloor floor (inputOf n (now starts) (now columns) (now values) (now r) c (now b))) (lists (now «lower_starts») (now «lower_index») (now «upper_starts») (now «upper_runs») (now «upper_index»)) (k .0) (written (now «lower_values») (now «upper_values») (now d) (now work) (now marks))) ⌝ }
     ensures { λ a. ⌜ ((c : List ℕ)
-        → Going form (inputOf n (now (starts .entry)) (now (columns .entry)) (now (values .entry)) (now (r .entry)) c (now (b .entry))) (lists (now («lower_starts» .entry)) (now («lower_index» .entry)) (now («upper_starts» .entry)) (now («upper_runs» .entry)) (now («upper_index» .entry))) (k .0) (written (now («lower_values» .entry)) (now («upper_values» .entry)) (now (d .entry)) (now (work .entry)) (now (marks .entry)))
-        → CameTo form (inputOf n (now (starts .entry)) (now (columns .entry)) (now (values .entry)) (now (r .entry)) c (now (b .entry))) (lists (now («lower_starts» .entry)) (now («lower_index» .entry)) (now («upper_starts» .entry)) (now («upper_runs» .entry)) (now («upper_index» .entry))) (k .0 + 1) a (written (now («lower_values» .exit)) (now («upper_values» .exit)) (now (d .exit)) (now (work .exit)) (now (marks .exit)))) ⌝ }
+        → Going form (withFloor floor (inputOf n (now (starts .entry)) (now (columns .entry)) (now (values .entry)) (now (r .entry)) c (now (b .entry)))) (lists (now («lower_starts» .entry)) (now («lower_index» .entry)) (now («upper_starts» .entry)) (now («upper_runs» .entry)) (now («upper_index» .entry))) (k .0) (written (now («lower_values» .entry)) (now («upper_values» .entry)) (now (d .entry)) (now (work .entry)) (now (marks .entry)))
+        → CameTo form (withFloor floor (inputOf n (now (starts .entry)) (now (columns .entry)) (now (values .entry)) (now (r .entry)) c (now (b .entry)))) (lists (now («lower_starts» .entry)) (now («lower_index» .entry)) (now («upper_starts» .entry)) (now («upper_runs» .entry)) (now («upper_index» .entry))) (k .0 + 1) a (written (now («lower_values» .exit)) (now («upper_values» .exit)) (now (d .exit)) (now (work .exit)) (now (marks .exit)))) ⌝ }
 {
     let row = reduce_at(
         form,
@@ -395,6 +398,7 @@ fn eliminate_row(
         values,
         r,
         b,
+        floor,
         lower_starts,
         lower_index,
         upper_starts,
@@ -437,6 +441,7 @@ fn eliminate_rows(
     values: &[f64],
     r: &[Index],
     b: &[f64],
+    floor: f64,
     lower_starts: &[u32],
     lower_index: &[Index],
     lower_values: &mut [f64],
@@ -448,10 +453,10 @@ fn eliminate_rows(
     work: &mut [f64],
     marks: &mut [u32],
 ) -> Factored
-    requires { ⌜ ((c : List ℕ) × Going form (inputOf n (now starts) (now columns) (now values) (now r) c (now b)) (lists (now «lower_starts») (now «lower_index») (now «upper_starts») (now «upper_runs») (now «upper_index»)) 0 (written (now «lower_values») (now «upper_values») (now d) (now work) (now marks))) ⌝ }
+    requires { ⌜ ((c : List ℕ) × Going form (withFloor floor (inputOf n (now starts) (now columns) (now values) (now r) c (now b))) (lists (now «lower_starts») (now «lower_index») (now «upper_starts») (now «upper_runs») (now «upper_index»)) 0 (written (now «lower_values») (now «upper_values») (now d) (now work) (now marks))) ⌝ }
     ensures { λ a. ⌜ ((c : List ℕ)
-        → Going form (inputOf n (now (starts .entry)) (now (columns .entry)) (now (values .entry)) (now (r .entry)) c (now (b .entry))) (lists (now («lower_starts» .entry)) (now («lower_index» .entry)) (now («upper_starts» .entry)) (now («upper_runs» .entry)) (now («upper_index» .entry))) 0 (written (now («lower_values» .entry)) (now («upper_values» .entry)) (now (d .entry)) (now (work .entry)) (now (marks .entry)))
-        → CameTo form (inputOf n (now (starts .entry)) (now (columns .entry)) (now (values .entry)) (now (r .entry)) c (now (b .entry))) (lists (now («lower_starts» .entry)) (now («lower_index» .entry)) (now («upper_starts» .entry)) (now («upper_runs» .entry)) (now («upper_index» .entry))) n a (written (now («lower_values» .exit)) (now («upper_values» .exit)) (now (d .exit)) (now (work .exit)) (now (marks .exit)))) ⌝ }
+        → Going form (withFloor floor (inputOf n (now (starts .entry)) (now (columns .entry)) (now (values .entry)) (now (r .entry)) c (now (b .entry)))) (lists (now («lower_starts» .entry)) (now («lower_index» .entry)) (now («upper_starts» .entry)) (now («upper_runs» .entry)) (now («upper_index» .entry))) 0 (written (now («lower_values» .entry)) (now («upper_values» .entry)) (now (d .entry)) (now (work .entry)) (now (marks .entry)))
+        → CameTo form (withFloor floor (inputOf n (now (starts .entry)) (now (columns .entry)) (now (values .entry)) (now (r .entry)) c (now (b .entry)))) (lists (now («lower_starts» .entry)) (now («lower_index» .entry)) (now («upper_starts» .entry)) (now («upper_runs» .entry)) (now («upper_index» .entry))) n a (written (now («lower_values» .exit)) (now («upper_values» .exit)) (now (d .exit)) (now (work .exit)) (now (marks .exit)))) ⌝ }
 {
     let mut k = 0;
     while k < n {
@@ -464,6 +469,7 @@ fn eliminate_rows(
             values,
             r,
             b,
+            floor,
             lower_starts,
             lower_index,
             lower_values,
@@ -521,6 +527,7 @@ pub fn factor(
     values: &[f64],
     r: &[Index],
     b: &[f64],
+    floor: f64,
     lower_starts: &[u32],
     lower_index: &[Index],
     lower_values: &mut [f64],
@@ -532,10 +539,10 @@ pub fn factor(
     work: &mut [f64],
     marks: &mut [u32],
 ) -> Factored
-    requires { ⌜ ((c : List ℕ) × Factorable form (inputOf n (now starts) (now columns) (now values) (now r) c (now b)) (lists (now «lower_starts») (now «lower_index») (now «upper_starts») (now «upper_runs») (now «upper_index»)) (written (now «lower_values») (now «upper_values») (now d) (now work) (now marks))) ⌝ }
+    requires { ⌜ ((c : List ℕ) × Factorable form (withFloor floor (inputOf n (now starts) (now columns) (now values) (now r) c (now b))) (lists (now «lower_starts») (now «lower_index») (now «upper_starts») (now «upper_runs») (now «upper_index»)) (written (now «lower_values») (now «upper_values») (now d) (now work) (now marks))) ⌝ }
     ensures { λ a. ⌜ ((c : List ℕ)
-        → Factorable form (inputOf n (now (starts .entry)) (now (columns .entry)) (now (values .entry)) (now (r .entry)) c (now (b .entry))) (lists (now («lower_starts» .entry)) (now («lower_index» .entry)) (now («upper_starts» .entry)) (now («upper_runs» .entry)) (now («upper_index» .entry))) (written (now («lower_values» .entry)) (now («upper_values» .entry)) (now (d .entry)) (now (work .entry)) (now (marks .entry)))
-        → FactoredAs form (inputOf n (now (starts .entry)) (now (columns .entry)) (now (values .entry)) (now (r .entry)) c (now (b .entry))) a
+        → Factorable form (withFloor floor (inputOf n (now (starts .entry)) (now (columns .entry)) (now (values .entry)) (now (r .entry)) c (now (b .entry)))) (lists (now («lower_starts» .entry)) (now («lower_index» .entry)) (now («upper_starts» .entry)) (now («upper_runs» .entry)) (now («upper_index» .entry))) (written (now («lower_values» .entry)) (now («upper_values» .entry)) (now (d .entry)) (now (work .entry)) (now (marks .entry)))
+        → FactoredAs form (withFloor floor (inputOf n (now (starts .entry)) (now (columns .entry)) (now (values .entry)) (now (r .entry)) c (now (b .entry)))) a
         (now («lower_values» .exit)) (now («upper_values» .exit)) (now (d .exit)) (drop (zFrom n) (now (work .exit)))) ⌝ }
 {
     clear_for_rows(n, lower_values, upper_values, work, marks);
@@ -547,6 +554,7 @@ pub fn factor(
         values,
         r,
         b,
+        floor,
         lower_starts,
         lower_index,
         lower_values,

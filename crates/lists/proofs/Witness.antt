@@ -4,7 +4,8 @@ use mathlib.Core.List.{List, [], _∷_, map}
 use Prim.Native.Nat.{ℕ}
 use native.Mathlib.Omega.{arith}
 use lib.ListN.{replicate}
-use lib.Ieee.{Float, nan, binary64, ofBits, sub, mul, div, eq}
+use lib.Ieee.{Float, nan, binary64, ofBits, sub, mul, div, lt, eq, le}
+use Rattle.base.specs.Magnitude.{atMost, isFloor}
 use Rattle.base.specs.Lists.{sum, count, asc, has, table, listAt, pairs, padded, nought}
 use Rattle.base.specs.First.{first}
 use Rattle.base.specs.Answers.{spot}
@@ -15,7 +16,7 @@ use Rattle.base.specs.declared.Answer.{Answer}
 use Rattle.base.specs.declared.Answer.the-variants.{Done}
 use Rattle.fill.specs.Fill.{reach, filled, upper, upperRow, lowerRow, lowerColumn, products}
 use Rattle.matrix.specs.Input.{Input, inputOf, isOf, ic, stored, entries, rightAt}
-use Rattle.matrix.specs.Questions.{badStart, badColumn, badIndex, notFinite, noEntry, emptyRow, seenAt, repeats, repeatRow, ask3, ask4, ask5, askFinite, ask6, ask7, ask8, askPattern, askRows, askStructure, askSolve}
+use Rattle.matrix.specs.Questions.{badStart, badColumn, badIndex, notFinite, noEntry, emptyRow, seenAt, repeats, repeatRow, ask3, ask4, ask5, askFinite, ask6, askFloor, askNumbers, ask7, ask8, askPattern, askRows, askStructure, askSolve}
 use Rattle.placement.specs.Placing.{countAbove, tails, bestFrom, firstAt, agree, appendAll, fresh, meets, overlap, tailOr, shared, plain, after, placed, startOf}
 use Rattle.arithmetic.specs.Arith.{judged, loadRun, step1, subtractRun, stepRun, step2, scaledRun, step3, rowRun, forwardRun, restRun, backRun, wholeRun}
 use Rattle.outcome.specs.Forms.{placedTo, indexNeed, valueNeed}
@@ -68,7 +69,7 @@ given =
     plainBuffers (replicate 3 77) (replicate 1 79) (replicate 1 nan) (replicate 3 77) (replicate 1 79) (replicate 1 nan) (replicate 2 nan) (replicate 2 nan) (replicate 6 nan) (replicate 24 80)
 
 two-answer : solve Plain two given .answer ≡ Done (counted 1 1 1)
-unfolding floats two given solve shape askShape askSolve askPattern askRows ask3 ask4 ask5 ask6 ask7 ask8 askFinite first badStart badColumn badIndex isOf notFinite emptyRow noEntry repeatRow repeats seenAt listAt pairs askPlaces askPlace filled reach stored has fits indexNeed valueNeed placedTo placed after plain appendAll startOf upperRow lowerRow asc upper listed system entries rightAt ic judged wholeRun loadRun step1 subtractRun stepRun step2 scaledRun step3 rowRun forwardRun restRun backRun counts sum count lowerColumn products table ofBits sub mul div eq
+unfolding floats two given solve shape askShape askSolve askPattern askRows ask3 ask4 ask5 ask6 ask7 ask8 askFinite first badStart badColumn badIndex isOf notFinite emptyRow noEntry repeatRow repeats seenAt listAt pairs askPlaces askPlace filled reach stored has fits indexNeed valueNeed placedTo placed after plain appendAll startOf upperRow lowerRow asc upper listed system entries rightAt ic judged wholeRun loadRun step1 subtractRun stepRun step2 scaledRun step3 rowRun forwardRun restRun backRun counts sum count lowerColumn products table ofBits sub mul div askNumbers askFloor isFloor atMost lt eq le
 two-answer = refl
 
 pub two-done : solve Plain two given ≡ ended (Done (counted 1 1 1)) (solve Plain two given .buffers)

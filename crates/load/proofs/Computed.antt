@@ -3,23 +3,20 @@ use Prim.Native.Nat.{ℕ}
 use mathlib.Core.Path.{_≡_, refl}
 use mathlib.Core.List.{[], _∷_, map}
 use Rattle.base.specs.Lists.{has, sum, table, joined}
+use Rattle.matrix.specs.Input.{inputOf}
 use Rattle.load.specs.Load.{drawn, columnOf, added, seedAt, rowAt, entriesAt, valuesFor, four, minusOne, one, load}
 
 -- with one row every draw is skipped
-pub one-row : load 1 1 ≡ record { n = 1; starts = 0 ∷ 1 ∷ []; columns = 0 ∷ []; values = four ∷ []; r = 0 ∷ []; c = 0 ∷ []; b = one ∷ [] }
+pub one-row : load 1 1 ≡ inputOf 1 (0 ∷ 1 ∷ []) (0 ∷ []) (four ∷ []) (0 ∷ []) (0 ∷ []) (one ∷ [])
 unfolding load entriesAt sum rowAt seedAt added has drawn columnOf valuesFor joined table
 one-row = refl
 
 -- the seed runs on from row to row, and skipped draws count
-pub five-rows : load 5 1 ≡ record {
-  n = 5;
-  starts = 0 ∷ 3 ∷ 6 ∷ 9 ∷ 13 ∷ 16 ∷ [];
-  columns = 0 ∷ 3 ∷ 2 ∷ 1 ∷ 2 ∷ 3 ∷ 2 ∷ 1 ∷ 3 ∷ 3 ∷ 2 ∷ 4 ∷ 1 ∷ 4 ∷ 3 ∷ 1 ∷ [];
-  values = four ∷ minusOne ∷ minusOne ∷ four ∷ minusOne ∷ minusOne ∷ four ∷ minusOne ∷ minusOne ∷ four ∷ minusOne ∷ minusOne ∷ minusOne ∷ four ∷ minusOne ∷ minusOne ∷ [];
-  r = 0 ∷ 1 ∷ 2 ∷ 3 ∷ 4 ∷ [];
-  c = 0 ∷ 1 ∷ 2 ∷ 3 ∷ 4 ∷ [];
-  b = one ∷ one ∷ one ∷ one ∷ one ∷ [];
-}
+pub five-rows : load 5 1 ≡ inputOf 5
+    (0 ∷ 3 ∷ 6 ∷ 9 ∷ 13 ∷ 16 ∷ [])
+    (0 ∷ 3 ∷ 2 ∷ 1 ∷ 2 ∷ 3 ∷ 2 ∷ 1 ∷ 3 ∷ 3 ∷ 2 ∷ 4 ∷ 1 ∷ 4 ∷ 3 ∷ 1 ∷ [])
+    (four ∷ minusOne ∷ minusOne ∷ four ∷ minusOne ∷ minusOne ∷ four ∷ minusOne ∷ minusOne ∷ four ∷ minusOne ∷ minusOne ∷ minusOne ∷ four ∷ minusOne ∷ minusOne ∷ [])
+    (0 ∷ 1 ∷ 2 ∷ 3 ∷ 4 ∷ []) (0 ∷ 1 ∷ 2 ∷ 3 ∷ 4 ∷ []) (one ∷ one ∷ one ∷ one ∷ one ∷ [])
 unfolding load entriesAt sum rowAt seedAt added has drawn columnOf valuesFor joined table
 five-rows = refl
 

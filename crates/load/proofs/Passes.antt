@@ -1,4 +1,4 @@
--- The load passes questions 3 to 8, and its lists are what 1 and 2 ask for, with e its entry count. No claim is made on pivots.
+-- The load passes questions 3 to 8, and 19 with every floor that is one, and its lists are what 1 and 2 ask for, with e its entry count. No claim is made on pivots.
 use Prim.Native.Nat.{ℕ, zero, suc, _+_, _-_, _<_, _≤_}
 use mathlib.Core.Path.{_≡_, refl, sym, ap, _∙_}
 use mathlib.Core.Bool.{true, false, not, _&&_}
@@ -15,9 +15,10 @@ use Rattle.base.specs.Tests.{by-test}
 use Rattle.base.specs.FirstLaws.{first-all}
 use Rattle.base.specs.TableLaws.{getD-table, length-table}
 use Rattle.base.specs.declared.Asked.the-variants.{Pass}
-use Rattle.matrix.specs.Input.{isOf}
+use Rattle.base.specs.Magnitude.{isFloor}
+use Rattle.matrix.specs.Input.{withFloor, isOf}
 use Rattle.matrix.specs.ListsLaws.{Long}
-use Rattle.matrix.specs.Questions.{badStart, badColumn, badIndex, notFinite, noEntry, emptyRow, seenAt, repeats, repeatRow, ask3, ask4, ask5, ask6, ask7, ask8, askFinite, askPattern, askRows, askSolve}
+use Rattle.matrix.specs.Questions.{badStart, badColumn, badIndex, notFinite, noEntry, emptyRow, seenAt, repeats, repeatRow, ask3, ask4, ask5, ask6, ask7, ask8, askFloor, askNumbers, askFinite, askPattern, askRows, askSolve}
 use Rattle.load.specs.Load.{rowAt, entriesAt, valuesFor, minusOne, one, load}
 use Rattle.load.proofs.RowsLaws.{entries-long, numbers-long, entries-more}
 use Rattle.load.proofs.RowLaws.{Row, row-at, entries-most, part-is}
@@ -145,10 +146,10 @@ module _ (n s : ℕ) where
   unfolding ask8 repeatRow
   pass-8 = rw (first-all (repeatRow (load n s .starts) (load n s .columns) (load n s .r)) n (λ k l. rw (own-row k l, row-is k l) (row-apart (rowAt n s k) (row-at n s k l))))
 
-  -- questions 3 to 8 of a solve
-  pub passes : askSolve (load n s) ≡ Pass
-  unfolding askSolve askPattern askRows
-  passes = rw (n-is, pass-3, pass-4, pass-5, pass-6, pass-7) pass-8
+  -- questions 3 to 8 of a solve, and 19 where the floor is one
+  pub passes : (f : Float) → isFloor f ≡ true → askSolve (withFloor f (load n s)) ≡ Pass
+  unfolding askSolve askPattern askNumbers askFloor askRows
+  passes f h = rw (n-is, pass-3, pass-4, pass-5, pass-6, h, pass-7) pass-8
 
   -- its lists have the lengths of n rows and as many entries
   pub lists-long : Long n (length (load n s .columns)) (length (load n s .starts)) (length (load n s .columns)) (length (load n s .values)) (length (load n s .r)) (length (load n s .c)) (length (load n s .b))

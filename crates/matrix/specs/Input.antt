@@ -6,12 +6,12 @@ use lib.ListN.{getD}
 use lib.Dec.{eqb}
 use lib.Ieee.{Float, nan}
 use Rattle.fill.specs.Fill.{Pattern}
-use Rattle.base.specs.Lists.{has, table, rowOf, pairs}
+use Rattle.base.specs.Lists.{has, table, rowOf, pairs, nought}
 use Rattle.base.specs.First.{first}
 use Rattle.base.specs.declared.Found.{Found}
 use Rattle.base.specs.declared.Found.the-variants.{At, Nothing}
 
--- a matrix, its orders and a right side
+-- a matrix, its orders, a right side, and a floor under pivots
 pub record Input : Type 0 where
   pub n : ℕ
   pub starts : List ℕ
@@ -20,10 +20,15 @@ pub record Input : Type 0 where
   pub r : List ℕ
   pub c : List ℕ
   pub b : List Float
+  pub floor : Float
 
--- the input as a call is lent it
+-- the input of a call that takes no floor: its floor is +0
 abbrev pub inputOf : ℕ → List ℕ → List ℕ → List Float → List ℕ → List ℕ → List Float → Input
-inputOf n s j v r c b = record { n = n; starts = s; columns = j; values = v; r = r; c = c; b = b }
+inputOf n s j v r c b = record { n = n; starts = s; columns = j; values = v; r = r; c = c; b = b; floor = nought }
+
+-- "Each call that factors takes a floor f"
+abbrev pub withFloor : Float → Input → Input
+withFloor f i = record { n = i .n; starts = i .starts; columns = i .columns; values = i .values; r = i .r; c = i .c; b = i .b; floor = f }
 
 -- the order has v at index j
 unfoldable pub isOf : List ℕ → ℕ → ℕ → Bool

@@ -1,4 +1,4 @@
--- Questions 3 to 8, each by itself: a test of every index, of which `first` takes the first that holds. Definitions only.
+-- Questions 3 to 8 and 19, each by itself: a test of every index, of which `first` takes the first that holds; 19 is one test. Definitions only.
 use mathlib.Core.Path.{_≡_}
 use mathlib.Core.Bool.{Bool, not, _&&_, _||_}
 use mathlib.Core.List.{List}
@@ -8,10 +8,11 @@ use lib.Dec.{leb, ltb, eqb}
 use lib.Ieee.{Float, nan}
 use lib.Ieee.Scale.{finite}
 use Rattle.base.specs.Lists.{rowOf}
+use Rattle.base.specs.Magnitude.{isFloor}
 use Rattle.base.specs.First.{first, isAt}
-use Rattle.base.specs.Answers.{own, absent, andThen}
+use Rattle.base.specs.Answers.{own, holds, absent, andThen}
 use Rattle.base.specs.declared.Found.the-variants.{Nothing}
-use Rattle.base.specs.declared.Refusal.the-variants.{Starts, Column, Order, NotFinite, EmptyRow, Repeated}
+use Rattle.base.specs.declared.Refusal.the-variants.{Starts, Column, Order, NotFinite, EmptyRow, Repeated, Floor}
 use Rattle.base.specs.declared.Asked.{Asked}
 use Rattle.matrix.specs.Input.{Input, isOf}
 
@@ -97,9 +98,17 @@ askRows i = andThen (ask7 (i .n) (i .starts) (i .r)) (ask8 (i .n) (i .starts) (i
 unfoldable pub askStructure : Input → Asked
 askStructure i = andThen (askPattern i) (askRows i)
 
--- solve and refactor: 3 to 8
+-- "19, the floor is negative, infinite or not a number; −0 counts as 0"
+unfoldable pub askFloor : Float → Asked
+askFloor f = holds (isFloor f) Floor
+
+-- 6, and 19 "put right after question 6"
+unfoldable pub askNumbers : List Float → List Float → Float → Asked
+askNumbers v b floor = andThen (ask6 v b) (askFloor floor)
+
+-- solve and refactor: 3 to 8 and 19
 unfoldable pub askSolve : Input → Asked
-askSolve i = andThen (askPattern i) (andThen (ask6 (i .values) (i .b)) (askRows i))
+askSolve i = andThen (askPattern i) (andThen (askNumbers (i .values) (i .b) (i .floor)) (askRows i))
 
 -- another right side: 5, and 6 of b only
 unfoldable pub askRight : ℕ → List ℕ → List ℕ → List Float → Asked

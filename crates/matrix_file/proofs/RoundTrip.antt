@@ -170,7 +170,7 @@ module _ (i : Input) (w : Widths i) (len : ℕ) (p : askWrite i len ≡ Pass) wh
   unfolding partsAt floatsAt numbersOf
   b-is = ap (map (ofBits binary64)) (part-is 6) ∙ of-bits (i .b) (w .b-fit)
 
-  lists-are : withRows n (listsFor (written i) n e) ≡ i
+  lists-are : withRows n (listsFor (written i) n e) ≡ withRows n (listsIn i)
   unfolding partsAt listsAt numbersOf
   lists-are = λ t. inputOf n (part-is 1 t) (part-is 2 t) (values-are t) (part-is 4 t) (part-is 5 t) (b-is t)
 
@@ -285,8 +285,8 @@ module _ (file : List ℕ) (small : Bytes file) where
 
 -- ---- the theorems
 
--- A matrix that passes the writer's questions is written to a file that opens to its shape and holds it.
-pub written-read : (i : Input) → Widths i → (len : ℕ) → askWrite i len ≡ Pass → (opened (written i) ≡ Shape (shapeOf i)) × (matrixAt (written i) ≡ i)
+-- A matrix that passes the writer's questions is written to a file that opens to its shape and holds it: n and the six lists; a file has no floor.
+pub written-read : (i : Input) → Widths i → (len : ℕ) → askWrite i len ≡ Pass → (opened (written i) ≡ Shape (shapeOf i)) × (matrixAt (written i) ≡ withRows (i .n) (listsIn i))
 unfolding opened matrixAt
 written-read i w len p = (rw (written-asked i w len p, n-is i w len p, e-is i w len p), rw (n-is i w len p, e-is i w len p) (lists-are i w len p))
 
@@ -305,6 +305,7 @@ file-written file small m o =
 -- A file that opens, read and written, opens to the same shape and holds the same matrix, whatever its NaNs.
 pub read-again : (file : List ℕ) → Bytes file → (m : Matrix) → opened file ≡ Shape m
     → (opened (written (matrixAt file)) ≡ Shape m) × (matrixAt (written (matrixAt file)) ≡ matrixAt file)
+unfolding matrixAt
 read-again file small m o =
     let a = opened-pass file m (sym o) in
     let again = written-read (matrixAt file) (held-widths file small (a .0)) (length file) (held-asked file small (a .0)) in

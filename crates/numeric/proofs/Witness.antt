@@ -38,7 +38,7 @@ abbrev both : List ℕ
 both = 0 ∷ 1 ∷ []
 
 abbrev pub S : System
-S = record { n = 2; lower = lower; upper = listAt starts both (1 ∷ []); entries = λ k. pairs both (values k); rhs = right }
+S = record { n = 2; lower = lower; upper = listAt starts both (1 ∷ []); entries = λ k. pairs both (values k); rhs = right; floor = nought }
 
 nothing : (P : ℕ → Type 0) (i : ℕ) → i < 0 → P i
 nothing P i h = absurd (not-suc-le-zero h)
@@ -103,11 +103,11 @@ closed = two _
     second : (i j : ℕ) → 0 ≡ i → has (S .upper i) j ≡ true → has (0 ∷ 1 ∷ []) j ≡ true
     second i j e u = rw (← one-of 1 j (rw (← e) at u)) refl
 
-pub lent : (k : ℕ) → k < 2 → RowLent S k (lower k) (placed both both) (values k) (right k)
+pub lent : (k : ℕ) → k < 2 → RowLent S k (lower k) (placed both both) (values k) (right k) nought
 unfolding has listAt placed ofBits
 lent = two _
-    (record { entries = refl; right = refl; below = refl; filled = two _ refl refl; sum = refl; fine = two _ refl refl })
-    (record { entries = refl; right = refl; below = refl; filled = two _ refl refl; sum = refl; fine = two _ refl refl })
+    (record { entries = refl; right = refl; under = refl; below = refl; filled = two _ refl refl; sum = refl; fine = two _ refl refl })
+    (record { entries = refl; right = refl; under = refl; below = refl; filled = two _ refl refl; sum = refl; fine = two _ refl refl })
 
 pub held : RowsHeld S [] 2 0 (replicate 6 nought) starts both (1 ∷ []) (nought ∷ [])
 held = held-start S 2 (replicate 6 nought) starts both (1 ∷ []) (nought ∷ []) refl (λ i h. refl) refl refl

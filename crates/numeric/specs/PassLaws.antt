@@ -95,12 +95,12 @@ module _ (S : System) (rows : List Row) (n k : ℕ) (f : List Float) (starts run
     sym (getD-drop n (W ++ drop n f) i nan) ∙ ap (λ (t : List Float). getD t i nan) (drop-at W (drop n f) n lw) ∙ y-at i l,
   )
 
-  module _ (lower places : List ℕ) (vs : List Float) (b : Float) (L : RowLent S k lower places vs b) (C : Closed S k) (T : StoreShape n starts runs upper (length u)) where
+  module _ (lower places : List ℕ) (vs : List Float) (b floor : Float) (L : RowLent S k lower places vs b floor) (C : Closed S k) (T : StoreShape n starts runs upper (length u)) where
     pub reduced : (W g v : List Float) (s r : RowSums) (above : List ℕ) (from : ℕ) (answer : Pivot) → s .sum ≡ b
         → load any (pairs places vs) (take n f) ≡ ok W → length W ≡ length (take n f)
         → Eliminated n lower (storeGiven n (W ++ drop n f) starts runs upper u) (W ++ drop n f) g s r
         → above ≡ listAt starts runs upper k → from ≡ getD starts k 0
-        → Finished k above from (take n g) u v (r .sum) answer
+        → Finished k floor above from (take n g) u v (r .sum) answer
         → Reduced S rows n k starts f g u v answer
     unfolding listAt
     reduced W g v s r above from answer es ld lw E ea ef F =
@@ -114,7 +114,7 @@ module _ (S : System) (rows : List Row) (n k : ℕ) (f : List Float) (starts run
         let la : length above ≡ getD starts (k + 1) 0 - getD starts k 0 = ap length ea ∙ list-length starts runs upper k (T .list k h) in
         let slots : take (length above) (drop from v) ≡ rowOf starts v k = rw (la, ef) in
         record {
-          answer = rw (← slots) (F .answer (gathered (S .lower k) (take n g)) ∙ rw up (row-is S k C rows G lower places vs b W (E .l) (take n g) (r .sum) hs L loaded (rows-same W ln) ran));
+          answer = rw (← slots) (F .answer (gathered (S .lower k) (take n g)) ∙ rw up (row-is S k C rows G lower places vs b floor W (E .l) (take n g) (r .sum) hs L loaded (rows-same W ln) ran));
           kept = E .kept ∙ drop-at W (drop n f) n ln;
           stored = λ t e.
               let st = F .stored t e in
@@ -122,7 +122,7 @@ module _ (S : System) (rows : List Row) (n k : ℕ) (f : List Float) (starts run
               sym slots ∙ ap (λ (l : List Float). take (length above) (drop from l)) st
               ∙ sets-part u (products (t .reciprocal) (take n g) above) from (length above) (products-length (t .reciprocal) (take n g) above) (omega (arith, T .values k h)) in
               st ∙ rw (here, ef);
-          outside = λ j l e. sym (getD-take n g j nan l) ∙ row-outside S k C rows G lower places vs b W (E .l) (take n g) (r .sum) hs L loaded (rows-same W ln) ran j (rw (H .size) l) e;
+          outside = λ j l e. sym (getD-take n g j nan l) ∙ row-outside S k C rows G lower places vs b floor W (E .l) (take n g) (r .sum) hs L loaded (rows-same W ln) ran j (rw (H .size) l) e;
         }
 
   -- ---- the stores before row k + 1
@@ -231,10 +231,10 @@ at-ok k x y e = by-test (finite x)
     (λ f. rw (← ok-inj (rw f at e)) f)
     (λ f. let z : met (overflow k) ≡ ok y = rw f at e in absurd (let w : _≡_ {A = ℕ} 0 1 = cc in omega arith))
 
-finish-y : (k : ℕ) (above : List ℕ) (a : Work) (r : Row) → finish (at k) k above a ≡ ok r → finite (r .y) ≡ true
+finish-y : (k : ℕ) (floor : Float) (above : List ℕ) (a : Work) (r : Row) → finish (at k) k floor above a ≡ ok r → finite (r .y) ≡ true
 unfolding finish
-finish-y k above a r e =
-    let p = bind-ok (pivot k (getD (a .w) k nan)) _ r e in
+finish-y k floor above a r e =
+    let p = bind-ok (pivot k floor (getD (a .w) k nan)) _ r e in
     let d = bind-ok (at k (div binary64 one (p .0))) _ r (p .2) in
     let y = bind-ok (at k (mul binary64 (a .s) (d .0))) _ r (d .2) in
     let u = bind-ok (scaled (at k) (d .0) (a .w) above) _ r (y .2) in
@@ -245,7 +245,7 @@ unfolding row
 row-y S rows k r e =
     let a = bind-ok (start (at k) S k) _ r e in
     let b = bind-ok (steps (at k) (given S rows) (S .lower k) (a .0)) _ r (a .2) in
-    finish-y k (S .upper k) (b .0) r (b .2)
+    finish-y k (S .floor) (S .upper k) (b .0) r (b .2)
 
 forward-y : (S : System) (k : ℕ) (rows : List Row) → forward S k 0 [] ≡ ok rows → (i : ℕ) → i < k → finite (getD rows i none .y) ≡ true
 forward-y S zero rows e i h = absurd (omega arith)

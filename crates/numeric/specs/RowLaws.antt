@@ -125,8 +125,8 @@ finiteOn-append (i ∷ is) js w h = by-test (finite (getD w i nan))
     (λ f. let z : false ≡ true = rw f at h in absurd (true≢false (sym z)))
 
 -- so the row's end need not test them
-pub end-same : (k : ℕ) (is above : List ℕ) (a : Work) → (finite (a .s) ≡ true → finiteOn is (a .w) ≡ true) → rowEnd k is above a ≡ rowEnd k [] above a
-end-same k is above a h = by-test (finite (a .s)) (λ f. rw (f, finiteOn-append is (k ∷ above) (a .w) (h f))) (λ f. rw f)
+pub end-same : (k : ℕ) (floor : Float) (is above : List ℕ) (a : Work) → (finite (a .s) ≡ true → finiteOn is (a .w) ≡ true) → rowEnd k floor is above a ≡ rowEnd k floor [] above a
+end-same k floor is above a h = by-test (finite (a .s)) (λ f. rw (f, finiteOn-append is (k ∷ above) (a .w) (h f))) (λ f. rw f)
 
 -- ---- step 1
 
@@ -171,8 +171,8 @@ module _ (S : System) (k : ℕ) (C : Closed S k) where
   range h j m =
       filled-cases S k j m (λ a. omega (arith, C .left j a)) (λ e. omega (arith, e)) (λ b. C .range j b)
 
-  module _ (rows : List Row) (G : Given) (lower places : List ℕ) (vs : List Float) (b : Float) (W l w : List Float) (s : Float) (h : k < S .n)
-      (L : RowLent S k lower places vs b) (loaded : load any (pairs places vs) (replicate (S .n) nought) ≡ ok W)
+  module _ (rows : List Row) (G : Given) (lower places : List ℕ) (vs : List Float) (b floor : Float) (W l w : List Float) (s : Float) (h : k < S .n)
+      (L : RowLent S k lower places vs b floor) (loaded : load any (pairs places vs) (replicate (S .n) nought) ≡ ok W)
       (same : (i : ℕ) → i < k → Same G (given S rows) i) (ran : steps any G lower (work [] W b) ≡ ok (work l w s)) where
     each : (j : ℕ) → (finite (getD (replicate (S .n) nought) j nan) ≡ true → finite (getD W j nan) ≡ true)
         × (has (filledRow S k) j ≡ false → getD W j nan ≡ getD (replicate (S .n) nought) j nan) × (length W ≡ length (replicate (S .n) nought))
@@ -197,10 +197,10 @@ module _ (S : System) (k : ℕ) (C : Closed S k) where
     began = rw (L .entries, L .right, load-same (at k) (pairs places vs) (replicate (S .n) nought), loaded)
 
     -- the row's answer from its end
-    pub row-is : rowEnd k [] (S .upper k) (work (gathered (S .lower k) w) w s) ≡ row S rows k
+    pub row-is : rowEnd k floor [] (S .upper k) (work (gathered (S .lower k) w) w s) ≡ row S rows k
     row-is =
-        rw (← ms .0)
-        (sym (end-same k (S .lower k) (S .upper k) (work l w s) (ms .1))
+        rw (← ms .0, ← L .under)
+        (sym (end-same k (S .floor) (S .lower k) (S .upper k) (work l w s) (ms .1))
         ∙ sym (row-at S rows k (filledRow S k) (work [] W b) (work l w s) began run within
         (λ j m. omega (arith, each j .2, length-replicate (S .n) nought, inside j m)) (L .sum)
         (on-all (filledRow S k) W (λ j m. each j .0 (rw (getD-replicate (S .n) j nought nan (inside j m)))))))

@@ -29,10 +29,11 @@ pub record Closed (S : System) (k : ℕ) : Type 0 where
   pub range : (j : ℕ) → has (S .upper k) j ≡ true → j < S .n
   pub within : (i j : ℕ) → has (S .lower k) i ≡ true → has (S .upper i) j ≡ true → has (filledRow S k) j ≡ true
 
--- row k as it is lent: its entries, finite, at filled places, its right side, and its lower row
-pub record RowLent (S : System) (k : ℕ) (lower places : List ℕ) (values : List Float) (b : Float) : Type 0 where
+-- row k as it is lent: its entries, finite, at filled places, its right side, the floor, and its lower row
+pub record RowLent (S : System) (k : ℕ) (lower places : List ℕ) (values : List Float) (b floor : Float) : Type 0 where
   pub entries : S .entries k ≡ pairs places values
   pub right : S .rhs k ≡ b
+  pub under : S .floor ≡ floor
   pub below : S .lower k ≡ lower
   pub filled : (p : ℕ) → p < length places → has (filledRow S k) (getD places p 0) ≡ true
   pub sum : finite b ≡ true

@@ -64,8 +64,8 @@ numbered k l u Zero = met (zeroPivot k)
 numbered k l u Overflow = met (overflow k)
 
 -- what step 3 leaves: its answer, with the u that stand in their slots, and in a row that is kept nothing else is written
-pub record Finished (k : ℕ) (above : List ℕ) (from : ℕ) (w u v : List Float) (s : Float) (r : Pivot) : Type 0 where
-  pub answer : (l : List Float) → numbered k l (take (length above) (drop from v)) r ≡ rowEnd k [] above (work l w s)
+pub record Finished (k : ℕ) (floor : Float) (above : List ℕ) (from : ℕ) (w u v : List Float) (s : Float) (r : Pivot) : Type 0 where
+  pub answer : (l : List Float) → numbered k l (take (length above) (drop from v)) r ≡ rowEnd k floor [] above (work l w s)
   pub stored : (t : RowSums) → r ≡ Usable t → v ≡ sets u from (products (t .reciprocal) w above)
 
 -- w at the listed places

@@ -154,29 +154,30 @@ fn scale(w: &[f64], columns: &[Index], u: &mut [f64], from: usize, d: f64) -> bo
     true
 }
 
-// What a row comes to: its sums where the pivot can be divided by and every result is finite.
+// What a row comes to: its sums where the pivot is above the floor and every result is finite; Zero is 12, a pivot of at most the floor.
 pub enum Pivot {
     Usable(RowSums),
     Zero,
     Overflow,
 }
 
-// Does step 3: one test of the row, the pivot, its reciprocal, y, and u into its slots.
+// Does step 3: one test of the row, the pivot under the floor, its reciprocal, y, and u into its slots.
 pub fn finish_row(
     w: &[f64],
     k: usize,
+    floor: f64,
     above: &[Index],
     u: &mut [f64],
     from: usize,
     row: RowSums,
 ) -> Pivot
     requires { ⌜ (k < length (now w)) × Below (length (now w)) (now above) × (from + length (now above) ≤ length (now u)) ⌝ }
-    ensures { λ r. ⌜ Finished k (now (above .entry)) from (now (w .entry)) (now (u .entry)) (now (u .exit)) (row .sum) r ⌝ }
+    ensures { λ r. ⌜ Finished k floor (now (above .entry)) from (now (w .entry)) (now (u .entry)) (now (u .exit)) (row .sum) r ⌝ }
 {
     let sum = row.sum;
     if row_finite(w, k, above, sum) {
         let p = w[k];
-        if p == 0.0 {
+        if base::at_most(p, floor) {
             return Pivot::Zero;
         }
         let d = 1.0 / p;
@@ -206,6 +207,7 @@ pub fn reduce_row(
     columns: &[Index],
     values: &[f64],
     b: f64,
+    floor: f64,
     lower: &[u32],
     starts: &[u32],
     runs: &[u32],
@@ -215,7 +217,7 @@ pub fn reduce_row(
     requires { ⌜ Reducible n k (length (now f)) (now marks) (now columns) (now values) (now lower) (now starts) (now runs) (now upper) (length (now u)) ⌝ }
     ensures { λ r. ⌜ ((S : System) (rows : List Row)
         → RowsHeld S rows n k (now (f .entry)) (now (starts .entry)) (now (runs .entry)) (now (upper .entry)) (now (u .entry))
-        → RowLent S k (now (lower .entry)) (placed (orderOf n (now (marks .entry))) (now (columns .entry))) (now (values .entry)) b
+        → RowLent S k (now (lower .entry)) (placed (orderOf n (now (marks .entry))) (now (columns .entry))) (now (values .entry)) b floor
         → Closed S k
         → Reduced S rows n k (now (starts .entry)) (now (f .entry)) (now (f .exit)) (now (u .entry)) (now (u .exit)) r) ⌝ }
 {
@@ -228,7 +230,7 @@ pub fn reduce_row(
     let row = eliminate(f, n, lower, starts, runs, upper, u, sums);
     let above = lent::list_at(starts, runs, upper, k);
     let from = base::slot(starts[k]);
-    finish_row(&f[..n], k, above, u, from, row)
+    finish_row(&f[..n], k, floor, above, u, from, row)
 }
 
 // +0 at the listed places.

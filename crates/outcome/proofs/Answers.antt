@@ -6,13 +6,14 @@ use Prim.Native.Nat.{ℕ, zero, suc, _+_}
 use native.Mathlib.Omega.{arith}
 use lib.ListN.{length, getD}
 use lib.Ieee.{Float}
+use Rattle.base.specs.Magnitude.{isFloor}
 use Rattle.fill.specs.Fill.{Pattern, filled}
 use Rattle.base.specs.First.{first}
 use Rattle.base.specs.All.{all}
-use Rattle.matrix.specs.Questions.{badStart, badColumn, badIndex, notFinite, emptyRow, repeatRow, askSolve, ask3, ask4, ask5, ask6, ask7, ask8, askFinite, askPattern, askRows, askStructure, askRight}
+use Rattle.matrix.specs.Questions.{badStart, badColumn, badIndex, notFinite, emptyRow, repeatRow, askSolve, ask3, ask4, ask5, ask6, ask7, ask8, askFinite, askFloor, askNumbers, askPattern, askRows, askStructure, askRight}
 use Rattle.arithmetic.specs.Arith.{Out, ok, met, Result}
 use Rattle.base.specs.declared.Counts.{Counts}
-use Rattle.base.specs.declared.Refusal.the-variants.{Rows, Lengths, Starts, Column, Order, NotFinite, EmptyRow, Repeated, NullPivot, LowerSlots, UpperSlots}
+use Rattle.base.specs.declared.Refusal.the-variants.{Rows, Lengths, Starts, Column, Order, NotFinite, EmptyRow, Repeated, NullPivot, LowerSlots, UpperSlots, Floor}
 use Rattle.base.specs.declared.Asked.{Asked}
 use Rattle.base.specs.declared.Asked.the-variants.{Pass, Stop}
 use Rattle.base.specs.declared.Answer.{Answer}
@@ -93,7 +94,7 @@ pub shape-within : (f : Form) (i : Input) (z : Sizes) → Within 1 2 (shape f i 
 unfolding shape
 shape-within f i z = ask-shape-within (i .n) (matrixTests i ++ bufferTests f (i .n) z)
 
-ask5-within : (n : ℕ) (r c : List ℕ) → Within 5 5 (ask5 n r c)
+pub ask5-within : (n : ℕ) (r c : List ℕ) → Within 5 5 (ask5 n r c)
 unfolding ask5
 ask5-within n r c =
     within-then 5 5 (absent (first (badIndex r n) n) Order) (absent (first (badIndex c n) n) (λ k. Order (k + n)))
@@ -104,7 +105,7 @@ finite-within : (v : List Float) (from : ℕ) → Within 6 6 (askFinite v from)
 unfolding askFinite
 finite-within v from = within-absent 6 6 (first (notFinite v) (length v)) (λ k. NotFinite (k + from)) (λ k. omega arith) (λ k. omega arith)
 
-pattern-within : (i : Input) → Within 3 5 (askPattern i)
+pub pattern-within : (i : Input) → Within 3 5 (askPattern i)
 unfolding askPattern ask3 ask4
 pattern-within i =
     within-then 3 5 (ask3 (i .n) (length (i .columns)) (i .starts)) (andThen (ask4 (i .n) (i .columns)) (ask5 (i .n) (i .r) (i .c)))
@@ -113,7 +114,7 @@ pattern-within i =
     (within-absent 3 5 (first (badColumn (i .columns) (i .n)) (length (i .columns))) Column (λ k. omega arith) (λ k. omega arith))
     (within-wide 5 5 3 5 _ (omega arith) (omega arith) (ask5-within (i .n) (i .r) (i .c))))
 
-rows-within : (i : Input) → Within 7 8 (askRows i)
+pub rows-within : (i : Input) → Within 7 8 (askRows i)
 unfolding askRows ask7 ask8
 rows-within i =
     within-then 7 8 (ask7 (i .n) (i .starts) (i .r)) (ask8 (i .n) (i .starts) (i .columns) (i .r))
@@ -126,11 +127,13 @@ structure-within i =
     within-then 3 8 (askPattern i) (askRows i) (within-wide 3 5 3 8 _ (omega arith) (omega arith) (pattern-within i)) (within-wide 7 8 3 8 _ (omega arith) (omega arith) (rows-within i))
 
 pub solve-within : (i : Input) → Within 3 8 (askSolve i)
-unfolding askSolve ask6
+unfolding askSolve askNumbers ask6 askFloor
 solve-within i =
-    within-then 3 8 (askPattern i) (andThen (ask6 (i .values) (i .b)) (askRows i)) (within-wide 3 5 3 8 _ (omega arith) (omega arith) (pattern-within i))
-    (within-then 3 8 (ask6 (i .values) (i .b)) (askRows i)
-    (within-wide 6 6 3 8 _ (omega arith) (omega arith) (within-then 6 6 (askFinite (i .values) 0) (askFinite (i .b) (length (i .values))) (finite-within (i .values) 0) (finite-within (i .b) (length (i .values)))))
+    within-then 3 8 (askPattern i) _ (within-wide 3 5 3 8 _ (omega arith) (omega arith) (pattern-within i))
+    (within-then 3 8 (askNumbers (i .values) (i .b) (i .floor)) (askRows i)
+    (within-wide 6 6 3 8 _ (omega arith) (omega arith) (within-then 6 6 (ask6 (i .values) (i .b)) (askFloor (i .floor))
+    (within-then 6 6 (askFinite (i .values) 0) (askFinite (i .b) (length (i .values))) (finite-within (i .values) 0) (finite-within (i .b) (length (i .values))))
+    (within-holds 6 6 (isFloor (i .floor)) Floor (omega arith) (omega arith))))
     (within-wide 7 8 3 8 _ (omega arith) (omega arith) (rows-within i)))
 
 pub right-within : (n : ℕ) (r c : List ℕ) (b : List Float) → Within 5 6 (askRight n r c b)
@@ -157,7 +160,7 @@ places-within f P n z (suc k) =
 
 -- ---- the stated lengths leave question 2 to the matrix
 
--- questions 1 to 8 of the matrix, its orders and b
+-- questions 1 to 8 and 19 of the matrix, its orders, b and the floor
 unfoldable pub ofMatrix : Input → Asked
 ofMatrix i = andThen (askShape (i .n) (matrixTests i)) (askSolve i)
 

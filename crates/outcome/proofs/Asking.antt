@@ -1,9 +1,12 @@
--- Laws of questions: what a stop tells, and the numbers that a run of questions can give.
+-- Laws of questions: what a stop tells, and the turns that a run of questions can give.
 use mathlib.Core.Path.{_≡_, sym}
-use mathlib.Core.Bool.{Bool, true, false}
+use mathlib.Core.Bool.{Bool, true, false, cond}
 use mathlib.Core.List.{List, _++_}
-use Prim.Native.Nat.{ℕ, _+_, _≤_}
+use Prim.Native.Nat.{ℕ, _+_, _*_, _≤_}
 use native.Mathlib.Omega.{arith}
+use lib.Dec.{eqb}
+use borrow.Author.Tests.{eqb-true}
+use Rattle.base.specs.Lists.{bit}
 use Rattle.base.specs.Answers.{numberOf, holds, absent, andThen}
 use Rattle.base.specs.FirstLaws.{stop-pass}
 use Rattle.base.specs.All.{all}
@@ -12,7 +15,7 @@ use Rattle.base.specs.Tests.{by-test}
 use Rattle.base.specs.declared.Found.{Found}
 use Rattle.base.specs.declared.Found.the-variants.{At, Nothing}
 use Rattle.base.specs.declared.Refusal.{Refusal}
-use Rattle.base.specs.declared.Refusal.the-variants.{Rows, Lengths, Starts, Column, Order, NotFinite, EmptyRow, Repeated, NullPivot, LowerSlots, UpperSlots, ZeroPivot, Overflow, OtherStructure, BadFactors, FileLength, Block, FileShape}
+use Rattle.base.specs.declared.Refusal.the-variants.{Rows, Lengths, Starts, Column, Order, NotFinite, EmptyRow, Repeated, NullPivot, LowerSlots, UpperSlots, ZeroPivot, Overflow, OtherStructure, BadFactors, FileLength, Block, FileShape, Floor}
 use Rattle.base.specs.declared.Asked.{Asked}
 use Rattle.base.specs.declared.Asked.the-variants.{Pass, Stop}
 
@@ -39,10 +42,20 @@ number-some (BadFactors i) e = omega arith
 number-some FileLength e = omega arith
 number-some (Block i) e = omega arith
 number-some FileShape e = omega arith
+number-some Floor e = omega arith
 
--- every refusal's number is between lo and hi
+-- "put right after question 6": the turn of a question is its number, but 19 has 6's
+abbrev pub turnOf : Refusal → ℕ
+turnOf q = cond (eqb (numberOf q) 19) 6 (numberOf q)
+
+-- for `omega`: the number by the turn
+pub turned : (q : Refusal) → (numberOf q ≡ turnOf q + 13 * bit (eqb (numberOf q) 19)) × (bit (eqb (numberOf q) 19) ≤ 1) × (6 * bit (eqb (numberOf q) 19) ≤ turnOf q)
+turned q =
+    by-test (eqb (numberOf q) 19) (λ t. rw t (eqb-true (numberOf q) 19 t, omega arith, omega arith)) (λ t. rw t (omega arith, omega arith, omega arith))
+
+-- every refusal's turn is between lo and hi
 unfoldable pub Within : ℕ → ℕ → Asked → Type 0
-Within lo hi a = (q : Refusal) → a ≡ Stop q → (lo ≤ numberOf q) × (numberOf q ≤ hi)
+Within lo hi a = (q : Refusal) → a ≡ Stop q → (lo ≤ turnOf q) × (turnOf q ≤ hi)
 
 pub within-wide : (lo hi lo′ hi′ : ℕ) (a : Asked) → lo′ ≤ lo → hi ≤ hi′ → Within lo hi a → Within lo′ hi′ a
 unfolding Within
@@ -53,15 +66,15 @@ module _ (lo hi : ℕ) where
   unfolding Within
   within-pass q e = absurd (stop-pass q (sym e))
 
-  pub within-stop : (r : Refusal) → lo ≤ numberOf r → numberOf r ≤ hi → Within lo hi (Stop r)
+  pub within-stop : (r : Refusal) → lo ≤ turnOf r → turnOf r ≤ hi → Within lo hi (Stop r)
   unfolding Within
   within-stop r l h q e = rw (← stop-inj r q e) (l, h)
 
-  pub within-holds : (b : Bool) (r : Refusal) → lo ≤ numberOf r → numberOf r ≤ hi → Within lo hi (holds b r)
+  pub within-holds : (b : Bool) (r : Refusal) → lo ≤ turnOf r → turnOf r ≤ hi → Within lo hi (holds b r)
   within-holds true r l h = within-pass
   within-holds false r l h = within-stop r l h
 
-  pub within-absent : (o : Found) (f : ℕ → Refusal) → ((k : ℕ) → lo ≤ numberOf (f k)) → ((k : ℕ) → numberOf (f k) ≤ hi) → Within lo hi (absent o f)
+  pub within-absent : (o : Found) (f : ℕ → Refusal) → ((k : ℕ) → lo ≤ turnOf (f k)) → ((k : ℕ) → turnOf (f k) ≤ hi) → Within lo hi (absent o f)
   within-absent (At k) f l h = within-stop (f k) (l k) (h k)
   within-absent Nothing f l h = within-pass
 

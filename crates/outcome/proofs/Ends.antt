@@ -4,6 +4,7 @@ use mathlib.Core.List.{List, _++_}
 use Prim.Native.Nat.{ℕ, _≤_}
 use native.Mathlib.Omega.{arith}
 use lib.Ieee.{Float}
+use Rattle.base.specs.Lists.{nought}
 use Rattle.base.specs.Answers.{numberOf, numberOfAnswer, numberOfEnd, spot}
 use Rattle.base.specs.First.{first}
 use Rattle.base.specs.declared.Form.{Form}
@@ -22,7 +23,7 @@ use Rattle.outcome.specs.Structure.{askPlaces, counts, structured, struc
 use Rattle.outcome.specs.Solve.{listed, faultOf, left, concluded, shape, solve}
 use Rattle.outcome.specs.Refactor.{differs, askPresented, emptied, refactored, refactor}
 use Rattle.outcome.specs.Resolve.{badAt, askFactors, factorsOf, resolved, resolve}
-use Rattle.outcome.proofs.Asking.{Within, within-wide, within-stop, within-absent}
+use Rattle.outcome.proofs.Asking.{turnOf, turned, Within, within-wide, within-stop, within-absent}
 use Rattle.outcome.proofs.Answers.{ask-shape-within, shape-within, structure-within, solve-within, right-within, places-within}
 
 -- of a call that was lent s, and leaves t after 9 to 13
@@ -31,6 +32,8 @@ pub record Ends {A : Type 0} (number : A → ℕ) (s t : Buffers) (o : Outcome A
   pub nothing : 1 ≤ number (o .answer) → number (o .answer) ≤ 2 → o .buffers ≡ s
   -- "After 3 to 8, 14 and 15 scratch is zero and all else untouched."
   pub scratch : 3 ≤ number (o .answer) → number (o .answer) ≤ 8 → o .buffers ≡ scratchCleared s
+  -- 19: "buffers as after 6"
+  pub floor : number (o .answer) ≡ 19 → o .buffers ≡ scratchCleared s
   pub checked : 14 ≤ number (o .answer) → number (o .answer) ≤ 15 → o .buffers ≡ scratchCleared s
   -- "After 9 to 13 scratch is zero and so is every other buffer but x that this call writes."
   pub all : 9 ≤ number (o .answer) → number (o .answer) ≤ 13 → o .buffers ≡ t
@@ -40,7 +43,7 @@ pub record Ends {A : Type 0} (number : A → ℕ) (s t : Buffers) (o : Outcome A
 module _ {A : Type 0} (number : A → ℕ) (refuse : Refusal → A) (told : (q : Refusal) → number (refuse q) ≡ numberOf q) (s t : Buffers) (same : t .x ≡ s .x) where
   done : (a : A) (u : Buffers) → number a ≡ 0 → Ends number s t (ended a u)
   done a u e =
-      record { nothing = λ l h. absurd (omega arith); scratch = λ l h. absurd (omega arith); checked = λ l h. absurd (omega arith); all = λ l h. absurd (omega arith); x = λ l. absurd (omega arith) }
+      record { nothing = λ l h. absurd (omega arith); scratch = λ l h. absurd (omega arith); floor = λ l. absurd (omega arith); checked = λ l h. absurd (omega arith); all = λ l h. absurd (omega arith); x = λ l. absurd (omega arith) }
 
   stop-first : (a : Asked) (o : Outcome A) → Within 1 2 a → Ends number s t o → Ends number s t (stop refuse a s o)
   unfolding Within
@@ -48,7 +51,8 @@ module _ {A : Type 0} (number : A → ℕ) (refuse : Refusal → A) (told : (q :
   stop-first (Stop q) o w h =
       let r = w q refl in
       let e = told q in
-      record { nothing = λ l h. refl; scratch = λ l h. absurd (omega arith); checked = λ l h. absurd (omega arith); all = λ l h. absurd (omega arith); x = λ l. refl }
+      let v = turned q in
+      record { nothing = λ l h. refl; scratch = λ l h. absurd (omega arith); floor = λ l. absurd (omega arith); checked = λ l h. absurd (omega arith); all = λ l h. absurd (omega arith); x = λ l. refl }
 
   stop-scratch : (a : Asked) (o : Outcome A) → Within 3 8 a → Ends number s t o → Ends number s t (stop refuse a (scratchCleared s) o)
   unfolding Within scratchCleared
@@ -56,7 +60,8 @@ module _ {A : Type 0} (number : A → ℕ) (refuse : Refusal → A) (told : (q :
   stop-scratch (Stop q) o w h =
       let r = w q refl in
       let e = told q in
-      record { nothing = λ l h. absurd (omega arith); scratch = λ l h. refl; checked = λ l h. absurd (omega arith); all = λ l h. absurd (omega arith); x = λ l. refl }
+      let v = turned q in
+      record { nothing = λ l h. absurd (omega arith); scratch = λ l h. refl; floor = λ l. refl; checked = λ l h. absurd (omega arith); all = λ l h. absurd (omega arith); x = λ l. refl }
 
   stop-checked : (a : Asked) (o : Outcome A) → Within 14 15 a → Ends number s t o → Ends number s t (stop refuse a (scratchCleared s) o)
   unfolding Within scratchCleared
@@ -64,7 +69,8 @@ module _ {A : Type 0} (number : A → ℕ) (refuse : Refusal → A) (told : (q :
   stop-checked (Stop q) o w h =
       let r = w q refl in
       let e = told q in
-      record { nothing = λ l h. absurd (omega arith); scratch = λ l h. absurd (omega arith); checked = λ l h. refl; all = λ l h. absurd (omega arith); x = λ l. refl }
+      let v = turned q in
+      record { nothing = λ l h. absurd (omega arith); scratch = λ l h. absurd (omega arith); floor = λ l. absurd (omega arith); checked = λ l h. refl; all = λ l h. absurd (omega arith); x = λ l. refl }
 
   stop-all : (a : Asked) (o : Outcome A) → Within 9 13 a → Ends number s t o → Ends number s t (stop refuse a t o)
   unfolding Within
@@ -72,13 +78,14 @@ module _ {A : Type 0} (number : A → ℕ) (refuse : Refusal → A) (told : (q :
   stop-all (Stop q) o w h =
       let r = w q refl in
       let e = told q in
-      record { nothing = λ l h. absurd (omega arith); scratch = λ l h. absurd (omega arith); checked = λ l h. absurd (omega arith); all = λ l h. refl; x = λ l. same }
+      let v = turned q in
+      record { nothing = λ l h. absurd (omega arith); scratch = λ l h. absurd (omega arith); floor = λ l. absurd (omega arith); checked = λ l h. absurd (omega arith); all = λ l h. refl; x = λ l. same }
 
-fault-range : (q : Fault) → (9 ≤ numberOf (faultOf q)) × (numberOf (faultOf q) ≤ 13)
+fault-range : (q : Fault) → (9 ≤ turnOf (faultOf q)) × (turnOf (faultOf q) ≤ 13)
 fault-range (zeroPivot k) = (omega arith, omega arith)
 fault-range (overflow k) = (omega arith, omega arith)
 
-fault-within : (q : Fault) → Within 9 13 (Stop (faultOf q))
+pub fault-within : (q : Fault) → Within 9 13 (Stop (faultOf q))
 fault-within q = within-stop 9 13 (faultOf q) (fault-range q .0) (fault-range q .1)
 
 answer-told : (q : Refusal) → numberOfAnswer (Refused q) ≡ numberOf q
@@ -140,7 +147,7 @@ module _ (f : Form) (i : Input) (s : Buffers) where
   resolved-ends (met q) =
       stop-all numberOfEnd ends.Refused end-told s (scratchCleared s) refl (Stop (faultOf q)) (ended ends.Done s) (fault-within q) (done numberOfEnd ends.Refused end-told s (scratchCleared s) refl ends.Done s refl)
 
-  factored : Within 14 15 (askFactors f (i .n) s)
+  pub factored : Within 14 15 (askFactors f (i .n) s)
   unfolding askFactors
   factored = within-absent 14 15 (first (badAt f (i .n) s) (i .n)) (λ k. BadFactors (spot k)) (λ k. omega arith) (λ k. omega arith)
 
@@ -150,4 +157,4 @@ module _ (f : Form) (i : Input) (s : Buffers) where
       stop-first numberOfEnd ends.Refused end-told s (scratchCleared s) refl (askShape (i .n) (rightTests i ++ bufferTests f (i .n) (sizes s))) _ (ask-shape-within (i .n) (rightTests i ++ bufferTests f (i .n) (sizes s)))
       (stop-scratch numberOfEnd ends.Refused end-told s (scratchCleared s) refl (askRight (i .n) (i .r) (i .c) (i .b)) _ (within-wide 5 6 3 8 _ (omega arith) (omega arith) (right-within (i .n) (i .r) (i .c) (i .b)))
       (stop-checked numberOfEnd ends.Refused end-told s (scratchCleared s) refl (askFactors f (i .n) s) _ factored
-      (resolved-ends (judged (wholeAgain (factorsOf f i s))))))
+      (resolved-ends (judged nought (wholeAgain (factorsOf f i s))))))

@@ -1,12 +1,12 @@
 -- Every buffer is as long at exit as at entry: what the definition says of them can be held.
 use mathlib.Core.Path.{_≡_, refl, sym, ap, _∙_}
 use mathlib.Core.Bool.{true}
-use mathlib.Core.List.{List, [], _∷_, _++_, map}
-use Prim.Native.Nat.{ℕ, zero, suc, _+_, _-_, _≤_, _<_}
+use mathlib.Core.List.{List, [], _∷_, _++_}
+use Prim.Native.Nat.{ℕ, zero, suc, _+_, _≤_, _<_}
 use native.Mathlib.Omega.{arith}
 use native.Mathlib.Numerals.{add-one}
-use lib.ListN.{length, getD, replicate, length-append, length-replicate, length-map}
-use lib.Dec.{leb, eqb}
+use lib.ListN.{length, getD, length-append, length-replicate, length-map}
+use lib.Dec.{leb}
 use Rattle.base.specs.declared.Side.the-variants.{Lower, Upper}
 use Rattle.base.specs.declared.Answer.the-variants.{Refused}
 use Rattle.outcome.specs.Structure.{sidePlaced, fits, askPlaces, runsKept}
@@ -22,7 +22,7 @@ use Rattle.base.specs.declared.SideSizes.{SideSizes}
 use Rattle.base.specs.declared.Sizes.{Sizes}
 use Rattle.base.specs.ZerosLaws.{padded-length}
 use Rattle.fill.specs.Fill.{Pattern, flip, upperRow, upper}
-use Rattle.base.specs.Lists.{nought, table, padded, joined}
+use Rattle.base.specs.Lists.{nought, joined}
 use Rattle.base.specs.TableLaws.{length-table}
 use Rattle.placement.specs.Placing.{Way, after, placed, startOf}
 use Rattle.arithmetic.specs.Arith.{Out, ok, met, Row, none, Result, wholeRun}
@@ -37,7 +37,7 @@ use Rattle.base.specs.declared.Side.{Side}
 use Rattle.outcome.specs.Forms.{listsOf, wayOf, rowsOf, placedTo, indexNeed, valueNeed}
 use Rattle.matrix.specs.Questions.{askSolve}
 use Rattle.outcome.proofs.Places.{places-pass}
-use Rattle.arithmetic.specs.Factors.{Long, LongTo, whole-length}
+use Rattle.arithmetic.specs.Factors.{LongTo, whole-length}
 use lib.Ieee.{Float}
 use borrow.Author.Tests.{eqb-true, leb-true}
 
@@ -138,7 +138,7 @@ kept-same f i z a u v d x h =
 
 pub long-listed : (i : Input) (a : Result) → listed i ≡ ok a → LongTo (system i) (i .n) (a .rows)
 unfolding listed system
-long-listed i a e = rw (← judged-value (wholeRun (system i)) a e) (whole-length (system i))
+long-listed i a e = rw (← judged-value (i .floor) (wholeRun (system i)) a e) (whole-length (system i))
 
 own-length : (i : Input) (z : List Float) → length (ownOrder (i .c) (i .n) z) ≡ i .n
 unfolding ownOrder

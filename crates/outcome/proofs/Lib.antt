@@ -4,3 +4,5 @@ pub mod Answers
 pub mod Ends
 pub mod Lengths
 pub mod Meaning
+pub mod FloorZero
+pub mod NoFloor

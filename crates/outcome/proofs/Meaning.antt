@@ -24,7 +24,7 @@ use Rattle.outcome.specs.Solve.{system, listed}
 
 -- the listed operations up to the first fault
 pub listed-stops : (i : Input) → listed i ≡ solved (system i)
-unfolding listed
+unfolding listed system
 listed-stops i = solved-is (system i)
 
 -- x(c(k)) = z(k)

@@ -7,3 +7,4 @@ pub mod Resolve
 pub mod Placed
 pub mod Calls
 pub mod Again
+pub mod WithoutFloor

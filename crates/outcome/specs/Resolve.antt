@@ -105,4 +105,4 @@ resolve f i s =
     stop Refused (askShape (i .n) (rightTests i ++ bufferTests f (i .n) (sizes s))) s
     (stop Refused (askRight (i .n) (i .r) (i .c) (i .b)) (scratchCleared s)
     (stop Refused (askFactors f (i .n) s) (scratchCleared s)
-    (resolved i s (judged (wholeAgain (factorsOf f i s))))))
+    (resolved i s (judged nought (wholeAgain (factorsOf f i s))))))

@@ -1,4 +1,4 @@
--- The solve in its three forms: questions 1 to 13 in order, the answer, and what every buffer holds at the end. Definitions only.
+-- The solve in its three forms: questions 1 to 6, 19 and 7 to 13 in order, the answer, and what every buffer holds at the end. Definitions only.
 use mathlib.Core.Path.{_≡_}
 use mathlib.Core.List.{List, [], _++_, map}
 use Prim.Native.Nat.{ℕ}
@@ -33,11 +33,12 @@ system i =
       upper = upperRow (stored i) (i .n);
       entries = entries i;
       rhs = rightAt i;
+      floor = i .floor;
     }
 
--- the listed operations, judged: 12 or 13 at the place at work, or factors and z
+-- the listed operations, judged under the floor: 12 or 13 at the place at work, or factors and z
 unfoldable pub listed : Input → Out Result
-listed i = judged (wholeRun (system i))
+listed i = judged (i .floor) (wholeRun (system i))
 
 -- 12 and 13
 abbrev pub faultOf : Fault → Refusal

@@ -1,7 +1,7 @@
-// The calls of the plain form. Their stages are in stages/specs: Asking for questions 1 to 8, Stages and Ends for what is left of a call after them.
+// The calls of the plain form. Their stages are in stages/specs: Asking for the questions before 9, Stages and Ends for what is left of a call after them.
 ghost use mathlib.Core.List.{[]};
 ghost use Rattle.base.specs.declared.Form.the-variants.{Plain};
-ghost use Rattle.matrix.specs.Input.{inputOf};
+ghost use Rattle.matrix.specs.Input.{inputOf, withFloor};
 ghost use Rattle.outcome.specs.Buffers.{plainBuffers, sizes};
 ghost use Rattle.outcome.specs.Calls.{StructuresPlain, SolvesPlain};
 ghost use Rattle.stages.specs.Stages.{Leaves};
@@ -79,7 +79,7 @@ pub fn structure_plain(
     a
 }
 
-// Finds the structure, factors, and writes x: what is left of the solve after 1 to 8, but for clearing.
+// Finds the structure, factors, and writes x: what is left of the solve after the questions before 9, but for clearing.
 fn analyze_and_solve(
     n: usize,
     starts: &[u32],
@@ -88,6 +88,7 @@ fn analyze_and_solve(
     r: &[Index],
     c: &[Index],
     b: &[f64],
+    floor: f64,
     lower_starts: &mut [u32],
     lower_index: &mut [Index],
     lower_values: &mut [f64],
@@ -99,8 +100,8 @@ fn analyze_and_solve(
     work: &mut [f64],
     marks: &mut [u32],
 ) -> Answer
-    requires { ⌜ SolveDue Plain (inputOf n (now starts) (now columns) (now values) (now r) (now c) (now b)) (sizes (plainBuffers (now «lower_starts») (now «lower_index») (now «lower_values») (now «upper_starts») (now «upper_index») (now «upper_values») (now d) (now x) (now work) (now marks))) ⌝ }
-    ensures { λ a. ⌜ Leaves Plain (inputOf n (now (starts .entry)) (now (columns .entry)) (now (values .entry)) (now (r .entry)) (now (c .entry)) (now (b .entry)))
+    requires { ⌜ SolveDue Plain (withFloor floor (inputOf n (now starts) (now columns) (now values) (now r) (now c) (now b))) (sizes (plainBuffers (now «lower_starts») (now «lower_index») (now «lower_values») (now «upper_starts») (now «upper_index») (now «upper_values») (now d) (now x) (now work) (now marks))) ⌝ }
+    ensures { λ a. ⌜ Leaves Plain (withFloor floor (inputOf n (now (starts .entry)) (now (columns .entry)) (now (values .entry)) (now (r .entry)) (now (c .entry)) (now (b .entry))))
         (plainBuffers (now («lower_starts» .entry)) (now («lower_index» .entry)) (now («lower_values» .entry)) (now («upper_starts» .entry)) (now («upper_index» .entry)) (now («upper_values» .entry)) (now (d .entry)) (now (x .entry)) (now (work .entry)) (now (marks .entry))) a
         (plainBuffers (now («lower_starts» .exit)) (now («lower_index» .exit)) (now («lower_values» .exit)) (now («upper_starts» .exit)) (now («upper_index» .exit)) (now («upper_values» .exit)) (now (d .exit)) (now (x .exit)) (now (work .exit)) (now (marks .exit))) ⌝ }
 {
@@ -131,6 +132,7 @@ fn analyze_and_solve(
         r,
         c,
         b,
+        floor,
         lower_starts,
         lower_index,
         lower_values,
@@ -155,6 +157,7 @@ pub fn solve_plain(
     r: &[Index],
     c: &[Index],
     b: &[f64],
+    floor: f64,
     lower_starts: &mut [u32],
     lower_index: &mut [Index],
     lower_values: &mut [f64],
@@ -166,7 +169,7 @@ pub fn solve_plain(
     work: &mut [f64],
     marks: &mut [u32],
 ) -> Answer
-    ensures { λ a. ⌜ SolvesPlain (inputOf n (now (starts .entry)) (now (columns .entry)) (now (values .entry)) (now (r .entry)) (now (c .entry)) (now (b .entry)))
+    ensures { λ a. ⌜ SolvesPlain (withFloor floor (inputOf n (now (starts .entry)) (now (columns .entry)) (now (values .entry)) (now (r .entry)) (now (c .entry)) (now (b .entry))))
         (now («lower_starts» .entry)) (now («lower_index» .entry)) (now («lower_values» .entry)) (now («upper_starts» .entry)) (now («upper_index» .entry)) (now («upper_values» .entry)) (now (d .entry)) (now (x .entry)) (now (work .entry)) (now (marks .entry)) a
         (now («lower_starts» .exit)) (now («lower_index» .exit)) (now («lower_values» .exit)) (now («upper_starts» .exit)) (now («upper_index» .exit)) (now («upper_values» .exit)) (now (d .exit)) (now (x .exit)) (now (work .exit)) (now (marks .exit)) ⌝ }
 {
@@ -199,6 +202,7 @@ pub fn solve_plain(
         r,
         c,
         b,
+        floor,
         sizes,
         work,
         marks,
@@ -214,6 +218,7 @@ pub fn solve_plain(
         r,
         c,
         b,
+        floor,
         lower_starts,
         lower_index,
         lower_values,

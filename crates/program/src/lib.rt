@@ -78,6 +78,7 @@ fn solve_into(
         r,
         c,
         b,
+        0.0,
         lower_starts,
         lower_index,
         lower_values,

@@ -3,12 +3,13 @@ use mathlib.Core.Path.{_≡_, refl}
 use mathlib.Core.List.{List, [], _∷_}
 use Prim.Native.Nat.{ℕ}
 use native.Mathlib.Omega.{arith}
-use lib.Ieee.{Float}
+use lib.Ieee.{Float, lt}
+use Rattle.base.specs.Magnitude.{isFloor}
 use Rattle.base.specs.Lists.{nought, blank, listAt}
 use Rattle.base.specs.First.{first}
 use Rattle.base.specs.declared.Asked.the-variants.{Pass}
 use Rattle.matrix.specs.Input.{inputOf, isOf}
-use Rattle.matrix.specs.Questions.{badStart, badColumn, badIndex, notFinite, emptyRow, noEntry, repeatRow, repeats, seenAt, IsOrder, ask3, ask4, ask5, ask6, ask7, ask8, askFinite, askPattern, askRows, askSolve}
+use Rattle.matrix.specs.Questions.{badStart, badColumn, badIndex, notFinite, emptyRow, noEntry, repeatRow, repeats, seenAt, IsOrder, ask3, ask4, ask5, ask6, askFloor, askNumbers, ask7, ask8, askFinite, askPattern, askRows, askSolve}
 use Rattle.questions.specs.Settled.{Settled}
 use Rattle.questions.specs.Lent.{OrderLent, SolveLent, RightLent, RowsLent, RowLent, Unstamped, InverseLent, SolutionLent}
 use Rattle.questions.specs.SettledLaws.{settled}
@@ -36,7 +37,7 @@ lent = record {
 }
 
 passed : askSolve (inputOf 1 starts zeros numbers zeros zeros numbers) ≡ Pass
-unfolding askSolve askPattern askRows ask3 ask4 ask5 ask6 ask7 ask8 askFinite badStart badColumn badIndex notFinite emptyRow noEntry repeatRow repeats seenAt isOf first listAt
+unfolding askSolve askPattern askRows ask3 ask4 ask5 ask6 ask7 ask8 askFinite badStart badColumn badIndex notFinite emptyRow noEntry repeatRow repeats seenAt isOf first listAt askNumbers askFloor isFloor lt
 passed = refl
 
 -- what the questions settle can be met

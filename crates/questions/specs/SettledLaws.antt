@@ -23,7 +23,7 @@ use Rattle.base.specs.declared.Refusal.the-variants.{Starts, Column, Order, Not
 use Rattle.base.specs.declared.Asked.{Asked}
 use Rattle.base.specs.declared.Asked.the-variants.{Pass}
 use Rattle.matrix.specs.Input.{Input, inputOf, isOf, ic}
-use Rattle.matrix.specs.Questions.{badStart, badColumn, badIndex, notFinite, noEntry, emptyRow, seenAt, repeats, repeatRow, IsOrder, ask3, ask4, ask5, ask6, ask7, ask8, askFinite, askPattern, askRows, askStructure, askSolve, askRight}
+use Rattle.matrix.specs.Questions.{badStart, badColumn, badIndex, notFinite, noEntry, emptyRow, seenAt, repeats, repeatRow, IsOrder, ask3, ask4, ask5, ask6, askFloor, askNumbers, ask7, ask8, askFinite, askPattern, askRows, askStructure, askSolve, askRight}
 use Rattle.matrix.specs.OrderLaws.{order-below, place-hits}
 use Rattle.questions.specs.Settled.{Finite, columnsAt, placesAt, Readable, Structured, Settled}
 use Rattle.questions.specs.Lent.{Lent, RowsLent, RowLent}
@@ -109,11 +109,12 @@ unfolding askStructure
 structured i h = let a = both-pass (askPattern i) (askRows i) h in structured-of i (a .0) (a .1)
 
 pub settled : (i : Input) → askSolve i ≡ Pass → Settled i
-unfolding askSolve ask6
+unfolding askSolve askNumbers ask6
 settled i h =
-    let a = both-pass (askPattern i) (andThen (ask6 (i .values) (i .b)) (askRows i)) h in
-    let b = both-pass (ask6 (i .values) (i .b)) (askRows i) (a .1) in
-    let d = both-pass (askFinite (i .values) 0) (askFinite (i .b) (length (i .values))) (b .0) in
+    let a = both-pass (askPattern i) (andThen (askNumbers (i .values) (i .b) (i .floor)) (askRows i)) h in
+    let b = both-pass (askNumbers (i .values) (i .b) (i .floor)) (askRows i) (a .1) in
+    let m = both-pass (ask6 (i .values) (i .b)) (askFloor (i .floor)) (b .0) in
+    let d = both-pass (askFinite (i .values) 0) (askFinite (i .b) (length (i .values))) (m .0) in
     record { structured = structured-of i (a .0) (b .1); values = settledFinite (i .values) 0 (d .0); right = settledFinite (i .b) (length (i .values)) (d .1) }
 
 -- another right side

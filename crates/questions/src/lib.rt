@@ -1,4 +1,4 @@
-// Questions 3 to 8 on a lent matrix, its orders and its numbers, and what goes by an order: the inverse, the solution.
+// Questions 3 to 8 and 19 on a lent matrix, its orders and its numbers, and what goes by an order: the inverse, the solution.
 ghost use mathlib.Core.Path.{_≡_};
 ghost use mathlib.Core.List.{[]};
 ghost use Prim.Native.Nat.{_+_, _-_, _<_, _≤_};
@@ -6,8 +6,8 @@ ghost use lib.ListN.{length, getD, set};
 ghost use lib.Dec.{eqb};
 ghost use Rattle.base.specs.First.{first, isAt};
 ghost use Rattle.base.specs.Lists.{rowOf};
-ghost use Rattle.matrix.specs.Input.{inputOf, ownOrder};
-ghost use Rattle.matrix.specs.Questions.{badStart, badIndex, noEntry, repeats, ask3, ask4, ask5, askFinite, ask6, ask7, ask8, askPattern, askRows, askStructure, askSolve, askRight};
+ghost use Rattle.matrix.specs.Input.{inputOf, withFloor, ownOrder};
+ghost use Rattle.matrix.specs.Questions.{badStart, badIndex, noEntry, repeats, ask3, ask4, ask5, askFinite, ask6, askFloor, askNumbers, ask7, ask8, askPattern, askRows, askStructure, askSolve, askRight};
 ghost use Rattle.questions.specs.Lent.{Lent, SolveLent, RightLent, OrdersLent, OrderLent, PlacesLent, RowsLent, RowLent, Unstamped, AtMost, askOrder, InverseLent, SolutionLent, inverted, invertedAt};
 use base::Asked;
 use base::Found;
@@ -177,7 +177,7 @@ fn ask_finite(v: &[f64], from: usize) -> Asked
 }
 
 // 6: are the values, then b, finite?
-fn ask_numbers(values: &[f64], b: &[f64]) -> Asked
+fn ask_values(values: &[f64], b: &[f64]) -> Asked
     requires { ⌜ length (now values) + length (now b) ≤ 4294967296 ⌝ }
     ensures { λ a. ⌜ a ≡ ask6 (now (values .entry)) (now (b .entry)) ⌝ }
 {
@@ -186,6 +186,31 @@ fn ask_numbers(values: &[f64], b: &[f64]) -> Asked
         return Asked::Stop(q);
     }
     ask_finite(b, values.len())
+}
+
+// 19: is the floor a finite number, and not below zero?
+fn ask_floor(floor: f64) -> Asked
+    ensures { λ a. ⌜ a ≡ askFloor floor ⌝ }
+{
+    if base::is_finite(floor) {
+        if floor < 0.0 {
+            return Asked::Stop(Refusal::Floor);
+        }
+        return Asked::Pass;
+    }
+    Asked::Stop(Refusal::Floor)
+}
+
+// 6, then 19.
+fn ask_numbers(values: &[f64], b: &[f64], floor: f64) -> Asked
+    requires { ⌜ length (now values) + length (now b) ≤ 4294967296 ⌝ }
+    ensures { λ a. ⌜ a ≡ askNumbers (now (values .entry)) (now (b .entry)) floor ⌝ }
+{
+    let a = ask_values(values, b);
+    if let Asked::Stop(q) = a {
+        return Asked::Stop(q);
+    }
+    ask_floor(floor)
 }
 
 // Whether own row i has no entry.
@@ -303,7 +328,7 @@ pub fn ask_structure(
     ask_rows(n, starts, columns, r, marks)
 }
 
-// Asks a solve's 3 to 8, and overwrites the marks.
+// Asks a solve's 3 to 8 and 19, and overwrites the marks.
 pub fn ask_solve(
     n: usize,
     starts: &[u32],
@@ -312,16 +337,17 @@ pub fn ask_solve(
     r: &[Index],
     c: &[Index],
     b: &[f64],
+    floor: f64,
     marks: &mut [u32],
 ) -> Asked
-    requires { ⌜ SolveLent (inputOf n (now starts) (now columns) (now values) (now r) (now c) (now b)) (length (now marks)) ⌝ }
-    ensures { λ a. ⌜ a ≡ askSolve (inputOf n (now (starts .entry)) (now (columns .entry)) (now (values .entry)) (now (r .entry)) (now (c .entry)) (now (b .entry))) ⌝ }
+    requires { ⌜ SolveLent (withFloor floor (inputOf n (now starts) (now columns) (now values) (now r) (now c) (now b))) (length (now marks)) ⌝ }
+    ensures { λ a. ⌜ a ≡ askSolve (withFloor floor (inputOf n (now (starts .entry)) (now (columns .entry)) (now (values .entry)) (now (r .entry)) (now (c .entry)) (now (b .entry)))) ⌝ }
 {
     let a = ask_pattern(n, starts, columns, r, c, marks);
     if let Asked::Stop(q) = a {
         return Asked::Stop(q);
     }
-    let a6 = ask_numbers(values, b);
+    let a6 = ask_numbers(values, b, floor);
     if let Asked::Stop(q) = a6 {
         return Asked::Stop(q);
     }

@@ -18,7 +18,7 @@ use Rattle.comparison.specs.Comparing.{formOf, buffersBy}
 use Rattle.stages.specs.Shaped.{FactorDue}
 use Rattle.stages.specs.Asking.{Asking}
 
--- 1 and 2, then 3 to 8 and 14: scratch is w and m, and then v and t; where all are passed, the arithmetic is due
+-- 1 and 2, then the others before 9, and 14: scratch is w and m, and then v and t; where all are passed, the arithmetic is due
 abbrev pub PresentedAsking : Way → Input → (ls lr li : List ℕ) (lv : List Float) (us ur ui : List ℕ) (uv d x w : List Float) (m : List ℕ) → (v : List Float) (t : List ℕ) → Asked → Type 0
 PresentedAsking way i ls lr li lv us ur ui uv d x w m v t a =
     Asking (shape (formOf way) i (sizes (buffersBy way ls lr li lv us ur ui uv d x w m)))

@@ -69,7 +69,7 @@ standing-due way i ls lr li lv us ur ui uv d x w m v t h ew em s =
 pub due-by : (f g : Form) (i : Input) (l : PlacedLists) (w : Workspace) (x : ℕ) → f ≡ g → FactorDue g i l w x → FactorDue f i l w x
 due-by f g i l w x e h = rw e h
 
--- ---- questions 1 to 8, and 14
+-- ---- the questions before 9, and 14
 
 -- form and run starts as the code has them
 pub asked-by : (f g : Form) (i : Input) (rl kl ru ku ls li lv us ui uv nd nx nw nm : ℕ) (w : List Float) (m : List ℕ) (v : List Float) (t : List ℕ) (a : Asked) → f ≡ g → rl ≡ kl → ru ≡ ku
@@ -100,7 +100,7 @@ module _ (way : Way) (i : Input) (ls lr li : List ℕ) (lv : List Float) (us ur 
 
 -- ---- the ends of the call
 
--- 3 to 8 and 14 clear alike
+-- all behind 2 clear alike
 stop-both : (a b : Asked) (s : Buffers) (o : Outcome Ended) → stop Refused (andThen a b) s o ≡ stop Refused a s (stop Refused b s o)
 stop-both Pass b s o = refl
 stop-both (Stop q) b s o = refl

@@ -1,8 +1,8 @@
-// Refactor: new values over a structure found before, in the plain and the shared form. Questions 1 to 8 and 14 come first and write nothing but
+// Refactor: new values over a structure found before, in the plain and the shared form. The questions before 9 and 14 come first and write nothing but
 // scratch; then 12 and 13, and x. The two forms are one code path over the way of placing: the plain form lends its list starts as run starts.
 ghost use mathlib.Core.Path.{_≡_};
 ghost use lib.ListN.{length};
-ghost use Rattle.matrix.specs.Input.{inputOf};
+ghost use Rattle.matrix.specs.Input.{inputOf, withFloor};
 ghost use Rattle.outcome.specs.Again.{RefactorsPlain, RefactorsShared};
 ghost use Rattle.comparison.specs.Comparing.{formOf, RunsBy, runsLent};
 ghost use Rattle.refactor.specs.Presented.{PresentedAsking, RefactorsBy};
@@ -34,7 +34,7 @@ fn runs_lent(way: Way, runs: &[u32]) -> usize
     }
 }
 
-// Asks 1 to 8 and 14. Where they are passed, scratch holds what the arithmetic needs; where 3 to 8 or 14 stop the call, it is cleared.
+// Asks the questions before 9, then 14. Where they are passed, scratch holds what the arithmetic needs; where one behind 2 stops the call, it is cleared.
 fn ask(
     way: Way,
     n: usize,
@@ -44,6 +44,7 @@ fn ask(
     r: &[Index],
     c: &[Index],
     b: &[f64],
+    floor: f64,
     lower_starts: &[u32],
     lower_runs: &[u32],
     lower_index: &[Index],
@@ -58,7 +59,7 @@ fn ask(
     marks: &mut [u32],
 ) -> Asked
     requires { ⌜ RunsBy way (now «lower_starts») (now «lower_runs») × RunsBy way (now «upper_starts») (now «upper_runs») ⌝ }
-    ensures { λ a. ⌜ PresentedAsking way (inputOf n (now (starts .entry)) (now (columns .entry)) (now (values .entry)) (now (r .entry)) (now (c .entry)) (now (b .entry)))
+    ensures { λ a. ⌜ PresentedAsking way (withFloor floor (inputOf n (now (starts .entry)) (now (columns .entry)) (now (values .entry)) (now (r .entry)) (now (c .entry)) (now (b .entry))))
         (now («lower_starts» .entry)) (now («lower_runs» .entry)) (now («lower_index» .entry)) (now («lower_values» .entry)) (now («upper_starts» .entry)) (now («upper_runs» .entry)) (now («upper_index» .entry)) (now («upper_values» .entry)) (now (d .entry)) (now (x .entry)) (now (work .entry)) (now (marks .entry))
         (now (work .exit)) (now (marks .exit)) a ⌝ }
 {
@@ -94,6 +95,7 @@ fn ask(
         r,
         c,
         b,
+        floor,
         sizes,
         work,
         marks,
@@ -135,6 +137,7 @@ fn refactor_in(
     r: &[Index],
     c: &[Index],
     b: &[f64],
+    floor: f64,
     lower_starts: &[u32],
     lower_runs: &[u32],
     lower_index: &[Index],
@@ -149,7 +152,7 @@ fn refactor_in(
     marks: &mut [u32],
 ) -> Ended
     requires { ⌜ RunsBy way (now «lower_starts») (now «lower_runs») × RunsBy way (now «upper_starts») (now «upper_runs») ⌝ }
-    ensures { λ a. ⌜ RefactorsBy way (inputOf n (now (starts .entry)) (now (columns .entry)) (now (values .entry)) (now (r .entry)) (now (c .entry)) (now (b .entry)))
+    ensures { λ a. ⌜ RefactorsBy way (withFloor floor (inputOf n (now (starts .entry)) (now (columns .entry)) (now (values .entry)) (now (r .entry)) (now (c .entry)) (now (b .entry))))
         (now («lower_starts» .entry)) (now («lower_runs» .entry)) (now («lower_index» .entry)) (now («lower_values» .entry)) (now («upper_starts» .entry)) (now («upper_runs» .entry)) (now («upper_index» .entry)) (now («upper_values» .entry)) (now (d .entry)) (now (x .entry)) (now (work .entry)) (now (marks .entry)) a
         (now («lower_values» .exit)) (now («upper_values» .exit)) (now (d .exit)) (now (x .exit)) (now (work .exit)) (now (marks .exit)) ⌝ }
 {
@@ -162,6 +165,7 @@ fn refactor_in(
         r,
         c,
         b,
+        floor,
         lower_starts,
         lower_runs,
         lower_index,
@@ -188,6 +192,7 @@ fn refactor_in(
         r,
         c,
         b,
+        floor,
         lower_starts,
         lower_index,
         lower_values,
@@ -215,6 +220,7 @@ pub fn refactor_plain(
     r: &[Index],
     c: &[Index],
     b: &[f64],
+    floor: f64,
     lower_starts: &[u32],
     lower_index: &[Index],
     lower_values: &mut [f64],
@@ -226,7 +232,7 @@ pub fn refactor_plain(
     work: &mut [f64],
     marks: &mut [u32],
 ) -> Ended
-    ensures { λ a. ⌜ RefactorsPlain (inputOf n (now (starts .entry)) (now (columns .entry)) (now (values .entry)) (now (r .entry)) (now (c .entry)) (now (b .entry)))
+    ensures { λ a. ⌜ RefactorsPlain (withFloor floor (inputOf n (now (starts .entry)) (now (columns .entry)) (now (values .entry)) (now (r .entry)) (now (c .entry)) (now (b .entry))))
         (now («lower_starts» .entry)) (now («lower_index» .entry)) (now («lower_values» .entry)) (now («upper_starts» .entry)) (now («upper_index» .entry)) (now («upper_values» .entry)) (now (d .entry)) (now (x .entry)) (now (work .entry)) (now (marks .entry)) a
         (now («lower_values» .exit)) (now («upper_values» .exit)) (now (d .exit)) (now (x .exit)) (now (work .exit)) (now (marks .exit)) ⌝ }
 {
@@ -239,6 +245,7 @@ pub fn refactor_plain(
         r,
         c,
         b,
+        floor,
         lower_starts,
         lower_starts,
         lower_index,
@@ -263,6 +270,7 @@ pub fn refactor_shared(
     r: &[Index],
     c: &[Index],
     b: &[f64],
+    floor: f64,
     lower_starts: &[u32],
     lower_runs: &[u32],
     lower_index: &[Index],
@@ -276,7 +284,7 @@ pub fn refactor_shared(
     work: &mut [f64],
     marks: &mut [u32],
 ) -> Ended
-    ensures { λ a. ⌜ RefactorsShared (inputOf n (now (starts .entry)) (now (columns .entry)) (now (values .entry)) (now (r .entry)) (now (c .entry)) (now (b .entry)))
+    ensures { λ a. ⌜ RefactorsShared (withFloor floor (inputOf n (now (starts .entry)) (now (columns .entry)) (now (values .entry)) (now (r .entry)) (now (c .entry)) (now (b .entry))))
         (now («lower_starts» .entry)) (now («lower_runs» .entry)) (now («lower_index» .entry)) (now («lower_values» .entry)) (now («upper_starts» .entry)) (now («upper_runs» .entry)) (now («upper_index» .entry)) (now («upper_values» .entry)) (now (d .entry)) (now (x .entry)) (now (work .entry)) (now (marks .entry)) a
         (now («lower_values» .exit)) (now («upper_values» .exit)) (now (d .exit)) (now (x .exit)) (now (work .exit)) (now (marks .exit)) ⌝ }
 {
@@ -289,6 +297,7 @@ pub fn refactor_shared(
         r,
         c,
         b,
+        floor,
         lower_starts,
         lower_runs,
         lower_index,

@@ -10,7 +10,7 @@ use lib.Ieee.{Float}
 use borrow.Author.Tests.{eqb-true, leb-true}
 use Rattle.base.specs.All.{all}
 use Rattle.base.specs.AllLaws.{all-true}
-use Rattle.base.specs.Lists.{blank}
+use Rattle.base.specs.Lists.{blank, nought}
 use Rattle.base.specs.Tests.{and-cases}
 use Rattle.base.specs.Limits.{maxRows, rowsWithin}
 use Rattle.base.specs.declared.Form.{Form}
@@ -279,13 +279,13 @@ module _ (f : Form) (i : Input) (l u : SideBuffers) (d x w v : List Float) (m t 
 
   -- scratch is w₁ and m₁ as the later stages leave it, and then cleared
   module _ (h : isStop a ≡ false) (k : Asked) (x' w₁ w₂ : List Float) (m₁ m₂ : List ℕ) (lw : length w₁ ≡ length w) (lm : length m₁ ≡ length m) (c : Blanked w₁ m₁ w₂ m₂) where
-    ends-as : Settles i x (askFactors f (i .n) (allBuffers l u d x w m)) (judged (wholeAgain (factorsOf f i (allBuffers l u d x w m)))) k x'
+    ends-as : Settles i x (askFactors f (i .n) (allBuffers l u d x w m)) (judged nought (wholeAgain (factorsOf f i (allBuffers l u d x w m)))) k x'
         → ended (endOf k) (allBuffers l u d x' w₂ m₂) ≡ resolve f i (allBuffers l u d x w m)
     unfolding resolve withSolution blank
     ends-as e =
         rw (c .0, c .1, lw, lm)
         (goes-on Refused (againShape f i (sizes (allBuffers l u d x w m))) (askRight (i .n) (i .r) (i .c) (i .b)) a _ (scratchCleared (allBuffers l u d x w m)) _ _ (g .answer) (pass-of a h)
-        (settled-as i (allBuffers l u d x w m) (askFactors f (i .n) (allBuffers l u d x w m)) (judged (wholeAgain (factorsOf f i (allBuffers l u d x w m)))) k x' e))
+        (settled-as i (allBuffers l u d x w m) (askFactors f (i .n) (allBuffers l u d x w m)) (judged nought (wholeAgain (factorsOf f i (allBuffers l u d x w m)))) k x' e))
 
     pub resolve-ends : Settles i x (askFactors f (i .n) (presented l u d)) (solvedAgain (factorsOf f i (presented l u d))) k x' → (r : Ended) → r ≡ endOf k
         → ended r (allBuffers l u d x' w₂ m₂) ≡ resolve f i (allBuffers l u d x w m)

@@ -5,6 +5,7 @@ use Prim.Native.Nat.{ℕ, _≤_}
 use native.Mathlib.Omega.{arith}
 use lib.ListN.{length}
 use lib.Ieee.{Float}
+use Rattle.base.specs.Lists.{nought}
 use Rattle.base.specs.declared.Form.{Form}
 use Rattle.base.specs.declared.Form.the-variants.{Plain, Shared}
 use Rattle.base.specs.declared.Counts.{Counts}
@@ -62,28 +63,28 @@ solve-presents-shared i c ls₀ lr₀ li₀ us₀ ur₀ ui₀ m₀ ls lr li us u
     record { u = _; left = after-solve _ c (sym h); lower = same-lists ls lr li lv₁ lv l; upper = same-lists us ur ui uv₁ uv u }
 
 -- refactor over them is a solve
-pub refactors-plain : (i : Input) (v b : List Float) (a : Ended) (p : Answer) (ls li us ui m m' ls'' li'' us'' ui'' m'' : List ℕ) (lv uv d x w lv' uv' d' x' w' lv'' uv'' d'' x'' w'' : List Float)
+pub refactors-plain : (i : Input) (v b : List Float) (floor : Float) (a : Ended) (p : Answer) (ls li us ui m m' ls'' li'' us'' ui'' m'' : List ℕ) (lv uv d x w lv' uv' d' x' w' lv'' uv'' d'' x'' w'' : List Float)
     → Presented Plain i (plainBuffers ls li lv us ui uv d x w m)
-    → RefactorsPlain (withNumbers i v b) ls li lv us ui uv d x w m a lv' uv' d' x' w' m'
-    → SolvesPlain (withNumbers i v b) ls li lv us ui uv d x w m p ls'' li'' lv'' us'' ui'' uv'' d'' x'' w'' m''
+    → RefactorsPlain (withNumbers i v b floor) ls li lv us ui uv d x w m a lv' uv' d' x' w' m'
+    → SolvesPlain (withNumbers i v b floor) ls li lv us ui uv d x w m p ls'' li'' lv'' us'' ui'' uv'' d'' x'' w'' m''
     → RefactorsAs (plainBuffers ls li lv us ui uv d x w m) (ended a (plainBuffers ls li lv' us ui uv' d' x' w' m')) (ended p (plainBuffers ls'' li'' lv'' us'' ui'' uv'' d'' x'' w'' m''))
-refactors-plain i v b a p ls li us ui m m' ls'' li'' us'' ui'' m'' lv uv d x w lv' uv' d' x' w' lv'' uv'' d'' x'' w'' h e g = rw (e, g) (refactoring Plain plain-keeps i v b _ h)
+refactors-plain i v b floor a p ls li us ui m m' ls'' li'' us'' ui'' m'' lv uv d x w lv' uv' d' x' w' lv'' uv'' d'' x'' w'' h e g = rw (e, g) (refactoring Plain plain-keeps i v b floor _ h)
 
-pub refactors-shared : (i : Input) (v b : List Float) (a : Ended) (p : Answer) (ls lr li us ur ui m m' ls'' lr'' li'' us'' ur'' ui'' m'' : List ℕ) (lv uv d x w lv' uv' d' x' w' lv'' uv'' d'' x'' w'' : List Float)
+pub refactors-shared : (i : Input) (v b : List Float) (floor : Float) (a : Ended) (p : Answer) (ls lr li us ur ui m m' ls'' lr'' li'' us'' ur'' ui'' m'' : List ℕ) (lv uv d x w lv' uv' d' x' w' lv'' uv'' d'' x'' w'' : List Float)
     → Presented Shared i (sharedBuffers ls lr li lv us ur ui uv d x w m)
-    → RefactorsShared (withNumbers i v b) ls lr li lv us ur ui uv d x w m a lv' uv' d' x' w' m'
-    → SolvesShared (withNumbers i v b) ls lr li lv us ur ui uv d x w m p ls'' lr'' li'' lv'' us'' ur'' ui'' uv'' d'' x'' w'' m''
+    → RefactorsShared (withNumbers i v b floor) ls lr li lv us ur ui uv d x w m a lv' uv' d' x' w' m'
+    → SolvesShared (withNumbers i v b floor) ls lr li lv us ur ui uv d x w m p ls'' lr'' li'' lv'' us'' ur'' ui'' uv'' d'' x'' w'' m''
     → RefactorsAs (sharedBuffers ls lr li lv us ur ui uv d x w m) (ended a (sharedBuffers ls lr li lv' us ur ui uv' d' x' w' m')) (ended p (sharedBuffers ls'' lr'' li'' lv'' us'' ur'' ui'' uv'' d'' x'' w'' m''))
-refactors-shared i v b a p ls lr li us ur ui m m' ls'' lr'' li'' us'' ur'' ui'' m'' lv uv d x w lv' uv' d' x' w' lv'' uv'' d'' x'' w'' h e g = rw (e, g) (refactoring Shared shared-keeps i v b _ h)
+refactors-shared i v b floor a p ls lr li us ur ui m m' ls'' lr'' li'' us'' ur'' ui'' m'' lv uv d x w lv' uv' d' x' w' lv'' uv'' d'' x'' w'' h e g = rw (e, g) (refactoring Shared shared-keeps i v b floor _ h)
 
 -- with 1 the plain form's lists, with 2 the shared form's
-pub refactors-alike : (i : Input) (v b : List Float) (a₁ a₂ : Ended) (ls₁ li₁ us₁ ui₁ m₁ m₁' ls₂ lr₂ li₂ us₂ ur₂ ui₂ m₂ m₂' : List ℕ) (lv₁ uv₁ d₁ x₁ w₁ lv₁' uv₁' d₁' x₁' w₁' lv₂ uv₂ d₂ x₂ w₂ lv₂' uv₂' d₂' x₂' w₂' : List Float)
+pub refactors-alike : (i : Input) (v b : List Float) (floor : Float) (a₁ a₂ : Ended) (ls₁ li₁ us₁ ui₁ m₁ m₁' ls₂ lr₂ li₂ us₂ ur₂ ui₂ m₂ m₂' : List ℕ) (lv₁ uv₁ d₁ x₁ w₁ lv₁' uv₁' d₁' x₁' w₁' lv₂ uv₂ d₂ x₂ w₂ lv₂' uv₂' d₂' x₂' w₂' : List Float)
     → Presented Plain i (plainBuffers ls₁ li₁ lv₁ us₁ ui₁ uv₁ d₁ x₁ w₁ m₁) → Stated Plain i (plainBuffers ls₁ li₁ lv₁ us₁ ui₁ uv₁ d₁ x₁ w₁ m₁)
     → Presented Shared i (sharedBuffers ls₂ lr₂ li₂ lv₂ us₂ ur₂ ui₂ uv₂ d₂ x₂ w₂ m₂) → Stated Shared i (sharedBuffers ls₂ lr₂ li₂ lv₂ us₂ ur₂ ui₂ uv₂ d₂ x₂ w₂ m₂)
-    → RefactorsPlain (withNumbers i v b) ls₁ li₁ lv₁ us₁ ui₁ uv₁ d₁ x₁ w₁ m₁ a₁ lv₁' uv₁' d₁' x₁' w₁' m₁'
-    → RefactorsShared (withNumbers i v b) ls₂ lr₂ li₂ lv₂ us₂ ur₂ ui₂ uv₂ d₂ x₂ w₂ m₂ a₂ lv₂' uv₂' d₂' x₂' w₂' m₂'
+    → RefactorsPlain (withNumbers i v b floor) ls₁ li₁ lv₁ us₁ ui₁ uv₁ d₁ x₁ w₁ m₁ a₁ lv₁' uv₁' d₁' x₁' w₁' m₁'
+    → RefactorsShared (withNumbers i v b floor) ls₂ lr₂ li₂ lv₂ us₂ ur₂ ui₂ uv₂ d₂ x₂ w₂ m₂ a₂ lv₂' uv₂' d₂' x₂' w₂' m₂'
     → Alike (ended a₁ (plainBuffers ls₁ li₁ lv₁' us₁ ui₁ uv₁' d₁' x₁' w₁' m₁')) (ended a₂ (sharedBuffers ls₂ lr₂ li₂ lv₂' us₂ ur₂ ui₂ uv₂' d₂' x₂' w₂' m₂'))
-refactors-alike i v b a₁ a₂ ls₁ li₁ us₁ ui₁ m₁ m₁' ls₂ lr₂ li₂ us₂ ur₂ ui₂ m₂ m₂' lv₁ uv₁ d₁ x₁ w₁ lv₁' uv₁' d₁' x₁' w₁' lv₂ uv₂ d₂ x₂ w₂ lv₂' uv₂' d₂' x₂' w₂' h q k r e g = rw (e, g) (refactoring-alike Plain Shared plain-keeps shared-keeps i v b _ _ h k q r)
+refactors-alike i v b floor a₁ a₂ ls₁ li₁ us₁ ui₁ m₁ m₁' ls₂ lr₂ li₂ us₂ ur₂ ui₂ m₂ m₂' lv₁ uv₁ d₁ x₁ w₁ lv₁' uv₁' d₁' x₁' w₁' lv₂ uv₂ d₂ x₂ w₂ lv₂' uv₂' d₂' x₂' w₂' h q k r e g = rw (e, g) (refactoring-alike Plain Shared plain-keeps shared-keeps i v b floor _ _ h k q r)
 
 -- another right side looks at no matrix
 resolved-right : (i : Input) (b : List Float) (s : Buffers) (o : Out (List Float)) → resolved (rightOf i b) s o ≡ resolved (withRight i b) s o
@@ -95,7 +96,7 @@ unfolding resolve factorsOf rightAt
 right-only f i b s =
     ap (λ (o : Outcome Ended). stop ends.Refused (askShape (i .n) (rightTests (rightOf i b) ++ bufferTests f (i .n) (sizes s))) s
     (stop ends.Refused (askRight (i .n) (i .r) (i .c) b) (scratchCleared s) (stop ends.Refused (askFactors f (i .n) s) (scratchCleared s) o)))
-    (resolved-right i b s (judged (wholeAgain (factorsOf f (rightOf i b) s))))
+    (resolved-right i b s (judged nought (wholeAgain (factorsOf f (rightOf i b) s))))
 
 -- another right side after a solve and after a refactor
 pub solve-resolves-plain : (i : Input) (b : List Float) (c : Counts) (a : Ended) (p : Answer) (x' w' : List Float) (m' : List ℕ) (ls₀ li₀ us₀ ui₀ m₀ ls li us ui m ls'' li'' us'' ui'' m'' : List ℕ) (lv₀ uv₀ d₀ x₀ w₀ lv uv d x w lv'' uv'' d'' x'' w'' : List Float)

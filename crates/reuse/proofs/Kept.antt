@@ -45,7 +45,7 @@ use Rattle.outcome.specs.Resolve.{givenList, givenValues, givenLower, rightSide
 use Rattle.outcome.proofs.Asking.{number-some}
 use Rattle.outcome.proofs.Lengths.{room-at, values-long, long-listed, left-same}
 use Rattle.outcome.proofs.Meaning.{listed-stops}
-use Rattle.reuse.specs.Reuse.{Keeps, withNumbers, Factored, by-solve, by-refactor}
+use Rattle.reuse.specs.Reuse.{Keeps, withRight, Factored, by-solve, by-refactor}
 use Rattle.reuse.proofs.Standing.{PlaceStands, placed-laid, laid-stands, places-all, presented-at}
 use Rattle.reuse.proofs.Refactoring.{stop-done, answer-told, end-told}
 use Rattle.reuse.proofs.OtherRight.{Tame, LowerBelow, RowsStored, other, zOf, solved-tame, solved-right}
@@ -214,7 +214,7 @@ lower-is ByRow v i s t a h k l = absurd (v refl)
 -- ---- the arithmetic
 
 module _ (f : Form) (v : Keeps f) (i : Input) (s t : Buffers) (a : Result) (h : FactorsKept f i s t a) (b : List Float) where
-  pub stored-rows : RowsStored (system i) (rightAt (withNumbers i (i .values) b)) (factorsOf f (withNumbers i (i .values) b) t) (a .rows)
+  pub stored-rows : RowsStored (system i) (rightAt (withRight i b)) (factorsOf f (withRight i b) t) (a .rows)
   unfolding system factorsOf
   stored-rows =
       record {
@@ -224,16 +224,16 @@ module _ (f : Form) (v : Keeps f) (i : Input) (s t : Buffers) (a : Result) (h : 
         u = values-is f v i s t a h Upper;
       }
 
-  pub other-is : system (withNumbers i (i .values) b) ≡ other (system i) (rightAt (withNumbers i (i .values) b))
+  pub other-is : system (withRight i b) ≡ other (system i) (rightAt (withRight i b))
   unfolding system stored entries
   other-is = refl
 
   -- the s, y and back steps with stored L, d and u come to z of the whole elimination, or meet its fault
-  pub again-is : judged (wholeAgain (factorsOf f (withNumbers i (i .values) b) t)) ≡ zOf (listed (withNumbers i (i .values) b))
+  pub again-is : judged nought (wholeAgain (factorsOf f (withRight i b) t)) ≡ zOf (listed (withRight i b))
   again-is =
-      solvedAgain-is (factorsOf f (withNumbers i (i .values) b) t)
-      ∙ solved-right (system i) (rightAt (withNumbers i (i .values) b)) (factorsOf f (withNumbers i (i .values) b) t) a (below f v i s t a h) (run-stops f v i s t a h) stored-rows
-      ∙ ap (λ S. zOf (solved S)) (sym other-is) ∙ ap zOf (sym (listed-stops (withNumbers i (i .values) b)))
+      solvedAgain-is nought (factorsOf f (withRight i b) t)
+      ∙ solved-right (system i) (rightAt (withRight i b)) (factorsOf f (withRight i b) t) a (below f v i s t a h) (run-stops f v i s t a h) stored-rows
+      ∙ ap (λ S. zOf (solved S)) (sym other-is) ∙ ap zOf (sym (listed-stops (withRight i b)))
 
 -- ---- question 15
 

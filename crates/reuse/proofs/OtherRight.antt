@@ -125,45 +125,45 @@ steps-right k G H ys (i ∷ is) a A h e =
 
 -- ---- step 3
 
-record FinishedWith (k : ℕ) (above : List ℕ) (a : Work) (r : Row) : Type 0 where
+record FinishedWith (k : ℕ) (floor : Float) (above : List ℕ) (a : Work) (r : Row) : Type 0 where
   l-is : r .l ≡ a .l
   tame-d : finite (r .d) ≡ true
   tame-u : finiteAll (r .u) ≡ true
-  same : (s : Float) → finish (at k) k above (worked (a .l) (a .w) s) ≡ (at k (mul binary64 s (r .d)) >>= λ y. ok (withY r y))
+  same : (s : Float) → finish (at k) k floor above (worked (a .l) (a .w) s) ≡ (at k (mul binary64 s (r .d)) >>= λ y. ok (withY r y))
 
 abbrev rowMade : List Float → Float → Float → List Float → Row
 rowMade l d y u = record { l = l; d = d; y = y; u = u }
 
-finish-other : (k : ℕ) (above : List ℕ) (l w : List Float) (p d : Float) (u : List Float) → pivot k (getD w k nan) ≡ ok p → at k (div binary64 one p) ≡ ok d
-    → scaled (at k) d w above ≡ ok u → (s : Float) → finish (at k) k above (worked l w s) ≡ (at k (mul binary64 s d) >>= λ y. ok (rowMade l d y u))
+finish-other : (k : ℕ) (floor : Float) (above : List ℕ) (l w : List Float) (p d : Float) (u : List Float) → pivot k floor (getD w k nan) ≡ ok p → at k (div binary64 one p) ≡ ok d
+    → scaled (at k) d w above ≡ ok u → (s : Float) → finish (at k) k floor above (worked l w s) ≡ (at k (mul binary64 s d) >>= λ y. ok (rowMade l d y u))
 unfolding finish
-finish-other k above l w p d u e f g s = rw (e, f) (go (at k (mul binary64 s d)))
+finish-other k floor above l w p d u e f g s = rw (e, f) (go (at k (mul binary64 s d)))
   where
     go : (o : Out Float) → (o >>= λ y. scaled (at k) d w above >>= λ u. ok (rowMade l d y u)) ≡ (o >>= λ y. ok (rowMade l d y u))
     go (ok y) = rw g
     go (met q) = refl
 
-finish-right : (k : ℕ) (above : List ℕ) (a : Work) (r : Row) → finish (at k) k above a ≡ ok r → FinishedWith k above a r
+finish-right : (k : ℕ) (floor : Float) (above : List ℕ) (a : Work) (r : Row) → finish (at k) k floor above a ≡ ok r → FinishedWith k floor above a r
 unfolding finish
-finish-right k above a r e =
-    let p = bind-ok (pivot k (getD (a .w) k nan)) _ r e in
+finish-right k floor above a r e =
+    let p = bind-ok (pivot k floor (getD (a .w) k nan)) _ r e in
     let d = bind-ok (at k (div binary64 one (p .0))) _ r (p .2) in
     let y = bind-ok (at k (mul binary64 (a .s) (d .0))) _ r (d .2) in
     let u = bind-ok (scaled (at k) (d .0) (a .w) above) _ r (y .2) in
     let q : rowMade (a .l) (d .0) (y .0) (u .0) ≡ r = ok-inj (u .2) in
     let f = at-ok k (div binary64 one (p .0)) (d .0) (d .1) in
-    subst (λ r. FinishedWith k above a r) q (record {
+    subst (λ r. FinishedWith k floor above a r) q (record {
       l-is = refl;
       tame-d = ap finite (sym (f .0)) ∙ f .1;
       tame-u = scaled-finite k (d .0) (a .w) above (u .0) (u .1);
-      same = finish-other k above (a .l) (a .w) (p .0) (d .0) (u .0) (p .1) (d .1) (u .1);
+      same = finish-other k floor above (a .l) (a .w) (p .0) (d .0) (u .0) (p .1) (d .1) (u .1);
     })
 
 -- ---- place k
 
 -- the same matrix with another right side
 abbrev pub other : System → (ℕ → Float) → System
-other S b = record { n = S .n; lower = S .lower; upper = S .upper; entries = S .entries; rhs = b }
+other S b = record { n = S .n; lower = S .lower; upper = S .upper; entries = S .entries; rhs = b; floor = S .floor }
 
 -- the factors F hold row r at place k, with the right side b
 pub record RowStored (S : System) (b : ℕ → Float) (F : Factors) (k : ℕ) (r : Row) : Type 0 where
@@ -183,23 +183,23 @@ LowerBelow S k = (i : ℕ) → List·Memᴰ i (S .lower k) → i < k
 reads : (S : System) (b : ℕ → Float) (rows : List Row) (ys : List Float) (i : ℕ) → length rows ≡ length ys → i < length rows → ReadsSame (given S rows) (given (other S b) (withYs rows ys)) ys i
 reads S b rows ys i e l = let h = withYs-at rows ys i e l in record { upper = refl; u = ap (λ (r : Row). r .u) h; y = ap (λ (r : Row). r .y) h }
 
-row-then : (k : ℕ) (above : List ℕ) (A : Work) (r : Row) → FinishedWith k above A r → (o : Out Float)
-    → ((o >>= λ s. ok (worked (A .l) (A .w) s)) >>= finish (at k) k above) ≡ ((o >>= λ s. at k (mul binary64 s (r .d))) >>= λ y. ok (withY r y))
-row-then k above A r g (ok s) = g .same s
-row-then k above A r g (met q) = refl
+row-then : (k : ℕ) (floor : Float) (above : List ℕ) (A : Work) (r : Row) → FinishedWith k floor above A r → (o : Out Float)
+    → ((o >>= λ s. ok (worked (A .l) (A .w) s)) >>= finish (at k) k floor above) ≡ ((o >>= λ s. at k (mul binary64 s (r .d))) >>= λ y. ok (withY r y))
+row-then k floor above A r g (ok s) = g .same s
+row-then k floor above A r g (met q) = refl
 
 row-other : (S : System) (b : ℕ → Float) (F : Factors) (H : Given) (ys : List Float) (k : ℕ) (w : List Float) (A : Work) (r : Row)
-    → (h : SteppedWith k H ys (S .lower k) (worked [] w (S .rhs k)) A) → FinishedWith k (S .upper k) A r → RowStored S b F k r
-    → (steps (at k) H (S .lower k) (worked [] w (b k)) >>= finish (at k) k (S .upper k)) ≡ (yAt F ys k >>= λ y. ok (withY r y))
+    → (h : SteppedWith k H ys (S .lower k) (worked [] w (S .rhs k)) A) → FinishedWith k (S .floor) (S .upper k) A r → RowStored S b F k r
+    → (steps (at k) H (S .lower k) (worked [] w (b k)) >>= finish (at k) k (S .floor) (S .upper k)) ≡ (yAt F ys k >>= λ y. ok (withY r y))
 unfolding yAt
 row-other S b F H ys k w A r h g f =
     let m : F .lower k ≡ pairs (S .lower k) (h .ms) = f .lower ∙ ap (pairs (S .lower k)) (g .l-is ∙ h .l-is) in
     rw (m, f .d, f .rhs)
-    (ap (λ (o : Out Work). o >>= finish (at k) k (S .upper k)) (h .same (b k)) ∙ row-then k (S .upper k) A r g (sumLess (at k) (b k) (pairs (S .lower k) (h .ms)) ys))
+    (ap (λ (o : Out Work). o >>= finish (at k) k (S .floor) (S .upper k)) (h .same (b k)) ∙ row-then k (S .floor) (S .upper k) A r g (sumLess (at k) (b k) (pairs (S .lower k) (h .ms)) ys))
 
 -- the row from the end of step 1 on
 row-from : (S : System) (rows : List Row) (k : ℕ) (w : List Float) → load (at k) (S .entries k) (replicate (S .n) nought) ≡ ok w
-    → row S rows k ≡ (steps (at k) (given S rows) (S .lower k) (worked [] w (S .rhs k)) >>= finish (at k) k (S .upper k))
+    → row S rows k ≡ (steps (at k) (given S rows) (S .lower k) (worked [] w (S .rhs k)) >>= finish (at k) k (S .floor) (S .upper k))
 unfolding row start
 row-from S rows k w e = rw e
 
@@ -207,7 +207,7 @@ row-loads : (S : System) (rows : List Row) (k : ℕ) (r : Row) → row S rows k 
 unfolding row start
 row-loads S rows k r e = go (load (at k) (S .entries k) (replicate (S .n) nought)) e
   where
-    go : (o : Out (List Float)) → ((o >>= λ w. ok (worked [] w (S .rhs k))) >>= λ a. steps (at k) (given S rows) (S .lower k) a >>= finish (at k) k (S .upper k)) ≡ ok r → (w : List Float) × (o ≡ ok w)
+    go : (o : Out (List Float)) → ((o >>= λ w. ok (worked [] w (S .rhs k))) >>= λ a. steps (at k) (given S rows) (S .lower k) a >>= finish (at k) k (S .floor) (S .upper k)) ≡ ok r → (w : List Float) × (o ≡ ok w)
     go (ok w) h = (w, refl)
     go (met q) h = absurd (let z : _≡_ {A = ℕ} 0 1 = cc in omega arith)
 
@@ -219,10 +219,10 @@ row-right : (S : System) (b : ℕ → Float) (rows : List Row) (ys : List Float)
 row-right S b rows ys k r m n low e =
     let w = row-loads S rows k r e in
     let a = worked [] (w .0) (S .rhs k) in
-    let A = bind-ok (steps (at k) (given S rows) (S .lower k) a) (finish (at k) k (S .upper k)) r (sym (row-from S rows k (w .0) (w .1)) ∙ e) in
+    let A = bind-ok (steps (at k) (given S rows) (S .lower k) a) (finish (at k) k (S .floor) (S .upper k)) r (sym (row-from S rows k (w .0) (w .1)) ∙ e) in
     let H = given (other S b) (withYs rows ys) in
     let h = steps-right k (given S rows) H ys (S .lower k) a (A .0) (λ i d. reads S b rows ys i (m ∙ sym n) (omega (arith, low i d))) (A .1) in
-    let g = finish-right k (S .upper k) (A .0) r (A .2) in
+    let g = finish-right k (S .floor) (S .upper k) (A .0) r (A .2) in
     record {
       tame = record { l = ap finiteAll (g .l-is ∙ h .l-is) ∙ h .tame; d = g .tame-d; u = g .tame-u };
       same = λ F f. row-from (other S b) (withYs rows ys) k (w .0) (w .1) ∙ row-other S b F H ys k (w .0) (A .0) r h g f;

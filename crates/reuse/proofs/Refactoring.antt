@@ -12,6 +12,9 @@ use Rattle.base.specs.declared.Form.the-variants.{Plain, Shared, ByRow}
 use Rattle.base.specs.declared.Side.{Side}
 use Rattle.base.specs.declared.Side.the-variants.{Lower, Upper}
 use Rattle.base.specs.declared.Counts.{Counts}
+use lib.Dec.{eqb}
+use borrow.Author.Tests.{eqb-true}
+use Rattle.base.specs.Tests.{by-test}
 use Rattle.base.specs.declared.Refusal.{Refusal}
 use Rattle.base.specs.declared.Asked.{Asked}
 use Rattle.base.specs.declared.Asked.the-variants.{Pass, Stop}
@@ -30,7 +33,7 @@ use Rattle.outcome.specs.Buffers.{SideBuffers, Buffers, buffersOf, sizes, sideO
 use Rattle.outcome.specs.Structure.{counts, askPlaces, askPlace, sidePlaced, structured, structure}
 use Rattle.outcome.specs.Solve.{listed, faultOf, kept, left, concluded, shape, solve}
 use Rattle.outcome.specs.Refactor.{askPresented, revalued, refilled, emptied, refactored, refactor}
-use Rattle.outcome.proofs.Asking.{number-some, Within}
+use Rattle.outcome.proofs.Asking.{number-some, turnOf, turned, Within}
 use Rattle.outcome.proofs.Places.{places-pass}
 use Rattle.outcome.proofs.Answers.{verdict, solve-answer, solve-x, shape-within, solve-within, ofMatrix, earlier-stated}
 use Rattle.agreement.specs.Demand.{Stated}
@@ -130,19 +133,23 @@ module _ (f : Form) (v : Keeps f) (i : Input) (t : Buffers) (h : Presented f i t
 
 -- ---- the answers
 
-fault-late : (q : Fault) → 12 ≤ numberOf (faultOf q)
-fault-late (zeroPivot k) = omega arith
-fault-late (overflow k) = omega arith
+fault-late : (q : Fault) → (12 ≤ numberOf (faultOf q)) × (numberOf (faultOf q) ≤ 13)
+fault-late (zeroPivot k) = (omega arith, omega arith)
+fault-late (overflow k) = (omega arith, omega arith)
+
+-- of the questions before 9, 19 alone has a number from 9 on
+turn-late : (q : Refusal) → 9 ≤ numberOf q → (3 ≤ turnOf q) × (turnOf q ≤ 8) → numberOf q ≡ 19
+turn-late q l w = by-test (eqb (numberOf q) 19) (λ t. eqb-true (numberOf q) 19 t) (λ t. let v = rw t at w in absurd (omega (arith, l, v)))
 
 chain-alike : (f : Form) (j : Input) (t : Buffers) (a b c d : Asked) (o : Out Result) → Within 1 2 a → Within 3 8 b → c ≡ Pass → d ≡ Pass
     → ((r : Result) → refactored f j t (ok r) .buffers ≡ left f j (sizes t) r)
     → RefactorsAs t (stop ends.Refused a t (stop ends.Refused b (scratchCleared t) (stop ends.Refused c (scratchCleared t) (refactored f j t o))))
     (stop Refused a t (stop Refused b (scratchCleared t) (stop Refused d (cleared (sizes t) (t .x)) (concluded f j (sizes t) (t .x) o))))
 unfolding Within
-chain-alike f j t (Stop q) b c d o u w g h e = record { answer = refl; buffers = λ l. refl; empties = λ l. absurd (omega (arith, u q refl)) }
-chain-alike f j t Pass (Stop q) c d o u w g h e = record { answer = refl; buffers = λ l. refl; empties = λ l. absurd (omega (arith, w q refl)) }
-chain-alike f j t Pass Pass c d (ok a) u w g h e = rw (g, h) (record { answer = refl; buffers = λ l. e a; empties = λ l. absurd (omega arith) })
-chain-alike f j t Pass Pass c d (met q) u w g h e = rw (g, h) (record { answer = refl; buffers = λ l. absurd (omega (arith, fault-late q)); empties = λ l. refl })
+chain-alike f j t (Stop q) b c d o u w g h e = record { answer = refl; buffers = λ l. refl; floored = λ l. refl; empties = λ l h. absurd (omega (arith, u q refl, turned q)) }
+chain-alike f j t Pass (Stop q) c d o u w g h e = record { answer = refl; buffers = λ l. refl; floored = λ l. refl; empties = λ l h. absurd (h (turn-late q l (w q refl))) }
+chain-alike f j t Pass Pass c d (ok a) u w g h e = rw (g, h) (record { answer = refl; buffers = λ l. e a; floored = λ l. absurd (omega arith); empties = λ l h. absurd (omega arith) })
+chain-alike f j t Pass Pass c d (met q) u w g h e = rw (g, h) (record { answer = refl; buffers = λ l. absurd (omega (arith, fault-late q)); floored = λ l. absurd (omega (arith, fault-late q)); empties = λ l h. refl })
 
 both-same : (l l′ u u′ : SideBuffers) (d x w : List Float) (m : List ℕ) → l ≡ l′ → u ≡ u′
     → _≡_ {A = Buffers} (record { lower = l; upper = u; d = d; x = x; work = w; marks = m }) (record { lower = l′; upper = u′; d = d; x = x; work = w; marks = m })
@@ -157,8 +164,8 @@ refilled-left ByRow v j t h r = absurd (v refl)
 
 pub refactoring : Refactoring
 unfolding stored solve refactor
-refactoring f v i w b t h =
-    let j = withNumbers i w b in
+refactoring f v i w b floor t h =
+    let j = withNumbers i w b floor in
     chain-alike f j t (shape f j (sizes t)) (askSolve j) (askPresented f (stored j) (j .n) t) (askPlaces f (stored j) (j .n) (sizes t) (j .n)) (listed j)
     (shape-within f j (sizes t)) (solve-within j) (presented-again f v i t h) (room-again f v i t h) (refilled-left f v j t (laid-at f v i t h))
 
@@ -183,8 +190,8 @@ chain-still f i j t Pass Pass Pass o h = refactored-still f i j t o h
 
 pub refactoring-on : RefactoringOn
 unfolding refactor
-refactoring-on f i v b t h =
-    let j = withNumbers i v b in
+refactoring-on f i v b floor t h =
+    let j = withNumbers i v b floor in
     chain-still f i j t (shape f j (sizes t)) (askSolve j) (askPresented f (stored j) (j .n) t) (listed j) h
 
 -- ---- the two forms
@@ -194,29 +201,29 @@ end-number (Done c) = refl
 end-number (Refused q) = refl
 
 -- what is answered over lists found before, by the numbers alone
-refactor-answer : (f : Form) → Keeps f → (i : Input) (w b : List Float) (t : Buffers) → Presented f i t → Stated f i t
-    → refactor f (withNumbers i w b) t .answer ≡ endOf (verdict (ofMatrix (withNumbers i w b)) Pass (listed (withNumbers i w b)) (counts (withNumbers i w b)))
+refactor-answer : (f : Form) → Keeps f → (i : Input) (w b : List Float) (floor : Float) (t : Buffers) → Presented f i t → Stated f i t
+    → refactor f (withNumbers i w b floor) t .answer ≡ endOf (verdict (ofMatrix (withNumbers i w b floor)) Pass (listed (withNumbers i w b floor)) (counts (withNumbers i w b floor)))
 unfolding Stated stored
-refactor-answer f v i w b t h e =
-    let j = withNumbers i w b in
-    refactoring f v i w b t h .answer
+refactor-answer f v i w b floor t h e =
+    let j = withNumbers i w b floor in
+    refactoring f v i w b floor t h .answer
     ∙ ap endOf (solve-answer f j t ∙ ap₂ (λ a c. verdict a c (listed j) (counts j)) (earlier-stated f j (sizes t) e) (room-again f v i t h))
 
-refactor-x : (f : Form) → Keeps f → (i : Input) (w b : List Float) (t : Buffers) → Presented f i t → numberOfEnd (refactor f (withNumbers i w b) t .answer) ≡ 0
-    → (r : Result) × (listed (withNumbers i w b) ≡ ok r) × (refactor f (withNumbers i w b) t .buffers .x ≡ ownOrder (i .c) (i .n) (r .z))
-refactor-x f v i w b t h e =
-    let j = withNumbers i w b in
-    let p = refactoring f v i w b t h in
+refactor-x : (f : Form) → Keeps f → (i : Input) (w b : List Float) (floor : Float) (t : Buffers) → Presented f i t → numberOfEnd (refactor f (withNumbers i w b floor) t .answer) ≡ 0
+    → (r : Result) × (listed (withNumbers i w b floor) ≡ ok r) × (refactor f (withNumbers i w b floor) t .buffers .x ≡ ownOrder (i .c) (i .n) (r .z))
+refactor-x f v i w b floor t h e =
+    let j = withNumbers i w b floor in
+    let p = refactoring f v i w b floor t h in
     let q = solve-x f j t (sym (end-number (solve f j t .answer)) ∙ ap numberOfEnd (sym (p .answer)) ∙ e) in
     (q .0, q .1, ap (λ (t : Buffers). t .x) (p .buffers (omega (arith, e))) ∙ q .2)
 
 pub refactoring-alike : RefactoringAlike
-refactoring-alike f g v w i n b s t h k p q =
-    let same = refactor-answer f v i n b s h p ∙ sym (refactor-answer g w i n b t k q) in
+refactoring-alike f g v w i n b floor s t h k p q =
+    let same = refactor-answer f v i n b floor s h p ∙ sym (refactor-answer g w i n b floor t k q) in
     record {
       answer = same;
       x = λ e.
-          let l = refactor-x f v i n b s h e in
-          let r = refactor-x g w i n b t k (ap numberOfEnd (sym same) ∙ e) in
+          let l = refactor-x f v i n b floor s h e in
+          let r = refactor-x g w i n b floor t k (ap numberOfEnd (sym same) ∙ e) in
           l .2 ∙ ap (λ (a : Result). ownOrder (i .c) (i .n) (a .z)) (ok-inj (sym (l .1) ∙ r .1)) ∙ sym (r .2);
     }

@@ -4,7 +4,8 @@ use mathlib.Core.List.{List, [], _∷_, map}
 use Prim.Native.Nat.{ℕ, zero, suc}
 use native.Mathlib.Omega.{arith}
 use lib.ListN.{replicate}
-use lib.Ieee.{Float, nan, binary64, ofBits, sub, mul, div, eq}
+use lib.Ieee.{Float, nan, binary64, ofBits, sub, mul, div, lt, eq, le}
+use Rattle.base.specs.Magnitude.{atMost, isFloor}
 use Rattle.base.specs.Lists.{asc, sum, count, has, table, listAt, pairs, padded, nought}
 use Rattle.base.specs.First.{first}
 use Rattle.base.specs.Answers.{spot}
@@ -15,7 +16,7 @@ use Rattle.base.specs.declared.Answer.the-variants.{Done, Refused}
 use Rattle.base.specs.declared.Ended.the-variants as ends
 use Rattle.fill.specs.Fill.{reach, filled, upper, upperRow, lowerRow, lowerColumn, products}
 use Rattle.matrix.specs.Input.{Input, inputOf, isOf, ic, stored, entries, rightAt}
-use Rattle.matrix.specs.Questions.{badStart, badColumn, badIndex, notFinite, noEntry, emptyRow, seenAt, repeats, repeatRow, ask3, ask4, ask5, askFinite, ask6, ask7, ask8, askPattern, askRows, askStructure, askSolve}
+use Rattle.matrix.specs.Questions.{badStart, badColumn, badIndex, notFinite, noEntry, emptyRow, seenAt, repeats, repeatRow, ask3, ask4, ask5, askFinite, ask6, askFloor, askNumbers, ask7, ask8, askPattern, askRows, askStructure, askSolve}
 use Rattle.placement.specs.Placing.{countAbove, tails, bestFrom, firstAt, agree, appendAll, fresh, meets, overlap, tailOr, shared, plain, after, placed, startOf}
 use Rattle.arithmetic.specs.Arith.{judged, loadRun, step1, subtractRun, stepRun, step2, scaledRun, step3, rowRun, forwardRun, restRun, backRun, wholeRun}
 use Rattle.outcome.specs.Forms.{placedTo, indexNeed, valueNeed}
@@ -95,24 +96,24 @@ right = floats (0x4010000000000000 ∷ 0x4008000000000000 ∷ 0x4008000000000000
 abbrev ones : List Float
 ones = replicate 7 (ofBits binary64 0x3ff0000000000000)
 
-arrow-solves : (endOf (solve Shared (withNumbers arrow values right) dirty .answer) ≡ ends.Done) × (endOf (solve Shared (withNumbers arrow ones right) dirty .answer) ≡ ends.Refused (ZeroPivot (spot 1)))
-unfolding floats arrow dirty solve shape askShape askSolve askPattern askRows ask3 ask4 ask5 ask6 ask7 ask8 askFinite first badStart badColumn badIndex isOf notFinite emptyRow noEntry repeatRow repeats seenAt listAt pairs askPlaces askPlace filled reach stored has fits indexNeed valueNeed placedTo placed after shared appendAll fresh meets overlap tailOr tails bestFrom countAbove firstAt agree startOf upperRow lowerRow asc upper listed system entries rightAt ic judged wholeRun loadRun step1 subtractRun stepRun step2 scaledRun step3 rowRun forwardRun restRun backRun ofBits sub mul div eq
+arrow-solves : (endOf (solve Shared (withNumbers arrow values right nought) dirty .answer) ≡ ends.Done) × (endOf (solve Shared (withNumbers arrow ones right nought) dirty .answer) ≡ ends.Refused (ZeroPivot (spot 1)))
+unfolding floats arrow dirty solve shape askShape askSolve askPattern askRows ask3 ask4 ask5 ask6 ask7 ask8 askFinite first badStart badColumn badIndex isOf notFinite emptyRow noEntry repeatRow repeats seenAt listAt pairs askPlaces askPlace filled reach stored has fits indexNeed valueNeed placedTo placed after shared appendAll fresh meets overlap tailOr tails bestFrom countAbove firstAt agree startOf upperRow lowerRow asc upper listed system entries rightAt ic judged wholeRun loadRun step1 subtractRun stepRun step2 scaledRun step3 rowRun forwardRun restRun backRun ofBits sub mul div askNumbers askFloor isFloor atMost lt eq le
 arrow-solves = (refl, refl)
 
-pub arrow-refactored : refactor Shared (withNumbers arrow values right) dirty .answer ≡ ends.Done
-arrow-refactored = refactoring Shared shared-keeps arrow values right dirty arrow-presented .answer ∙ arrow-solves .0
+pub arrow-refactored : refactor Shared (withNumbers arrow values right nought) dirty .answer ≡ ends.Done
+arrow-refactored = refactoring Shared shared-keeps arrow values right nought dirty arrow-presented .answer ∙ arrow-solves .0
 
-pub arrow-refused : refactor Shared (withNumbers arrow ones right) dirty .answer ≡ ends.Refused (ZeroPivot (spot 1))
-arrow-refused = refactoring Shared shared-keeps arrow ones right dirty arrow-presented .answer ∙ arrow-solves .1
+pub arrow-refused : refactor Shared (withNumbers arrow ones right nought) dirty .answer ≡ ends.Refused (ZeroPivot (spot 1))
+arrow-refused = refactoring Shared shared-keeps arrow ones right nought dirty arrow-presented .answer ∙ arrow-solves .1
 
 -- the factors found so are those that another right side takes
-pub arrow-factored : Factored Shared (withNumbers arrow values right) dirty (refactor Shared (withNumbers arrow values right) dirty .buffers)
-arrow-factored = by-refactor (ap (λ a. ended a (refactor Shared (withNumbers arrow values right) dirty .buffers)) arrow-refactored)
+pub arrow-factored : Factored Shared (withNumbers arrow values right nought) dirty (refactor Shared (withNumbers arrow values right nought) dirty .buffers)
+arrow-factored = by-refactor (ap (λ a. ended a (refactor Shared (withNumbers arrow values right nought) dirty .buffers)) arrow-refactored)
 
 -- and the plain form answers as the shared one does
-pub arrow-alike : refactor Plain (withNumbers arrow ones right) dirty-plain .answer ≡ ends.Refused (ZeroPivot (spot 1))
+pub arrow-alike : refactor Plain (withNumbers arrow ones right nought) dirty-plain .answer ≡ ends.Refused (ZeroPivot (spot 1))
 unfolding arrow dirty dirty-plain Stated
-arrow-alike = refactoring-alike Plain Shared plain-keeps shared-keeps arrow ones right dirty-plain dirty plain-presented arrow-presented refl refl .answer ∙ arrow-refused
+arrow-alike = refactoring-alike Plain Shared plain-keeps shared-keeps arrow ones right nought dirty-plain dirty plain-presented arrow-presented refl refl .answer ∙ arrow-refused
 
 -- ---- another right side in the plain form. Rows (2, 4), (1, 4), b = (10, 9)
 
@@ -130,7 +131,7 @@ abbrev huge : List Float
 huge = floats (0x7fefffffffffffff ∷ 0xffefffffffffffff ∷ [])
 
 two-solves : (solve Plain two given .answer ≡ Done (counted 1 1 1)) × (endOf (solve Plain (withRight two huge) given .answer) ≡ ends.Refused (Overflow (spot 1)))
-unfolding floats two given solve shape askShape askSolve askPattern askRows ask3 ask4 ask5 ask6 ask7 ask8 askFinite first badStart badColumn badIndex isOf notFinite emptyRow noEntry repeatRow repeats seenAt listAt pairs askPlaces askPlace filled reach stored has fits indexNeed valueNeed placedTo placed after plain appendAll startOf upperRow lowerRow asc upper listed system entries rightAt ic judged wholeRun loadRun step1 subtractRun stepRun step2 scaledRun step3 rowRun forwardRun restRun backRun counts sum count lowerColumn products ofBits sub mul div eq
+unfolding floats two given solve shape askShape askSolve askPattern askRows ask3 ask4 ask5 ask6 ask7 ask8 askFinite first badStart badColumn badIndex isOf notFinite emptyRow noEntry repeatRow repeats seenAt listAt pairs askPlaces askPlace filled reach stored has fits indexNeed valueNeed placedTo placed after plain appendAll startOf upperRow lowerRow asc upper listed system entries rightAt ic judged wholeRun loadRun step1 subtractRun stepRun step2 scaledRun step3 rowRun forwardRun restRun backRun counts sum count lowerColumn products ofBits sub mul div askNumbers askFloor isFloor atMost lt eq le
 two-solves = (refl, refl)
 
 pub two-factored : Factored Plain two given (solve Plain two given .buffers)

@@ -15,7 +15,7 @@ use Rattle.base.specs.declared.Answer.{Answer}
 use Rattle.base.specs.declared.Answer.the-variants.{Done, Refused}
 use Rattle.base.specs.declared.Ended.{Ended}
 use Rattle.base.specs.declared.Ended.the-variants as ends
-use Rattle.matrix.specs.Input.{Input, inputOf}
+use Rattle.matrix.specs.Input.{Input, inputOf, withFloor}
 use Rattle.outcome.specs.Buffers.{SideBuffers, Buffers, scratchCleared, Outcome, ended}
 use Rattle.outcome.specs.Structure.{structure}
 use Rattle.outcome.specs.Solve.{solve}
@@ -34,13 +34,13 @@ abbrev pub endOf : Answer → Ended
 endOf (Done c) = ends.Done
 endOf (Refused q) = ends.Refused q
 
--- the same matrix and orders, other values and another right side
-abbrev pub withNumbers : Input → List Float → List Float → Input
-withNumbers i v b = inputOf (i .n) (i .starts) (i .columns) v (i .r) (i .c) b
+-- the same matrix and orders, other values, another right side, another floor
+abbrev pub withNumbers : Input → List Float → List Float → Float → Input
+withNumbers i v b floor = withFloor floor (inputOf (i .n) (i .starts) (i .columns) v (i .r) (i .c) b)
 
--- the same values too
+-- the same values and floor too
 abbrev pub withRight : Input → List Float → Input
-withRight i b = withNumbers i (i .values) b
+withRight i b = withNumbers i (i .values) b (i .floor)
 
 -- what another right side is lent of it: the orders and b, no matrix
 abbrev pub rightOf : Input → List Float → Input
@@ -73,17 +73,19 @@ pub record RefactorsAs (t : Buffers) (o : Outcome Ended) (p : Outcome Answer) : 
   pub answer : o .answer ≡ endOf (p .answer)
   -- done, or refused before 9: what the solve leaves, factors and x among it
   pub buffers : numberOfEnd (o .answer) ≤ 8 → o .buffers ≡ p .buffers
+  -- 19: what the solve leaves
+  pub floored : numberOfEnd (o .answer) ≡ 19 → o .buffers ≡ p .buffers
   -- 12 or 13: the lists stay, x is untouched, all else is zero
-  pub empties : 9 ≤ numberOfEnd (o .answer) → o .buffers ≡ emptied t
+  pub empties : 9 ≤ numberOfEnd (o .answer) → (numberOfEnd (o .answer) ≡ 19 → ⊥) → o .buffers ≡ emptied t
 
 -- "refactor: new values over a structure found before"
 abbrev pub Refactoring : Type 0
 Refactoring =
-    (f : Form) → Keeps f → (i : Input) (v b : List Float) (t : Buffers) → Presented f i t → RefactorsAs t (refactor f (withNumbers i v b) t) (solve f (withNumbers i v b) t)
+    (f : Form) → Keeps f → (i : Input) (v b : List Float) (floor : Float) (t : Buffers) → Presented f i t → RefactorsAs t (refactor f (withNumbers i v b floor) t) (solve f (withNumbers i v b floor) t)
 
 -- and again: refactor leaves the lists as they were presented, however it ends
 abbrev pub RefactoringOn : Type 0
-RefactoringOn = (f : Form) (i : Input) (v b : List Float) (t : Buffers) → Presented f i t → Presented f i (refactor f (withNumbers i v b) t .buffers)
+RefactoringOn = (f : Form) (i : Input) (v b : List Float) (floor : Float) (t : Buffers) → Presented f i t → Presented f i (refactor f (withNumbers i v b floor) t .buffers)
 
 -- ---- another right side over factors found before
 
@@ -135,8 +137,8 @@ pub record Alike (o p : Outcome Ended) : Type 0 where
 -- over lists that calls of either form left for the same input, stores of any lengths that took them
 abbrev pub RefactoringAlike : Type 0
 RefactoringAlike =
-    (f g : Form) → Keeps f → Keeps g → (i : Input) (v b : List Float) (s t : Buffers) → Presented f i s → Presented g i t → Stated f i s → Stated g i t
-    → Alike (refactor f (withNumbers i v b) s) (refactor g (withNumbers i v b) t)
+    (f g : Form) → Keeps f → Keeps g → (i : Input) (v b : List Float) (floor : Float) (s t : Buffers) → Presented f i s → Presented g i t → Stated f i s → Stated g i t
+    → Alike (refactor f (withNumbers i v b floor) s) (refactor g (withNumbers i v b floor) t)
 
 -- over factors of either form, p and q, for the same input, and any right side
 abbrev pub ResolvingAlike : Type 0

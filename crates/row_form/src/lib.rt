@@ -1,6 +1,6 @@
-// The solve in the row form. Its stages are in stages/specs: Asking for questions 1 to 8, Stages and Ends for what is left of a call after them.
+// The solve in the row form. Its stages are in stages/specs: Asking for the questions before 9, Stages and Ends for what is left of a call after them.
 ghost use Rattle.base.specs.declared.Form.the-variants.{ByRow};
-ghost use Rattle.matrix.specs.Input.{inputOf};
+ghost use Rattle.matrix.specs.Input.{inputOf, withFloor};
 ghost use Rattle.outcome.specs.Buffers.{rowBuffers, sizes};
 ghost use Rattle.outcome.specs.Calls.{SolvesByRow};
 ghost use Rattle.stages.specs.Stages.{Leaves};
@@ -11,7 +11,7 @@ use base::Index;
 use base::SideSizes;
 use base::Sizes;
 
-// Finds the structure, factors, and writes x: what is left of the solve after 1 to 8, but for clearing.
+// Finds the structure, factors, and writes x: what is left of the solve after the questions before 9, but for clearing.
 fn analyze_and_solve(
     n: usize,
     starts: &[u32],
@@ -20,6 +20,7 @@ fn analyze_and_solve(
     r: &[Index],
     c: &[Index],
     b: &[f64],
+    floor: f64,
     upper_starts: &mut [u32],
     upper_runs: &mut [u32],
     upper_index: &mut [Index],
@@ -29,8 +30,8 @@ fn analyze_and_solve(
     work: &mut [f64],
     marks: &mut [u32],
 ) -> Answer
-    requires { ⌜ SolveDue ByRow (inputOf n (now starts) (now columns) (now values) (now r) (now c) (now b)) (sizes (rowBuffers (now «upper_starts») (now «upper_runs») (now «upper_index») (now «upper_values») (now d) (now x) (now work) (now marks))) ⌝ }
-    ensures { λ a. ⌜ Leaves ByRow (inputOf n (now (starts .entry)) (now (columns .entry)) (now (values .entry)) (now (r .entry)) (now (c .entry)) (now (b .entry)))
+    requires { ⌜ SolveDue ByRow (withFloor floor (inputOf n (now starts) (now columns) (now values) (now r) (now c) (now b))) (sizes (rowBuffers (now «upper_starts») (now «upper_runs») (now «upper_index») (now «upper_values») (now d) (now x) (now work) (now marks))) ⌝ }
+    ensures { λ a. ⌜ Leaves ByRow (withFloor floor (inputOf n (now (starts .entry)) (now (columns .entry)) (now (values .entry)) (now (r .entry)) (now (c .entry)) (now (b .entry))))
         (rowBuffers (now («upper_starts» .entry)) (now («upper_runs» .entry)) (now («upper_index» .entry)) (now («upper_values» .entry)) (now (d .entry)) (now (x .entry)) (now (work .entry)) (now (marks .entry))) a
         (rowBuffers (now («upper_starts» .exit)) (now («upper_runs» .exit)) (now («upper_index» .exit)) (now («upper_values» .exit)) (now (d .exit)) (now (x .exit)) (now (work .exit)) (now (marks .exit))) ⌝ }
 {
@@ -61,6 +62,7 @@ fn analyze_and_solve(
         r,
         c,
         b,
+        floor,
         &starts[..0],
         &columns[..0],
         &mut none[..0],
@@ -85,6 +87,7 @@ pub fn solve_row(
     r: &[Index],
     c: &[Index],
     b: &[f64],
+    floor: f64,
     upper_starts: &mut [u32],
     upper_runs: &mut [u32],
     upper_index: &mut [Index],
@@ -94,7 +97,7 @@ pub fn solve_row(
     work: &mut [f64],
     marks: &mut [u32],
 ) -> Answer
-    ensures { λ a. ⌜ SolvesByRow (inputOf n (now (starts .entry)) (now (columns .entry)) (now (values .entry)) (now (r .entry)) (now (c .entry)) (now (b .entry)))
+    ensures { λ a. ⌜ SolvesByRow (withFloor floor (inputOf n (now (starts .entry)) (now (columns .entry)) (now (values .entry)) (now (r .entry)) (now (c .entry)) (now (b .entry))))
         (now («upper_starts» .entry)) (now («upper_runs» .entry)) (now («upper_index» .entry)) (now («upper_values» .entry)) (now (d .entry)) (now (x .entry)) (now (work .entry)) (now (marks .entry)) a
         (now («upper_starts» .exit)) (now («upper_runs» .exit)) (now («upper_index» .exit)) (now («upper_values» .exit)) (now (d .exit)) (now (x .exit)) (now (work .exit)) (now (marks .exit)) ⌝ }
 {
@@ -127,6 +130,7 @@ pub fn solve_row(
         r,
         c,
         b,
+        floor,
         sizes,
         work,
         marks,
@@ -142,6 +146,7 @@ pub fn solve_row(
         r,
         c,
         b,
+        floor,
         upper_starts,
         upper_runs,
         upper_index,

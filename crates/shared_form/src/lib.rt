@@ -1,7 +1,7 @@
-// The calls of the shared form. Their stages are in stages/specs: Asking for questions 1 to 8, Stages and Ends for what is left of a call after them.
+// The calls of the shared form. Their stages are in stages/specs: Asking for the questions before 9, Stages and Ends for what is left of a call after them.
 ghost use mathlib.Core.List.{[]};
 ghost use Rattle.base.specs.declared.Form.the-variants.{Shared};
-ghost use Rattle.matrix.specs.Input.{inputOf};
+ghost use Rattle.matrix.specs.Input.{inputOf, withFloor};
 ghost use Rattle.outcome.specs.Buffers.{sharedBuffers, sizes};
 ghost use Rattle.outcome.specs.Calls.{StructuresShared, SolvesShared};
 ghost use Rattle.stages.specs.Stages.{Leaves};
@@ -84,7 +84,7 @@ pub fn structure_shared(
     a
 }
 
-// Finds the structure, factors, and writes x: what is left of the solve after 1 to 8, but for clearing.
+// Finds the structure, factors, and writes x: what is left of the solve after the questions before 9, but for clearing.
 fn analyze_and_solve(
     n: usize,
     starts: &[u32],
@@ -93,6 +93,7 @@ fn analyze_and_solve(
     r: &[Index],
     c: &[Index],
     b: &[f64],
+    floor: f64,
     lower_starts: &mut [u32],
     lower_runs: &mut [u32],
     lower_index: &mut [Index],
@@ -106,8 +107,8 @@ fn analyze_and_solve(
     work: &mut [f64],
     marks: &mut [u32],
 ) -> Answer
-    requires { ⌜ SolveDue Shared (inputOf n (now starts) (now columns) (now values) (now r) (now c) (now b)) (sizes (sharedBuffers (now «lower_starts») (now «lower_runs») (now «lower_index») (now «lower_values») (now «upper_starts») (now «upper_runs») (now «upper_index») (now «upper_values») (now d) (now x) (now work) (now marks))) ⌝ }
-    ensures { λ a. ⌜ Leaves Shared (inputOf n (now (starts .entry)) (now (columns .entry)) (now (values .entry)) (now (r .entry)) (now (c .entry)) (now (b .entry)))
+    requires { ⌜ SolveDue Shared (withFloor floor (inputOf n (now starts) (now columns) (now values) (now r) (now c) (now b))) (sizes (sharedBuffers (now «lower_starts») (now «lower_runs») (now «lower_index») (now «lower_values») (now «upper_starts») (now «upper_runs») (now «upper_index») (now «upper_values») (now d) (now x) (now work) (now marks))) ⌝ }
+    ensures { λ a. ⌜ Leaves Shared (withFloor floor (inputOf n (now (starts .entry)) (now (columns .entry)) (now (values .entry)) (now (r .entry)) (now (c .entry)) (now (b .entry))))
         (sharedBuffers (now («lower_starts» .entry)) (now («lower_runs» .entry)) (now («lower_index» .entry)) (now («lower_values» .entry)) (now («upper_starts» .entry)) (now («upper_runs» .entry)) (now («upper_index» .entry)) (now («upper_values» .entry)) (now (d .entry)) (now (x .entry)) (now (work .entry)) (now (marks .entry))) a
         (sharedBuffers (now («lower_starts» .exit)) (now («lower_runs» .exit)) (now («lower_index» .exit)) (now («lower_values» .exit)) (now («upper_starts» .exit)) (now («upper_runs» .exit)) (now («upper_index» .exit)) (now («upper_values» .exit)) (now (d .exit)) (now (x .exit)) (now (work .exit)) (now (marks .exit))) ⌝ }
 {
@@ -140,6 +141,7 @@ fn analyze_and_solve(
         r,
         c,
         b,
+        floor,
         lower_starts,
         lower_index,
         lower_values,
@@ -164,6 +166,7 @@ pub fn solve_shared(
     r: &[Index],
     c: &[Index],
     b: &[f64],
+    floor: f64,
     lower_starts: &mut [u32],
     lower_runs: &mut [u32],
     lower_index: &mut [Index],
@@ -177,7 +180,7 @@ pub fn solve_shared(
     work: &mut [f64],
     marks: &mut [u32],
 ) -> Answer
-    ensures { λ a. ⌜ SolvesShared (inputOf n (now (starts .entry)) (now (columns .entry)) (now (values .entry)) (now (r .entry)) (now (c .entry)) (now (b .entry)))
+    ensures { λ a. ⌜ SolvesShared (withFloor floor (inputOf n (now (starts .entry)) (now (columns .entry)) (now (values .entry)) (now (r .entry)) (now (c .entry)) (now (b .entry))))
         (now («lower_starts» .entry)) (now («lower_runs» .entry)) (now («lower_index» .entry)) (now («lower_values» .entry)) (now («upper_starts» .entry)) (now («upper_runs» .entry)) (now («upper_index» .entry)) (now («upper_values» .entry)) (now (d .entry)) (now (x .entry)) (now (work .entry)) (now (marks .entry)) a
         (now («lower_starts» .exit)) (now («lower_runs» .exit)) (now («lower_index» .exit)) (now («lower_values» .exit)) (now («upper_starts» .exit)) (now («upper_runs» .exit)) (now («upper_index» .exit)) (now («upper_values» .exit)) (now (d .exit)) (now (x .exit)) (now (work .exit)) (now (marks .exit)) ⌝ }
 {
@@ -210,6 +213,7 @@ pub fn solve_shared(
         r,
         c,
         b,
+        floor,
         sizes,
         work,
         marks,
@@ -225,6 +229,7 @@ pub fn solve_shared(
         r,
         c,
         b,
+        floor,
         lower_starts,
         lower_runs,
         lower_index,

@@ -1,4 +1,4 @@
--- Questions 1 to 8 in one, from lengths and scratch alone: what they answer, what they leave, and what a call then comes to.
+-- The questions before 9 in one, from lengths and scratch alone: what they answer, what they leave, and what a call then comes to.
 use mathlib.Core.Path.{_≡_, refl, sym, ap, _∙_}
 use mathlib.Core.Bool.{true, false}
 use mathlib.Core.List.{List}

@@ -1,4 +1,4 @@
--- What questions 1 and 2, then 3 to 8, then 9 to 11 have settled for the rest of a call. Definitions only.
+-- What questions 1 and 2, then the others before 9, then 9 to 11 have settled for the rest of a call. Definitions only.
 use mathlib.Core.Path.{_≡_}
 use mathlib.Core.List.{List, [], _++_}
 use Prim.Native.Nat.{ℕ, _+_, _*_, _≤_}
@@ -74,7 +74,7 @@ pub record SolveShaped (f : Form) (i : Input) (z : Sizes) : Type 0 where
   pub reciprocals : z .d ≡ i .n
   pub solution : z .x ≡ i .n
 
--- ---- and 3 to 8
+-- ---- and the others before 9
 
 pub record StructureDue (f : Form) (i : Input) (z : Sizes) : Type 0 where
   pub shaped : StructureShaped f i z

@@ -6,6 +6,7 @@ use Prim.Native.Nat.{ℕ, zero, suc, _+_}
 use native.Mathlib.Omega.{arith}
 use lib.ListN.{length}
 use lib.Dec.{leb}
+use lib.Ieee.{Float}
 use borrow.Author.Tests.{eqb-true, leb-true}
 use Rattle.base.specs.All.{all}
 use Rattle.base.specs.AllLaws.{all-true, all-join}
@@ -13,7 +14,7 @@ use Rattle.base.specs.Tests.{and-cases}
 use Rattle.base.specs.Answers.{holds, andThen}
 use Rattle.fill.specs.Fill.{Pattern}
 use Rattle.base.specs.Limits.{maxRows, rowsWithin}
-use Rattle.matrix.specs.Input.{Input, stored}
+use Rattle.matrix.specs.Input.{Input, withFloor, stored}
 use Rattle.outcome.specs.Buffers.{patternTests, numberTests, matrixTests, listTests, vectorTests, scratchTests, structureTests, bufferTests, askShape}
 use Rattle.base.specs.declared.SideSizes.{SideSizes}
 use Rattle.base.specs.declared.Sizes.{Sizes}
@@ -54,6 +55,11 @@ sides-fit ByRow n z e =
       tt,
       record { starts = eqb-true _ _ (t 0); index = leb-true _ _ (t 1); values = leb-true _ _ (t 2); runs = eqb-true _ _ (t 3) },
     )
+
+-- 1 and 2 ask for no floor
+pub shape-floor : (f : Form) (floor : Float) (i : Input) (z : Sizes) → shape f i z ≡ shape f (withFloor floor i) z
+unfolding shape
+shape-floor f floor i z = refl
 
 pub passed : (n : ℕ) (tests : List Bool) → askShape n tests ≡ Pass → (rowsWithin n ≡ true) × (all tests ≡ true)
 unfolding askShape

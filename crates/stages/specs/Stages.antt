@@ -48,7 +48,7 @@ unfoldable pub structurePlaced : Form → Input → Buffers → Outcome Answer
 structurePlaced f i s =
     stop Refused (askPlaces f (stored i) (i .n) (sizes s) (i .n)) (cleared (sizes s) (s .x)) (ended (Done (counts i)) (structured f i (sizes s)))
 
--- ---- the solve after questions 1 to 8
+-- ---- the solve after the questions before 9
 
 unfoldable pub solvePlaced : Form → Input → Buffers → Outcome Answer
 solvePlaced f i s = stop Refused (askPlaces f (stored i) (i .n) (sizes s) (i .n)) (cleared (sizes s) (s .x)) (concluded f i (sizes s) (s .x) (listed i))

@@ -1,4 +1,4 @@
-// What the calls share: questions 1 to 8, zeros, 12 and 13, and the solution. The stages of a call, and what its questions settle for them, are in specs/.
+// What the calls share: the questions before 9 (19 among a solve's), zeros, 12 and 13, and the solution. The stages of a call, and what its questions settle for them, are in specs/.
 ghost use mathlib.Core.Path.{_≡_};
 ghost use mathlib.Core.List.{[], _∷_};
 ghost use Prim.Native.Nat.{_+_, _≤_};
@@ -7,7 +7,7 @@ ghost use lib.Dec.{eqb};
 ghost use Rattle.base.specs.All.{all};
 ghost use Rattle.base.specs.Lists.{blank, nought};
 ghost use Rattle.base.specs.Limits.{maxRows};
-ghost use Rattle.matrix.specs.Input.{inputOf, ownOrder};
+ghost use Rattle.matrix.specs.Input.{inputOf, withFloor, ownOrder};
 ghost use Rattle.outcome.specs.Buffers.{sideTests, lowerTests, listTests, vectorTests, scratchTests};
 ghost use Rattle.outcome.specs.Solve.{shape};
 ghost use Rattle.symbolic.specs.Pass.{foundAnswer};
@@ -155,7 +155,7 @@ fn shape_solve(
     Asked::Stop(Refusal::Lengths)
 }
 
-// ---- questions 1 to 8. 1 and 2 write nothing; where 3 to 8 stop a call, scratch is cleared.
+// ---- the questions before 9. 1 and 2 write nothing; where another stops a call, scratch is cleared.
 
 // Asks a structure call's questions, with `sizes` for what it writes.
 pub fn ask_structure(
@@ -194,18 +194,19 @@ pub fn ask_solve(
     r: &[Index],
     c: &[Index],
     b: &[f64],
+    floor: f64,
     sizes: Sizes,
     work: &mut [f64],
     marks: &mut [u32],
 ) -> Asked
     requires { ⌜ sizes .marks ≡ length (now marks) ⌝ }
-    ensures { λ a. ⌜ SolveAsking form (inputOf n (now (starts .entry)) (now (columns .entry)) (now (values .entry)) (now (r .entry)) (now (c .entry)) (now (b .entry))) sizes (now (work .entry)) (now (marks .entry)) (now (work .exit)) (now (marks .exit)) a ⌝ }
+    ensures { λ a. ⌜ SolveAsking form (withFloor floor (inputOf n (now (starts .entry)) (now (columns .entry)) (now (values .entry)) (now (r .entry)) (now (c .entry)) (now (b .entry)))) sizes (now (work .entry)) (now (marks .entry)) (now (work .exit)) (now (marks .exit)) a ⌝ }
 {
     let shape = shape_solve(form, n, starts, columns, values, r, c, b, sizes);
     if stops(shape) {
         return shape;
     }
-    let a = questions::ask_solve(n, starts, columns, values, r, c, b, marks);
+    let a = questions::ask_solve(n, starts, columns, values, r, c, b, floor, marks);
     if stops(a) {
         clear_scratch(work, marks);
         return a;
@@ -287,6 +288,7 @@ pub fn factor_and_solve(
     r: &[Index],
     c: &[Index],
     b: &[f64],
+    floor: f64,
     lower_starts: &[u32],
     lower_index: &[Index],
     lower_values: &mut [f64],
@@ -299,8 +301,8 @@ pub fn factor_and_solve(
     work: &mut [f64],
     marks: &mut [u32],
 ) -> Asked
-    requires { ⌜ FactorDue form (inputOf n (now starts) (now columns) (now values) (now r) (now c) (now b)) (lists (now «lower_starts») (now «lower_index») (now «upper_starts») (now «upper_runs») (now «upper_index»)) (written (now «lower_values») (now «upper_values») (now d) (now work) (now marks)) (length (now x)) ⌝ }
-    ensures { λ a. ⌜ Concluded form (inputOf n (now (starts .entry)) (now (columns .entry)) (now (values .entry)) (now (r .entry)) (now (c .entry)) (now (b .entry))) a (now («lower_values» .exit)) (now («upper_values» .exit)) (now (d .exit)) (now (x .entry)) (now (x .exit)) ⌝ }
+    requires { ⌜ FactorDue form (withFloor floor (inputOf n (now starts) (now columns) (now values) (now r) (now c) (now b))) (lists (now «lower_starts») (now «lower_index») (now «upper_starts») (now «upper_runs») (now «upper_index»)) (written (now «lower_values») (now «upper_values») (now d) (now work) (now marks)) (length (now x)) ⌝ }
+    ensures { λ a. ⌜ Concluded form (withFloor floor (inputOf n (now (starts .entry)) (now (columns .entry)) (now (values .entry)) (now (r .entry)) (now (c .entry)) (now (b .entry)))) a (now («lower_values» .exit)) (now («upper_values» .exit)) (now (d .exit)) (now (x .entry)) (now (x .exit)) ⌝ }
 {
     let factored = factor::factor(
         form,
@@ -310,6 +312,7 @@ pub fn factor_and_solve(
         values,
         r,
         b,
+        floor,
         lower_starts,
         lower_index,
         lower_values,

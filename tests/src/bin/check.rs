@@ -6,12 +6,13 @@ use lilacpliers_tests::checks::cases::Range;
 use lilacpliers_tests::checks::*;
 use std::process::ExitCode;
 
-const GROUPS: [&str; 13] = [
+const GROUPS: [&str; 14] = [
     "known",
     "consistency",
     "cases",
     "lookups",
     "forms",
+    "floors",
     "reuse",
     "damaged",
     "files",
@@ -75,6 +76,10 @@ fn check_reference(options: &Options, tally: &mut Tally) {
     if options.wants("forms") {
         forms::run(&Reference, options.range(options.cases / 4), tally);
     }
+    if options.wants("floors") {
+        floors::limits(&Reference, options.seed, tally);
+        floors::run(&Reference, options.range(options.cases / 40), tally);
+    }
     if options.wants("sheets") {
         sheets::reading(tally);
     }
@@ -102,6 +107,10 @@ fn check_library(library: &dyn Solver, options: &Options, tally: &mut Tally) {
     }
     if options.wants("forms") {
         forms::run(library, options.range(options.cases / 4), tally);
+    }
+    if options.wants("floors") {
+        floors::limits(library, options.seed, tally);
+        floors::run(library, options.range(options.cases / 10), tally);
     }
     if options.wants("reuse") {
         consistency::reuse(library, options.range(options.cases / 10), tally);

@@ -93,9 +93,9 @@ pub fn reached_all(solver: &dyn Solver, reached: &Reached, tally: &mut Tally) {
 fn numbers_of(call: Call) -> Vec<u32> {
     match call {
         Call::Structure(_) => vec![0, 1, 2, 3, 4, 5, 7, 8, 9, 10, 11],
-        Call::Solve(Form::Row) => vec![0, 1, 2, 3, 4, 5, 6, 7, 8, 9, 11, 12, 13],
-        Call::Solve(_) => vec![0, 1, 2, 3, 4, 5, 6, 7, 8, 9, 10, 11, 12, 13],
-        Call::Refactor(_) => vec![0, 1, 2, 3, 4, 5, 6, 7, 8, 12, 13, 14],
+        Call::Solve(Form::Row) => vec![0, 1, 2, 3, 4, 5, 6, 7, 8, 9, 11, 12, 13, 19],
+        Call::Solve(_) => vec![0, 1, 2, 3, 4, 5, 6, 7, 8, 9, 10, 11, 12, 13, 19],
+        Call::Refactor(_) => vec![0, 1, 2, 3, 4, 5, 6, 7, 8, 12, 13, 14, 19],
         Call::Resolve(_) => vec![0, 1, 2, 5, 6, 13, 15],
     }
 }

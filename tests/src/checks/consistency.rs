@@ -66,10 +66,11 @@ fn check_fill(input: &Input) -> Compared {
     compare::same("products", &fill.products(), &products_by_rows(&fill))
 }
 
-/// The numbers of a full square and its right side, by place.
+/// The numbers of a full square and its right side, by place, and the floor.
 struct Square {
     a: Vec<Vec<f64>>,
     y: Vec<f64>,
+    floor: f64,
 }
 
 /// Where the elimination stops: 12 or 13, and the place.
@@ -86,7 +87,7 @@ impl Square {
         for (row, entries) in a.iter_mut().zip(entries_by_place(input)) {
             entries.iter().for_each(|&(j, value)| row[j] = value);
         }
-        Square { a, y: reference::arithmetic::right_by_place(&input.r, &input.b) }
+        Square { a, y: reference::arithmetic::right_by_place(&input.r, &input.b), floor: input.floor }
     }
 
     /// Every operation of every position of row k. A number that is not finite stays so until the row's end.
@@ -101,7 +102,7 @@ impl Square {
         if !(all_finite(row) && self.y[k].is_finite()) {
             return Err((13, k));
         }
-        if row[k] == 0.0 {
+        if (-self.floor..=self.floor).contains(&row[k]) {
             return Err((12, k));
         }
         let d = 1.0 / row[k];
@@ -217,7 +218,10 @@ fn check_null_pivot(input: &Input, place: usize) -> Compared {
 
 fn check(random: &mut Random) -> Compared {
     let n = random.pick(&[1, 2, 3, 5, 8, 13, 21, 34]);
-    let input = generate::sound_input(random, n);
+    let mut input = generate::sound_input(random, n);
+    if random.per_mille(500) {
+        input.floor = generate::sound_floor(random, &input);
+    }
     check_fill(&input)?;
     if let Some(place) = null_pivot(&input) {
         return check_null_pivot(&input, place);
@@ -243,7 +247,10 @@ pub fn reuse(solver: &dyn Solver, range: Range, tally: &mut Tally) {
     for number in range.numbers() {
         let random = &mut range.random(number);
         let n = random.pick(&[1, 2, 3, 5, 8, 13, 21, 34]);
-        let input = generate::sound_input(random, n);
+        let mut input = generate::sound_input(random, n);
+        if random.per_mille(500) {
+            input.floor = generate::sound_floor(random, &input);
+        }
         if null_pivot(&input).is_some() {
             continue;
         }

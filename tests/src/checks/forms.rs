@@ -1,11 +1,12 @@
-//! The three solves on one input: where none is short of slots, the same answer and the same x bit for bit.
+//! The three solves on one input and floor: where none is short of slots, the same answer and the same x bit for bit.
 use super::cases::Range;
 use super::{Solver, Tally};
 use crate::compare::{self, Compared};
 use crate::generate::{self, Case};
 use crate::reference;
 
-fn agree(solver: &dyn Solver, cases: &mut [Case; 3]) -> Compared {
+/// Runs the three solves, none of them short of slots, and compares answers and x.
+pub fn agree(solver: &dyn Solver, cases: &mut [Case; 3]) -> Compared {
     let before = cases.clone();
     let mut answers = Vec::new();
     for case in cases.iter_mut() {

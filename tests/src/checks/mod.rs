@@ -2,6 +2,7 @@
 pub mod cases;
 pub mod consistency;
 pub mod files;
+pub mod floors;
 pub mod forms;
 pub mod header;
 pub mod known;

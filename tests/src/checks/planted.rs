@@ -1,6 +1,6 @@
 //! The comparison is not trusted blindly: faults are planted in the stand-in, and it must find each of them.
 use super::cases::{self, Range};
-use super::{files, loads, sheets, Library, Tally};
+use super::{files, floors, loads, sheets, Library, Tally};
 use crate::compare;
 use crate::standin::{plant, Fault, FAULTS};
 
@@ -13,6 +13,7 @@ fn failures(fault: Option<Fault>) -> u64 {
     cases::run(&library, range(2_000), &mut tally);
     cases::lookups(&library, range(500), &mut tally);
     files::lengths(&library, 1, &mut tally);
+    floors::limits(&library, 1, &mut tally);
     loads::limits(&library, 1, &mut tally);
     sheets::limits(&library, 1, &mut tally);
     plant(None);

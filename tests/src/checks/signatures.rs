@@ -61,6 +61,7 @@ fn declared_kind(argument: &str) -> String {
         Some("size") => "usize".to_string(),
         Some("number") => "u32".to_string(),
         Some("short") => "u16".to_string(),
+        Some("real") => "f64".to_string(),
         Some(kind) => format!("slice of {}", kind.trim_start_matches("lent ").trim_start_matches("out ")),
         None => argument.to_string(),
     }
@@ -124,10 +125,13 @@ fn exports(header: &str) -> Compared {
 }
 
 /// Changes of the header that the comparison must find, one of each kind of argument.
-const CHANGES: [(&str, &str); 5] = [
+const CHANGES: [(&str, &str); 8] = [
     ("uint16_t seed", "uint32_t seed"),
     ("uint32_t side, size_t place", "uint32_t side, uint32_t place"),
     ("uint8_t *file", "uint16_t *file"),
+    ("double floor", "uint64_t floor"),
+    ("    double floor,\n", ""),
+    ("b_len,\n    double floor,", "b_len, double *other, size_t other_len,\n    double floor,"),
     ("uint32_t lp_test_load(\n    size_t n,", "uint32_t lp_test_load("),
     ("uint32_t lp_test_load(", "uint32_t lp_test_loads("),
 ];

@@ -2,10 +2,12 @@
 use super::fill::Fill;
 use crate::model::*;
 
-/// What the elimination leaves: L along each lower row, d, u along each T(k), and z, whose place k is x(c(k)).
+/// What the elimination leaves: L along each lower row, the pivots, d, u along each T(k), and z, whose place k is
+/// x(c(k)).
 #[derive(Clone, Debug, Default)]
 pub struct Solved {
     pub l: Vec<Vec<f64>>,
+    pub pivots: Vec<f64>,
     pub d: Vec<f64>,
     pub u: Vec<Vec<f64>>,
     pub z: Vec<f64>,
@@ -25,18 +27,37 @@ fn minus_product(k: usize, from: f64, a: f64, b: f64) -> Result<f64, Refusal> {
     checked(k, from - product)
 }
 
-/// Eliminates places 0 to n - 1, then goes back.
-pub fn solve(fill: &Fill, entries: &[Vec<(usize, f64)>], right: &[f64]) -> Result<Solved, Refusal> {
-    let n = right.len();
+/// The rows of M' as lists of place and value.
+type Entries = [Vec<(usize, f64)>];
+
+/// Eliminates places 0 to n - 1, then goes back. Question 12: is the magnitude of each pivot above the floor?
+pub fn solve(fill: &Fill, entries: &Entries, right: &[f64], floor: f64) -> Result<Solved, Refusal> {
     let mut solved = Solved::default();
+    let y = factor(fill, entries, right, floor, &mut solved)?;
+    solved.z = back(&fill.upper, &solved.u, &y)?;
+    Ok(solved)
+}
+
+/// The pivots under the floor 0, up to the place that the elimination stops at; its own where it is found.
+pub fn pivots(fill: &Fill, entries: &Entries, right: &[f64]) -> Vec<f64> {
+    let mut solved = Solved::default();
+    // a refusal leaves the pivots found before it
+    let _ = factor(fill, entries, right, 0.0, &mut solved);
+    solved.pivots
+}
+
+/// Eliminates places 0 to n - 1 and returns y.
+fn factor(fill: &Fill, entries: &Entries, right: &[f64], floor: f64, solved: &mut Solved) -> Result<Vec<f64>, Refusal> {
+    let n = right.len();
     let mut y = Vec::with_capacity(n);
     for k in 0..n {
         let mut w = vec![0.0f64; n];
         for &(j, value) in &entries[k] {
             w[j] = value;
         }
-        let s = eliminate(k, fill, &mut solved, &mut w, right[k], &y)?;
-        if w[k] == 0.0 {
+        let s = eliminate(k, fill, solved, &mut w, right[k], &y)?;
+        solved.pivots.push(w[k]);
+        if w[k].abs() <= floor {
             return refuse(12, k);
         }
         let d = checked(k, 1.0 / w[k])?;
@@ -45,8 +66,7 @@ pub fn solve(fill: &Fill, entries: &[Vec<(usize, f64)>], right: &[f64]) -> Resul
         solved.u.push(u?);
         solved.d.push(d);
     }
-    solved.z = back(&fill.upper, &solved.u, &y)?;
-    Ok(solved)
+    Ok(y)
 }
 
 /// Step 2 of place k: keeps row k of L and returns s.

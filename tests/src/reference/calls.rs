@@ -139,7 +139,7 @@ fn arrange_lower(form: Form, fill: &Fill, solved: &Solved) -> Vec<f64> {
 }
 
 fn find(call: Call, input: &Input, buffers: &Buffers) -> Result<Found, Refusal> {
-    questions::three_to_eight(call, input)?;
+    questions::before_nine(call, input)?;
     let form = call.form();
     let fill = Fill::of(input);
     let structure = match call {
@@ -153,7 +153,7 @@ fn find(call: Call, input: &Input, buffers: &Buffers) -> Result<Found, Refusal> 
         return Ok(found);
     }
     let right = arithmetic::right_by_place(&input.r, &input.b);
-    let solved = arithmetic::solve(&fill, &entries_by_place(input), &right)?;
+    let solved = arithmetic::solve(&fill, &entries_by_place(input), &right, input.floor)?;
     found.lower_values = arrange_lower(form, &fill, &solved);
     found.upper_values = solved.u.concat();
     found.x = arithmetic::own_order(&input.c, &solved.z);
@@ -275,7 +275,7 @@ fn run_another(form: Form, input: &Input, buffers: &mut Buffers) -> Result<Count
 /// None where a question before 9 is answered with no.
 pub fn needs(form: Form, input: &Input) -> Option<Slots> {
     let fits = questions::rows(input.n).is_ok() && input_fits(input);
-    if !fits || questions::three_to_eight(Call::Structure(form), input).is_err() {
+    if !fits || questions::before_nine(Call::Structure(form), input).is_err() {
         return None;
     }
     let fill = Fill::of(input);
@@ -299,12 +299,28 @@ fn input_fits(input: &Input) -> bool {
     input.starts.len() == n + 1 && input.columns.len() <= MAX_ENTRIES && input.r.len() == n && input.c.len() == n
 }
 
+/// The pivots that the arithmetic finds under the floor 0, up to the place that it stops at.
+/// Empty where a question before it is answered with no.
+pub fn pivots(input: &Input) -> Vec<f64> {
+    let call = Call::Solve(Form::Plain);
+    let input = Input { floor: 0.0, ..input.clone() };
+    let fits = questions::rows(input.n).is_ok() && questions::input_lengths(call, &input);
+    if !fits || questions::before_nine(call, &input).is_err() {
+        return Vec::new();
+    }
+    let fill = Fill::of(&input);
+    if fill.diagonal.contains(&false) {
+        return Vec::new();
+    }
+    arithmetic::pivots(&fill, &entries_by_place(&input), &arithmetic::right_by_place(&input.r, &input.b))
+}
+
 /// Whether the form is short of slots, as demand 3 has it: the earlier questions are passed and for some k with
 /// (0, 0) to (k, k) all filled the lists of places 0 to k need more slots than a store has.
 pub fn is_short(form: Form, input: &Input, buffers: &Buffers) -> bool {
     let call = Call::Solve(form);
     let sized = questions::rows(input.n).and_then(|()| questions::lengths(call, input, buffers));
-    if sized.and_then(|()| questions::three_to_eight(call, input)).is_err() {
+    if sized.and_then(|()| questions::before_nine(call, input)).is_err() {
         return false;
     }
     let Some(need) = needs(form, input) else { return false };

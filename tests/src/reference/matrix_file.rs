@@ -180,5 +180,6 @@ pub fn blank(n: usize, e: usize) -> Input {
         r: vec![0; n],
         c: vec![0; n],
         b: vec![0.0; n],
+        floor: 0.0,
     }
 }

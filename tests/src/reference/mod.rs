@@ -12,5 +12,5 @@ pub mod program;
 pub mod questions;
 pub mod test_load;
 
-pub use calls::{is_short, needs, run};
+pub use calls::{is_short, needs, pivots, run};
 pub use lookup::{lookup, Lists};

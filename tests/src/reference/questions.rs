@@ -1,4 +1,4 @@
-//! Questions 1 to 8, each by itself.
+//! Questions 1 to 8 and 19, each by itself.
 use crate::model::*;
 
 /// A question passed, or its refusal.
@@ -20,7 +20,8 @@ pub fn lengths(call: Call, input: &Input, buffers: &Buffers) -> Asked {
     refuse(2, 0)
 }
 
-fn input_lengths(call: Call, input: &Input) -> bool {
+/// Whether matrix, orders and right side have the lengths that the call asks for.
+pub fn input_lengths(call: Call, input: &Input) -> bool {
     let n = input.n;
     let orders = input.r.len() == n && input.c.len() == n;
     let e = input.columns.len();
@@ -96,6 +97,14 @@ pub fn finite(numbers: &[f64], from: usize) -> Asked {
     }
 }
 
+/// Question 19: is the floor finite and not negative? -0 counts as 0.
+pub fn floor(floor: f64) -> Asked {
+    if floor.is_finite() && floor >= 0.0 {
+        return Ok(());
+    }
+    refuse(19, 0)
+}
+
 /// The entries of own row `row`.
 pub fn row_range(input: &Input, row: usize) -> std::ops::Range<usize> {
     input.starts[row] as usize..input.starts[row + 1] as usize
@@ -123,14 +132,15 @@ pub fn repeats(input: &Input) -> Asked {
     Ok(())
 }
 
-/// Puts questions 3 to 8 as the call does; the structure call skips 6.
-pub fn three_to_eight(call: Call, input: &Input) -> Asked {
+/// Puts questions 3 to 8 as the call does, 19 behind 6; the structure call skips these two.
+pub fn before_nine(call: Call, input: &Input) -> Asked {
     starts(input)?;
     columns(input)?;
     orders(input.n, &input.r, &input.c)?;
     if !matches!(call, Call::Structure(_)) {
         finite(&input.values, 0)?;
         finite(&input.b, input.values.len())?;
+        floor(input.floor)?;
     }
     entries(input)?;
     repeats(input)

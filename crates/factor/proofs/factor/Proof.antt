@@ -1,7 +1,7 @@
 use Rattle.factor.specs.EndLaws.{form-start, back-ready, going-end}
 use Rattle.factor.specs.TurnLaws.{came-on, came-end}
 use Rattle.factor.specs.Factoring.{PlacedLists, Factorable, Going, lists, written}
-use Rattle.matrix.specs.Input.{Input, inputOf}
+use Rattle.matrix.specs.Input.{Input, inputOf, withFloor}
 use mathlib.Core.Path.{refl}
 use mathlib.Core.List.{List}
 use Prim.Native.Nat.{ℕ}
@@ -15,7 +15,7 @@ Begin q = q .before .before .before .before .before .before .before .before .bef
 
 -- the input with some column order, and the lists
 abbrev given : tie.Start → List ℕ → Input
-given s o = inputOf (s .args .n) (now (s .args .starts)) (now (s .args .columns)) (now (s .args .values)) (now (s .args .r)) o (now (s .args .b))
+given s o = withFloor (s .args .floor) (inputOf (s .args .n) (now (s .args .starts)) (now (s .args .columns)) (now (s .args .values)) (now (s .args .r)) o (now (s .args .b)))
 
 abbrev stores : tie.Start → PlacedLists
 stores s = lists (now (s .args .lower-starts)) (now (s .args .lower-index)) (now (s .args .upper-starts)) (now (s .args .upper-runs)) (now (s .args .upper-index))

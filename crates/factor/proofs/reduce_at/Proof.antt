@@ -3,7 +3,7 @@ use Rattle.factor.specs.Factoring.{lists, RowAt, RowReady}
 use Rattle.factor.specs.TurnLaws.{row-room}
 use Rattle.factor.proofs.Parts.{own-list, own-right}
 use Rattle.outcome.specs.Solve.{system}
-use Rattle.matrix.specs.Input.{inputOf}
+use Rattle.matrix.specs.Input.{inputOf, withFloor}
 use mathlib.Core.List.{List}
 use Prim.Native.Nat.{ℕ}
 use lib.ListN.{length}
@@ -17,13 +17,13 @@ Begin c = c .before .before .before .before .before .before .before .before .bef
 
 -- the row once its lower row stands in the marks, for any column order that fits
 stands : (c : tie.After-lower-at) (o : List ℕ)
-    → RowReady (Begin c .args .form) (inputOf (Begin c .args .n) (now (Begin c .args .starts)) (now (Begin c .args .columns)) (now (Begin c .args .values)) (now (Begin c .args .r)) o (now (Begin c .args .b))) (lists (now (Begin c .args .lower-starts)) (now (Begin c .args .lower-index)) (now (Begin c .args .upper-starts)) (now (Begin c .args .upper-runs)) (now (Begin c .args .upper-index)))
+    → RowReady (Begin c .args .form) (withFloor (Begin c .args .floor) (inputOf (Begin c .args .n) (now (Begin c .args .starts)) (now (Begin c .args .columns)) (now (Begin c .args .values)) (now (Begin c .args .r)) o (now (Begin c .args .b)))) (lists (now (Begin c .args .lower-starts)) (now (Begin c .args .lower-index)) (now (Begin c .args .upper-starts)) (now (Begin c .args .upper-runs)) (now (Begin c .args .upper-index)))
     (Begin c .args .k .0) (length (now (Begin c .args .upper-values))) (length (now (Begin c .args .work))) (now (Begin c .args .marks))
-    → RowAt (inputOf (Begin c .args .n) (now (Begin c .args .starts)) (now (Begin c .args .columns)) (now (Begin c .args .values)) (now (Begin c .args .r)) o (now (Begin c .args .b))) (Begin c .args .k .0) (c .lower-at .result) (now (Begin c .args .upper-starts)) (now (Begin c .args .upper-runs)) (now (Begin c .args .upper-index))
+    → RowAt (withFloor (Begin c .args .floor) (inputOf (Begin c .args .n) (now (Begin c .args .starts)) (now (Begin c .args .columns)) (now (Begin c .args .values)) (now (Begin c .args .r)) o (now (Begin c .args .b)))) (Begin c .args .k .0) (c .lower-at .result) (now (Begin c .args .upper-starts)) (now (Begin c .args .upper-runs)) (now (Begin c .args .upper-index))
     (c .lower-at .last .1 .1 .1 .1 .1 .1 .1 .1 .1 .1 .1 .0) (length (now (Begin c .args .upper-values))) (length (now (Begin c .args .work)))
 stands c o h = h .row (c .lower-at .last .1 .1 .1 .1 .1 .1 .1 .1 .1 .1 .1 .0) (c .lower-at .result) (c .lower-at .kept .1 .1 .1 .1 .1 .1 .1 .1 .1 .1 .1 .0) (c .lower-at .ensures)
 
-here : (c : tie.After-lower-at) → RowAt (inputOf (Begin c .args .n) (now (Begin c .args .starts)) (now (Begin c .args .columns)) (now (Begin c .args .values)) (now (Begin c .args .r)) (Begin c .pre .0) (now (Begin c .args .b)))
+here : (c : tie.After-lower-at) → RowAt (withFloor (Begin c .args .floor) (inputOf (Begin c .args .n) (now (Begin c .args .starts)) (now (Begin c .args .columns)) (now (Begin c .args .values)) (now (Begin c .args .r)) (Begin c .pre .0) (now (Begin c .args .b))))
     (Begin c .args .k .0) (c .lower-at .result) (now (Begin c .args .upper-starts)) (now (Begin c .args .upper-runs)) (now (Begin c .args .upper-index))
     (c .lower-at .last .1 .1 .1 .1 .1 .1 .1 .1 .1 .1 .1 .0) (length (now (Begin c .args .upper-values))) (length (now (Begin c .args .work)))
 here c = stands c (Begin c .pre .0) (Begin c .pre .1)
@@ -62,7 +62,7 @@ returns c =
     let a = Begin q .args in (
       q .lower-at .ensures,
       λ o rows h H.
-          let i = (inputOf (a .n) (now (a .starts)) (now (a .columns)) (now (a .values)) (now (a .r)) o (now (a .b))) in
+          let i = (withFloor (a .floor) (inputOf (a .n) (now (a .starts)) (now (a .columns)) (now (a .values)) (now (a .r)) o (now (a .b)))) in
           c .before .before .before .before .reduce-row .ensures (system i) rows H
           (row-lent i (a .k .0) (q .lower-at .result) (now (a .upper-starts)) (now (a .upper-runs)) (now (a .upper-index)) (q .lower-at .last .1 .1 .1 .1 .1 .1 .1 .1 .1 .1 .1 .0) (length (now (a .upper-values))) (length (now (a .work))) (stands q o h)
           (p .before .before .before .own-row .result) (now (p .before .before .row-columns .result)) (now (p .before .before .before .before .lower-part .result)) (now (p .before .row-values .result)) (p .row-right .result)

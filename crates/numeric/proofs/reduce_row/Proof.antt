@@ -62,7 +62,7 @@ returns c =
     let t = c .before .before .before .before .before .before .before .before .before .before .before .before .before .before .before .before .before .before .before .before .before .before .before .before .before .before in
     let a = t .args in
     λ S rows H L C. reduced S rows (a .n) (a .k) (now (a .f)) (now (a .starts)) (now (a .runs)) (now (a .upper)) (now (a .u)) H (t .pre .place) (t .pre .scratch)
-    (now (a .lower)) (placed (orderOf (a .n) (now (a .marks))) (now (a .columns))) (now (a .values)) (a .b) L C (t .pre .lists)
+    (now (a .lower)) (placed (orderOf (a .n) (now (a .marks))) (now (a .columns))) (now (a .values)) (a .b) (a .floor) L C (t .pre .lists)
     (c .before .before .before .before .before .before .before .before .before .before .before .before .before .before .before .load-row .last .0) (c .before .before .before .before .before .before .before .before .before .before .eliminate .last .0) _ _ (c .before .before .before .before .before .before .before .before .before .before .eliminate .result) _ _ _ refl
     (c .before .before .before .before .before .before .before .before .before .before .before .before .before .before .before .load-row .ensures) (c .before .before .before .before .before .before .before .before .before .before .before .before .before .before .before .load-row .kept .0) (c .before .before .before .before .before .before .before .before .before .before .eliminate .ensures) (c .before .before .before .before .before .before .before .list-at .ensures) (c .before .before .before .before .before .slot .ensures .0) (c .before .before .finish-row .ensures)
 

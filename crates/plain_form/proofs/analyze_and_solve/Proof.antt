@@ -45,9 +45,9 @@ returns-2 c =
     let q = Solved c .factor-and-solve in
     let e = done-with _ _ _ (b .before .refuses .ensures) (b .if1 .left) (k .counts .ensures) in
     both-leaves Plain _ _ _ _ _ _ _ _ _ _ _ _ _ _ _ _ _ _ _ _ _ _ _ _ _ _ _ _ _ _ _ _ (p .ensures) e (q .ensures) (c .answer-of .ensures)
-    (p .kept .1 .1 .1 .1 .1 .0) refl (p .kept .1 .1 .1 .1 .1 .1 .0) (q .kept .1 .1 .1 .1 .1 .1 .1 .1 .1 .1 .0)
-    (p .kept .1 .1 .1 .1 .1 .1 .1 .1 .0) refl (p .kept .1 .1 .1 .1 .1 .1 .1 .1 .1 .0) (q .kept .1 .1 .1 .1 .1 .1 .1 .1 .1 .1 .1 .1 .1 .1 .0)
-    (q .kept .1 .1 .1 .1 .1 .1 .1 .1 .1 .1 .1 .1 .1 .1 .1 .1 .1 .0) (q .kept .1 .1 .1 .1 .1 .1 .1 .1 .1 .1 .1 .1 .1 .1 .1 .1 .1 .1 .0 ∙ p .kept .1 .1 .1 .1 .1 .1 .1 .1 .1 .1 .1 .0) (λ h. refl) (λ h. refl)
+    (p .kept .1 .1 .1 .1 .1 .0) refl (p .kept .1 .1 .1 .1 .1 .1 .0) (q .kept .1 .1 .1 .1 .1 .1 .1 .1 .1 .1 .1 .0)
+    (p .kept .1 .1 .1 .1 .1 .1 .1 .1 .0) refl (p .kept .1 .1 .1 .1 .1 .1 .1 .1 .1 .0) (q .kept .1 .1 .1 .1 .1 .1 .1 .1 .1 .1 .1 .1 .1 .1 .1 .0)
+    (q .kept .1 .1 .1 .1 .1 .1 .1 .1 .1 .1 .1 .1 .1 .1 .1 .1 .1 .1 .0) (q .kept .1 .1 .1 .1 .1 .1 .1 .1 .1 .1 .1 .1 .1 .1 .1 .1 .1 .1 .1 .0 ∙ p .kept .1 .1 .1 .1 .1 .1 .1 .1 .1 .1 .1 .0) (λ h. refl) (λ h. refl)
 
 pub analyze-and-solve-spec : {M : Type 1} → statement M
 analyze-and-solve-spec =
@@ -60,12 +60,12 @@ analyze-and-solve-spec =
     returns (λ c κs. search needs) factor-and-solve-requires (λ c κs. search needs)
     (λ c. Earlier (Counted (Solved c)) .analyze-plain .kept .1 .1 .1 .1 .1 .0)
     (λ c. Earlier (Counted (Solved c)) .analyze-plain .kept .1 .1 .1 .1 .1 .1 .0)
-    (λ c. Solved c .factor-and-solve .kept .1 .1 .1 .1 .1 .1 .1 .1 .1 .1 .0)
+    (λ c. Solved c .factor-and-solve .kept .1 .1 .1 .1 .1 .1 .1 .1 .1 .1 .1 .0)
     (λ c. Earlier (Counted (Solved c)) .analyze-plain .kept .1 .1 .1 .1 .1 .1 .1 .1 .0)
     (λ c. Earlier (Counted (Solved c)) .analyze-plain .kept .1 .1 .1 .1 .1 .1 .1 .1 .1 .0)
-    (λ c. Solved c .factor-and-solve .kept .1 .1 .1 .1 .1 .1 .1 .1 .1 .1 .1 .1 .1 .1 .0)
     (λ c. Solved c .factor-and-solve .kept .1 .1 .1 .1 .1 .1 .1 .1 .1 .1 .1 .1 .1 .1 .1 .0)
     (λ c. Solved c .factor-and-solve .kept .1 .1 .1 .1 .1 .1 .1 .1 .1 .1 .1 .1 .1 .1 .1 .1 .0)
     (λ c. Solved c .factor-and-solve .kept .1 .1 .1 .1 .1 .1 .1 .1 .1 .1 .1 .1 .1 .1 .1 .1 .1 .0)
-    (λ c. Solved c .factor-and-solve .kept .1 .1 .1 .1 .1 .1 .1 .1 .1 .1 .1 .1 .1 .1 .1 .1 .1 .1 .0 ∙ Earlier (Counted (Solved c)) .analyze-plain .kept .1 .1 .1 .1 .1 .1 .1 .1 .1 .1 .1 .0)
+    (λ c. Solved c .factor-and-solve .kept .1 .1 .1 .1 .1 .1 .1 .1 .1 .1 .1 .1 .1 .1 .1 .1 .1 .1 .0)
+    (λ c. Solved c .factor-and-solve .kept .1 .1 .1 .1 .1 .1 .1 .1 .1 .1 .1 .1 .1 .1 .1 .1 .1 .1 .1 .0 ∙ Earlier (Counted (Solved c)) .analyze-plain .kept .1 .1 .1 .1 .1 .1 .1 .1 .1 .1 .1 .0)
     returns-2)

@@ -1,30 +1,16 @@
-use Rattle.matrix.specs.Questions.{ask6}
+use Rattle.matrix.specs.Questions.{askNumbers}
 use Rattle.questions.specs.AskLaws.{then-stop, then-pass}
 use borrow.Author.Needs.{needs}
 use Rattle.questions.proofs.ask_numbers.Statement.{statement}
 use Rattle.questions.proofs.ask_numbers.Tie as tie
 
-ask-finite-requires : tie.Need-ask-finite-requires
-ask-finite-requires c κs = search needs
-
-enum-known-a : tie.Need-enum-known-a
-enum-known-a c = search needs
-
 returns : tie.Need-returns
-unfolding ask6
+unfolding askNumbers
 returns c = search then-stop depth 8
 
-enum-told : tie.Need-enum-told
-enum-told c = search needs
-
-ask-finite-requires-2 : tie.Need-ask-finite-requires-2
-ask-finite-requires-2 c κs = search needs
-
 returns-2 : tie.Need-returns-2
-unfolding ask6
+unfolding askNumbers
 returns-2 c = search then-pass depth 8
 
 pub ask-numbers-spec : {M : Type 1} → statement M
-ask-numbers-spec =
-    tie.close
-    (tie.spec ask-finite-requires enum-known-a returns enum-told ask-finite-requires-2 returns-2)
+ask-numbers-spec = tie.close (tie.spec (λ c κs. search needs) (λ c. search needs) returns (λ c. search needs) (λ c κs. search needs) returns-2)

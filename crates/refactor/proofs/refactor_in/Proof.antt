@@ -46,20 +46,20 @@ returns-2 c =
     let a = Asked (b .before) in
     let n = Numbers c .clear-numbers-if .ensures in
     refactor-ends (Begin a .args .way) _ _ _ _ _ _ _ _ _ _ _ _ _ _ _ _ (a .ask .ensures) _ _ _ _ _ _ _ _ _ _ _ _ _ _ _ (pass-of _ (sym (b .before .stops .ensures) ∙ b .if1 .left)) (k .form-of .ensures) (q .ensures) (Refuses c .stops2 .ensures) (c .end-of2 .ensures)
-    (q .kept .1 .1 .1 .1 .1 .1 .1 .1 .1 .1 .0) (q .kept .1 .1 .1 .1 .1 .1 .1 .1 .1 .1 .1 .1 .1 .1 .0) (q .kept .1 .1 .1 .1 .1 .1 .1 .1 .1 .1 .1 .1 .1 .1 .1 .0) (q .kept .1 .1 .1 .1 .1 .1 .1 .1 .1 .1 .1 .1 .1 .1 .1 .1 .1 .0 ∙ a .ask .kept .1 .1 .1 .1 .1 .1 .1 .1 .1 .1 .1 .1 .1 .1 .1 .1 .1 .1 .0) (q .kept .1 .1 .1 .1 .1 .1 .1 .1 .1 .1 .1 .1 .1 .1 .1 .1 .1 .1 .0 ∙ a .ask .kept .1 .1 .1 .1 .1 .1 .1 .1 .1 .1 .1 .1 .1 .1 .1 .1 .1 .1 .1 .0)
+    (q .kept .1 .1 .1 .1 .1 .1 .1 .1 .1 .1 .1 .0) (q .kept .1 .1 .1 .1 .1 .1 .1 .1 .1 .1 .1 .1 .1 .1 .1 .0) (q .kept .1 .1 .1 .1 .1 .1 .1 .1 .1 .1 .1 .1 .1 .1 .1 .1 .0) (q .kept .1 .1 .1 .1 .1 .1 .1 .1 .1 .1 .1 .1 .1 .1 .1 .1 .1 .1 .0 ∙ a .ask .kept .1 .1 .1 .1 .1 .1 .1 .1 .1 .1 .1 .1 .1 .1 .1 .1 .1 .1 .1 .0) (q .kept .1 .1 .1 .1 .1 .1 .1 .1 .1 .1 .1 .1 .1 .1 .1 .1 .1 .1 .1 .0 ∙ a .ask .kept .1 .1 .1 .1 .1 .1 .1 .1 .1 .1 .1 .1 .1 .1 .1 .1 .1 .1 .1 .1 .0)
     (n .0) (n .1) (n .2) (Scratch c .clear-scratch .ensures)
 
 pub refactor-in-spec : {M : Type 1} → statement M
 refactor-in-spec =
     tie.close
     (tie.spec (λ c κs. c .before .before .before .before .before .before .before .before .before .before .before .before .before .before .before .before .before .before .before .before .before .before .before .before .pre) (λ c κs. search needs) (λ c κs. search needs) (λ c. refl) (λ c. refl) (λ c. refl) (λ c. refl)
-    (λ c. Asked (c .before .before) .ask .kept .1 .1 .1 .1 .1 .1 .1 .1 .1 .1 .1 .1 .1 .1 .1 .1 .1 .1 .0)
     (λ c. Asked (c .before .before) .ask .kept .1 .1 .1 .1 .1 .1 .1 .1 .1 .1 .1 .1 .1 .1 .1 .1 .1 .1 .1 .0)
+    (λ c. Asked (c .before .before) .ask .kept .1 .1 .1 .1 .1 .1 .1 .1 .1 .1 .1 .1 .1 .1 .1 .1 .1 .1 .1 .1 .0)
     returns (λ c κs. search needs) factor-and-solve-requires (λ c κs. search needs) (λ c κs. search needs) (λ c κs. search needs) (λ c κs. search needs)
-    (λ c. Numbers c .clear-numbers-if .kept .1 .0 ∙ Solved c .factor-and-solve .kept .1 .1 .1 .1 .1 .1 .1 .1 .1 .1 .0)
-    (λ c. Numbers c .clear-numbers-if .kept .1 .1 .0 ∙ Solved c .factor-and-solve .kept .1 .1 .1 .1 .1 .1 .1 .1 .1 .1 .1 .1 .1 .1 .0)
-    (λ c. Numbers c .clear-numbers-if .kept .1 .1 .1 .0 ∙ Solved c .factor-and-solve .kept .1 .1 .1 .1 .1 .1 .1 .1 .1 .1 .1 .1 .1 .1 .1 .0)
-    (λ c. Solved c .factor-and-solve .kept .1 .1 .1 .1 .1 .1 .1 .1 .1 .1 .1 .1 .1 .1 .1 .1 .0)
-    (λ c. Scratch c .clear-scratch .kept .0 ∙ Solved c .factor-and-solve .kept .1 .1 .1 .1 .1 .1 .1 .1 .1 .1 .1 .1 .1 .1 .1 .1 .1 .0 ∙ Asked (Goes (Solved c) .before .before) .ask .kept .1 .1 .1 .1 .1 .1 .1 .1 .1 .1 .1 .1 .1 .1 .1 .1 .1 .1 .0)
-    (λ c. Scratch c .clear-scratch .kept .1 .0 ∙ Solved c .factor-and-solve .kept .1 .1 .1 .1 .1 .1 .1 .1 .1 .1 .1 .1 .1 .1 .1 .1 .1 .1 .0 ∙ Asked (Goes (Solved c) .before .before) .ask .kept .1 .1 .1 .1 .1 .1 .1 .1 .1 .1 .1 .1 .1 .1 .1 .1 .1 .1 .1 .0)
+    (λ c. Numbers c .clear-numbers-if .kept .1 .0 ∙ Solved c .factor-and-solve .kept .1 .1 .1 .1 .1 .1 .1 .1 .1 .1 .1 .0)
+    (λ c. Numbers c .clear-numbers-if .kept .1 .1 .0 ∙ Solved c .factor-and-solve .kept .1 .1 .1 .1 .1 .1 .1 .1 .1 .1 .1 .1 .1 .1 .1 .0)
+    (λ c. Numbers c .clear-numbers-if .kept .1 .1 .1 .0 ∙ Solved c .factor-and-solve .kept .1 .1 .1 .1 .1 .1 .1 .1 .1 .1 .1 .1 .1 .1 .1 .1 .0)
+    (λ c. Solved c .factor-and-solve .kept .1 .1 .1 .1 .1 .1 .1 .1 .1 .1 .1 .1 .1 .1 .1 .1 .1 .0)
+    (λ c. Scratch c .clear-scratch .kept .0 ∙ Solved c .factor-and-solve .kept .1 .1 .1 .1 .1 .1 .1 .1 .1 .1 .1 .1 .1 .1 .1 .1 .1 .1 .0 ∙ Asked (Goes (Solved c) .before .before) .ask .kept .1 .1 .1 .1 .1 .1 .1 .1 .1 .1 .1 .1 .1 .1 .1 .1 .1 .1 .1 .0)
+    (λ c. Scratch c .clear-scratch .kept .1 .0 ∙ Solved c .factor-and-solve .kept .1 .1 .1 .1 .1 .1 .1 .1 .1 .1 .1 .1 .1 .1 .1 .1 .1 .1 .1 .0 ∙ Asked (Goes (Solved c) .before .before) .ask .kept .1 .1 .1 .1 .1 .1 .1 .1 .1 .1 .1 .1 .1 .1 .1 .1 .1 .1 .1 .1 .0)
     returns-2)

@@ -42,7 +42,7 @@ returns-2 c =
     let k = Counted (Solved c) in
     let b = k .before in
     let q = Solved c .factor-and-solve in
-    row-leaves _ _ _ _ _ _ _ _ _ _ _ _ _ _ (q .last .1 .1 .1 .1 .1 .1 .1 .1 .1 .1 .0) _ _ _ _ _ _ _ _ (Earlier k .analyze-by-row .ensures) (done-with _ _ _ (b .before .refuses .ensures) (b .if1 .left) (k .counts .ensures)) (q .ensures) (c .answer-of .ensures) (q .kept .1 .1 .1 .1 .1 .1 .1 .1 .1 .1 .0)
+    row-leaves _ _ _ _ _ _ _ _ _ _ _ _ _ _ (q .last .1 .1 .1 .1 .1 .1 .1 .1 .1 .1 .1 .0) _ _ _ _ _ _ _ _ (Earlier k .analyze-by-row .ensures) (done-with _ _ _ (b .before .refuses .ensures) (b .if1 .left) (k .counts .ensures)) (q .ensures) (c .answer-of .ensures) (q .kept .1 .1 .1 .1 .1 .1 .1 .1 .1 .1 .1 .0)
 
 pub analyze-and-solve-spec : {M : Type 1} → statement M
 analyze-and-solve-spec =
@@ -55,9 +55,9 @@ analyze-and-solve-spec =
     (λ c. Earlier (Counted (Solved c)) .analyze-by-row .kept .1 .1 .1 .1 .1 .0)
     (λ c. Earlier (Counted (Solved c)) .analyze-by-row .kept .1 .1 .1 .1 .1 .1 .0)
     (λ c. Earlier (Counted (Solved c)) .analyze-by-row .kept .1 .1 .1 .1 .1 .1 .1 .0)
-    (λ c. Solved c .factor-and-solve .kept .1 .1 .1 .1 .1 .1 .1 .1 .1 .1 .1 .1 .1 .1 .0)
     (λ c. Solved c .factor-and-solve .kept .1 .1 .1 .1 .1 .1 .1 .1 .1 .1 .1 .1 .1 .1 .1 .0)
     (λ c. Solved c .factor-and-solve .kept .1 .1 .1 .1 .1 .1 .1 .1 .1 .1 .1 .1 .1 .1 .1 .1 .0)
     (λ c. Solved c .factor-and-solve .kept .1 .1 .1 .1 .1 .1 .1 .1 .1 .1 .1 .1 .1 .1 .1 .1 .1 .0)
-    (λ c. Solved c .factor-and-solve .kept .1 .1 .1 .1 .1 .1 .1 .1 .1 .1 .1 .1 .1 .1 .1 .1 .1 .1 .0 ∙ Earlier (Counted (Solved c)) .analyze-by-row .kept .1 .1 .1 .1 .1 .1 .1 .1 .1 .0)
+    (λ c. Solved c .factor-and-solve .kept .1 .1 .1 .1 .1 .1 .1 .1 .1 .1 .1 .1 .1 .1 .1 .1 .1 .1 .0)
+    (λ c. Solved c .factor-and-solve .kept .1 .1 .1 .1 .1 .1 .1 .1 .1 .1 .1 .1 .1 .1 .1 .1 .1 .1 .1 .0 ∙ Earlier (Counted (Solved c)) .analyze-by-row .kept .1 .1 .1 .1 .1 .1 .1 .1 .1 .0)
     returns-2)

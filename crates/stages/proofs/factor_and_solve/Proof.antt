@@ -21,7 +21,7 @@ returns c =
     came-fault _ _ _ _ _ _ _ _ _ (Computed k .factor .ensures _ (Begin (Computed k) .pre .ready)) (k .fault-of .ensures) (sym (c .before .stops .ensures) ∙ c .if1 .taken)
 
 write-x-requires : tie.Need-write-x-requires
-write-x-requires c κs = let p = Computed (c .before .before .before .before) in solution-due _ _ _ _ _ _ (Begin p .pre) (p .factor .kept .1 .1 .1 .1 .1 .1 .1 .1 .1 .1 .1 .1 .1 .1 .1 .0)
+write-x-requires c κs = let p = Computed (c .before .before .before .before) in solution-due _ _ _ _ _ _ (Begin p .pre) (p .factor .kept .1 .1 .1 .1 .1 .1 .1 .1 .1 .1 .1 .1 .1 .1 .1 .1 .0)
 
 returns-2 : tie.Need-returns-2
 returns-2 c =
