@@ -6,15 +6,12 @@ ghost use Rattle.printing.specs.Print.{digit, digits, widthIn, decimal, 
 ghost use Rattle.printing.specs.Written.{Written, farthest};
 use base::Counts;
 
-// The character of a digit below 16.
+// The character of a digit below 16, by arithmetic alone: (d + 6) / 16 is 1 from 10 on, and the capital letters stand 7 behind the digits.
 fn digit_of(d: u64) -> u8
     requires { ⌜ d < 16 ⌝ }
     ensures { λ r. ⌜ r ≡ digit d ⌝ }
 {
-    if d < 10 {
-        return (48 + d) as u8;
-    }
-    (55 + d) as u8
+    (48 + d + 7 * ((d + 6) / 16)) as u8
 }
 
 // One byte, if the buffer has its place.

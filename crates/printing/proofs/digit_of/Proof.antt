@@ -1,30 +1,20 @@
-use borrow.Author.Tests.{lt-ltb, le-ltb}
+use mathlib.Core.Path.{_≡_}
+use borrow.Author.Tests.{ltb-true, ltb-false}
+use lib.Dec.{ltb}
+use Prim.Native.Nat.{ℕ, _+_, _*_, _/_, _<_}
+use Rattle.base.specs.Tests.{by-test}
 use Rattle.printing.specs.Print.{digit}
 use native.Mathlib.Omega.{arith}
 use borrow.Author.Needs.{needs}
 use Rattle.printing.proofs.digit_of.Statement.{statement}
 use Rattle.printing.proofs.digit_of.Tie as tie
 
-add-result : tie.Need-add-result
-add-result c = search needs
-
-cast-result : tie.Need-cast-result
-cast-result c = search needs
-
-returns : tie.Need-returns
+by-arithmetic : (d : ℕ) → d < 16 → 48 + d + 7 * ((d + 6) / 16) ≡ digit d
 unfolding digit
-returns c = rw (lt-ltb (c .before .args .d) 10 (c .if1 .taken))
-
-add-result-2 : tie.Need-add-result-2
-add-result-2 c = search needs
-
-cast-result-2 : tie.Need-cast-result-2
-cast-result-2 c = search needs
-
-returns-2 : tie.Need-returns-2
-unfolding digit
-returns-2 c = rw (le-ltb (c .before .args .d) 10 (omega arith))
+by-arithmetic d h =
+    by-test (ltb d 10) (λ t. let l = ltb-true d 10 t in rw t (omega arith)) (λ t. let l = ltb-false d 10 t in rw t (omega arith))
 
 pub digit-of-spec : {M : Type 1} → statement M
 digit-of-spec =
-    tie.close (tie.spec add-result cast-result returns add-result-2 cast-result-2 returns-2)
+    tie.close
+    (tie.spec (λ c. search needs) (λ c. search needs) (λ c. search needs) (λ c. search needs) (λ c. search needs) (λ c. by-arithmetic (c .args .d) (c .pre)))
