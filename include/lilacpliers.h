@@ -18,7 +18,9 @@
  * Matrix, orders, right side, floor:
  *   n        rows, 1 to LP_MAX_ROWS
  *   starts   n + 1 row starts: row i has the entries starts[i] to starts[i + 1] - 1
- *   columns  e columns, e at most LP_MAX_ENTRIES, in any order within a row
+ *   columns  e columns, e at most LP_MAX_ENTRIES, in any order within a row, the same one as often as need be: its
+ *            values are added in stored order, from the first of them, each sum rounded, before the row is eliminated;
+ *            a sum of zero keeps its position
  *   values   e numbers
  *   r, c     row order and column order: place k takes row r[k] and column c[k]
  *   b        right side, n numbers by own row
@@ -48,7 +50,7 @@
  *
  * What the buffers hold afterwards, unless a call says otherwise:
  *   LP_ROWS, LP_LENGTHS                nothing but the report was written
- *   LP_STARTS to LP_REPEATED, LP_FLOOR,
+ *   LP_STARTS to LP_EMPTY_ROW, LP_FLOOR,
  *   LP_OTHER_STRUCTURE, LP_BAD_FACTORS scratch is zero, all else untouched
  *   LP_NULL_PIVOT to LP_OVERFLOW       scratch is zero, and so is every other buffer but x and sheet that the call
  *                                      writes
@@ -67,7 +69,7 @@ extern "C" {
 
 /* The version of this interface. It is raised whenever a function, a number or what a buffer holds changes, so that
  * a caller can refuse to be compiled against another one. */
-#define LP_VERSION 5
+#define LP_VERSION 6
 
 /* The limits of n, of e and of the slots of a store. */
 #define LP_MAX_ROWS 4096
@@ -93,12 +95,12 @@ extern "C" {
 #define LP_ORDER 5            /* r or c is no order: index of the first number out of range or repeated; in c, plus n */
 #define LP_NOT_FINITE 6       /* a value or a number of b is not finite: its index; in b, plus e */
 #define LP_EMPTY_ROW 7        /* a row has no entry: own row */
-#define LP_REPEATED 8         /* a row has a column twice: own row */
+#define LP_REPEATED 8         /* reserved; no longer answered, since a row may have a column several times */
 #define LP_NULL_PIVOT 9       /* (k, k) is not filled: k */
 #define LP_LOWER_SLOTS 10     /* the lower lists do not fit index or value store: k */
 #define LP_UPPER_SLOTS 11     /* the upper lists do not fit index or value store: k */
 #define LP_ZERO_PIVOT 12      /* the magnitude of the pivot is at most the floor (floor 0: a zero of either sign): k */
-#define LP_OVERFLOW 13        /* a result is not finite: the k at work */
+#define LP_OVERFLOW 13        /* a result is not finite, a sum of one column's values among them: the k at work */
 #define LP_OTHER_STRUCTURE 14 /* presented lists are not those that the structure call places: k */
 #define LP_BAD_FACTORS 15     /* presented lists are ill shaped, or a factor is not finite: k */
 #define LP_FILE_LENGTH 16     /* the file's length is no positive multiple of 512 up to 2^41 */
@@ -111,7 +113,7 @@ extern "C" {
 #define LP_UPPER 1
 
 /* Finds the fill and places its lists in the plain form: lower rows and upper lists, one after another.
- * Asks 1 to 5, then 7 to 11. Writes list starts, index stores, value stores (all zero) and scratch. */
+ * Asks 1 to 5, 7, then 9 to 11. Writes list starts, index stores, value stores (all zero) and scratch. */
 uint32_t lp_structure_plain(
     size_t n,
     const uint32_t *starts, size_t starts_len,
@@ -129,7 +131,7 @@ uint32_t lp_structure_plain(
     uint64_t *report, size_t report_len);
 
 /* Finds the fill and places its lists in the shared form: lower columns and upper lists, sharing index slots.
- * Asks 1 to 5, then 7 to 11. Writes list starts, run starts, index stores, value stores (all zero) and scratch. */
+ * Asks 1 to 5, 7, then 9 to 11. Writes list starts, run starts, index stores, value stores (all zero) and scratch. */
 uint32_t lp_structure_shared(
     size_t n,
     const uint32_t *starts, size_t starts_len,
@@ -180,7 +182,7 @@ uint32_t lp_fill_sheet(
     uint64_t *report, size_t report_len);
 
 /* Finds structure, factors and one solution, in the plain form.
- * Asks 1 to 6, 19, then 7 to 13. Writes list starts, index and value stores, d, x and scratch. */
+ * Asks 1 to 6, 19, 7, then 9 to 13. Writes list starts, index and value stores, d, x and scratch. */
 uint32_t lp_solve_plain(
     size_t n,
     const uint32_t *starts, size_t starts_len,
@@ -203,7 +205,7 @@ uint32_t lp_solve_plain(
     uint64_t *report, size_t report_len);
 
 /* Finds structure, factors and one solution, in the shared form.
- * Asks 1 to 6, 19, then 7 to 13. Writes list starts, run starts, index and value stores, d, x and scratch. */
+ * Asks 1 to 6, 19, 7, then 9 to 13. Writes list starts, run starts, index and value stores, d, x and scratch. */
 uint32_t lp_solve_shared(
     size_t n,
     const uint32_t *starts, size_t starts_len,
@@ -228,8 +230,8 @@ uint32_t lp_solve_shared(
     uint64_t *report, size_t report_len);
 
 /* Finds one solution without keeping L: the row form. It is lent the shared form's upper side and d as working room.
- * Asks 1 to 6, 19, then 7 to 9 and 11 to 13. Writes the upper side, d, x and scratch; afterwards all of it but x is
- * zero, also when it is done. */
+ * Asks 1 to 6, 19, 7, 9, then 11 to 13. Writes the upper side, d, x and scratch; afterwards all of it but x is zero,
+ * also when it is done. */
 uint32_t lp_solve_row(
     size_t n,
     const uint32_t *starts, size_t starts_len,
@@ -250,7 +252,7 @@ uint32_t lp_solve_row(
     uint64_t *report, size_t report_len);
 
 /* Factors new values over lists that lp_structure_plain or lp_solve_plain left for the same pattern and orders, and
- * finds one solution. Asks 1 to 6, 19, 7, 8, 14, then 12 and 13; 14 also where the structure call would give 9 to 11.
+ * finds one solution. Asks 1 to 6, 19, 7, 14, then 12 and 13; 14 also where the structure call would give 9 to 11.
  * The floor may be another than the one given before. Reads list starts and index stores, and never changes them;
  * writes value stores, d, x and scratch. report[0] is the place; there are no counts. */
 uint32_t lp_refactor_plain(

@@ -21,11 +21,15 @@ impl Work {
         Work { w: vec![0.0; n], y: vec![0.0; n] }
     }
 
-    /// Step 1: the entries of row k over zeros.
+    /// Step 1: over zeros, the values of each column of row k added in stored order. A sum that begins from -0 is one
+    /// that begins from its first value.
     pub fn load(&mut self, k: usize, pattern: &Pattern, values: &[f64]) {
         let from = pattern.starts[k] as usize;
+        for &j in pattern.row(k) {
+            self.w[j as usize] = -0.0;
+        }
         for (&j, &value) in pattern.row(k).iter().zip(&values[from..]) {
-            self.w[j as usize] = value;
+            self.w[j as usize] += value;
         }
     }
 

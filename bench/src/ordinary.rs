@@ -1,4 +1,4 @@
-//! Structure and solve of the ordinary solver, for matrices that pass questions 1 to 8 and 19. It leaves in the buffers
+//! Structure and solve of the ordinary solver, for matrices that pass questions 1 to 7 and 19. It leaves in the buffers
 //! what the product leaves when it ends well; after a refusal it leaves them as they are.
 use crate::numeric::{back, Upper, Work};
 use crate::symbolic::{by_place, Members, Pattern, Placing};
@@ -209,6 +209,25 @@ mod tests {
             for form in [Form::Plain, Form::Shared] {
                 agrees(Call::Structure(form), &input, slots);
                 agrees(Call::Solve(form), &input, slots);
+            }
+        }
+    }
+
+    #[test]
+    fn columns_several_times_in_a_row() {
+        for case in 0..4000 {
+            let mut random = Random::for_case(6, case);
+            let n = random.between(1, 12);
+            let input = generate::repeated_input(&mut random, n);
+            for form in [Form::Plain, Form::Shared] {
+                agrees(Call::Structure(form), &input, Slots::all(n * n));
+                agrees(Call::Solve(form), &input, Slots::all(n * n));
+            }
+        }
+        for input in [load::parts_of_one(MAX_ENTRIES), load::halved(&load::test_load(100, 1))] {
+            for form in [Form::Plain, Form::Shared] {
+                agrees(Call::Structure(form), &input, Slots::all(input.n * input.n));
+                agrees(Call::Solve(form), &input, Slots::all(input.n * input.n));
             }
         }
     }

@@ -1,13 +1,14 @@
 //! The commands solve, structure, picture, sheet and load.
 use crate::arguments::{FormName, Load, OrderFiles, Solve};
 use crate::convert::{kind, Kind};
-use crate::facts::{facts, table_text, Fact};
+use crate::facts::{facts, table_text, Fact, Stored};
 use crate::fault::Fault;
 use crate::input::{self, shown};
 use crate::output::{self, column, Place};
 use crate::picture::{draw, Subject};
 use crate::progress;
 use lilacpliers::{solve_above, Form, Matrix, Orders, Side, Structure, System};
+use std::collections::BTreeSet;
 use std::path::Path;
 
 pub fn solve(asked: &Solve) -> Result<(), Fault> {
@@ -89,8 +90,15 @@ struct Found {
 impl Found {
     fn table(&self) -> Vec<Fact> {
         let matrix = &self.system.matrix;
-        facts(matrix.rows(), matrix.entries(), self.plain.counts(), self.plain.slots(), self.shared.slots())
+        let stored = Stored { entries: matrix.entries(), positions: positions(matrix) };
+        facts(matrix.rows(), stored, self.plain.counts(), self.plain.slots(), self.shared.slots())
     }
+}
+
+/// How many positions have an entry; a position with several counts once.
+fn positions(matrix: &Matrix) -> usize {
+    let columns = |i| matrix.row(i).map(|(j, _)| j).collect::<BTreeSet<usize>>().len();
+    (0..matrix.rows()).map(columns).sum()
 }
 
 fn found(file: &Path, orders: &OrderFiles) -> Result<Found, Fault> {
@@ -109,7 +117,8 @@ fn runs(structure: &Structure, side: Side, n: usize) -> Vec<usize> {
     (0..n).map(|k| structure.run(side, k)).collect()
 }
 
-/// The stored entries of M' by place. The library has accepted matrix and orders before.
+/// The stored entries of M' by place, a place as often as it is stored. The library has accepted matrix and orders
+/// before.
 fn stored(matrix: &Matrix, orders: &Orders) -> Vec<Vec<usize>> {
     let mut place_of = vec![0; matrix.rows()];
     for (k, &own) in orders.columns().iter().enumerate() {

@@ -42,9 +42,6 @@ fn to_matrix_file(asked: &Convert) -> Result<(), Fault> {
     let mut system = input::from_market(&asked.from, &input::bytes(&asked.from)?)?;
     input::complete(&mut system, asked.right.as_deref(), &asked.orders)?;
     check_orders(&name, &system)?;
-    if let Some(row) = repeating(&system.matrix) {
-        return Err(format!("{name}: row {} has a column twice", row + 1).into());
-    }
     let file = system.write().map_err(|error| Fault::about(&name, error))?;
     Ok(output::write(Place::File(&asked.to), &file)?)
 }
@@ -107,15 +104,6 @@ fn right_text(path: &Path, right: &[f64]) -> String {
 
 fn order_text(order: &[u16]) -> String {
     order.iter().map(|number| format!("{number}\n")).collect()
-}
-
-/// The first row that has a column twice.
-fn repeating(matrix: &Matrix) -> Option<usize> {
-    (0..matrix.rows()).find(|&i| {
-        let mut columns: Vec<usize> = matrix.row(i).map(|(j, _)| j).collect();
-        columns.sort_unstable();
-        columns.windows(2).any(|pair| pair[0] == pair[1])
-    })
 }
 
 fn check_orders(name: &str, system: &System) -> Result<(), Fault> {

@@ -7,16 +7,23 @@ pub struct Fact {
     pub value: String,
 }
 
-pub fn facts(n: usize, entries: usize, counts: Counts, plain: Slots, shared: Slots) -> Vec<Fact> {
+/// What a matrix has stored: its entries, and the positions that have one or more of them.
+#[derive(Clone, Copy)]
+pub struct Stored {
+    pub entries: usize,
+    pub positions: usize,
+}
+
+pub fn facts(n: usize, stored: Stored, counts: Counts, plain: Slots, shared: Slots) -> Vec<Fact> {
     let filled = counts.lower + counts.upper + n as u64;
-    let mut table = vec![
-        fact("rows", n),
-        fact("stored entries", entries),
-        fact("fill", filled.saturating_sub(entries as u64)),
-        fact("filled below the diagonal", counts.lower),
-        fact("filled above the diagonal", counts.upper),
-        fact("products", counts.products),
-    ];
+    let mut table = vec![fact("rows", n), fact("stored entries", stored.entries)];
+    if stored.positions < stored.entries {
+        table.push(fact("stored positions", stored.positions));
+    }
+    table.push(fact("fill", filled.saturating_sub(stored.positions as u64)));
+    table.push(fact("filled below the diagonal", counts.lower));
+    table.push(fact("filled above the diagonal", counts.upper));
+    table.push(fact("products", counts.products));
     table.push(fact("plain form, slots", ""));
     slots(&mut table, plain);
     table.push(fact("shared form, slots", ""));
@@ -73,6 +80,17 @@ pub fn table_text(table: &[Fact]) -> String {
 #[cfg(test)]
 mod tests {
     use super::*;
+
+    #[test]
+    fn fill_is_what_no_position_stores() {
+        let (counts, slots) = (Counts { lower: 3, upper: 3, products: 5 }, Slots::default());
+        let lines = |entries, positions| {
+            let table = facts(3, Stored { entries, positions }, counts, slots, slots);
+            table.into_iter().take(4).map(|Fact { label, value }| format!("{label} {value}")).collect::<Vec<_>>()
+        };
+        assert_eq!(lines(7, 7), ["rows 3", "stored entries 7", "fill 2", "filled below the diagonal 3"]);
+        assert_eq!(lines(40, 7), ["rows 3", "stored entries 40", "stored positions 7", "fill 2"]);
+    }
 
     #[test]
     fn saving_is_in_per_cent() {

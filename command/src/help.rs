@@ -25,7 +25,8 @@ lilac solves sparse systems M x = b with the proved library Lilacpliers.
 
 FILE is a matrix file or a Matrix Market file; its contents tell which. The name - is standard input, and standard
 output where something is written.
-A matrix has up to 4096 rows and 65536 entries. lilac COMMAND --help says more about a command.
+A matrix has up to 4096 rows and 65536 entries. A position may have several: their values are added in the order of
+FILE, each sum rounded. lilac COMMAND --help says more about a command.
 
 Exit status: 0 done; 1 the library refused the system, the floor, or the size of a load; 2 bad usage, or a file that
 cannot be read or written.
@@ -58,7 +59,7 @@ const STRUCTURE: &str = "\
 lilac structure FILE [options]
 
 Prints the counts of the elimination, the slots that its lists use in the plain, the shared and the row form, and what
-sharing saves in per cent.
+sharing saves in per cent. Where a position has several entries, the stored positions are counted besides.
 
   --order FILE                one order for rows and columns: the numbers 0 to n - 1, place by place
   --rows FILE                 the order of the rows alone, and
@@ -80,16 +81,16 @@ Turns A.mtx into B.lp, or A.lp into B.mtx; the names of the files tell which.
   --refusals words|numbers    say a refusal in plain words (the default) or as `refused NUMBER PLACE`
 
 A Matrix Market file holds neither right side nor order: what is left behind is said on standard error.
-Orders that are none, and in a Matrix Market file a row with a column twice, are not converted.
+A position with several entries keeps them all, in their order. Orders that are none are not converted.
 ";
 
 const PICTURE: &str = "\
 lilac picture FILE [options]
 
 Draws the matrix in elimination order, row k being place k, as an SVG picture: stored entries dark, fill lighter, and
-upper lists (rows) and lower columns that share index slots in the shared form in one hue. Counts and slots stand
-beside it, up to 64 places the slots of each row too. Beyond 200 places a cell is a square of positions, the darker the
-denser.
+upper lists (rows) and lower columns that share index slots in the shared form in one hue. A position with several
+entries is one cell. Counts and slots stand beside it, up to 64 places the slots of each row too. Beyond 200 places a
+cell is a square of positions, the darker the denser.
 
   --order FILE                one order for rows and columns: the numbers 0 to n - 1, place by place
   --rows FILE                 the order of the rows alone, and

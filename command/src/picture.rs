@@ -7,7 +7,7 @@ use std::fmt::Write;
 /// What is drawn. All numbers are elimination places.
 pub struct Subject<'a> {
     pub title: &'a str,
-    /// Row k: the places of its stored entries.
+    /// Row k: the places of its stored entries; one that stands there several times is one cell.
     pub stored: &'a [Vec<usize>],
     /// Row k: its filled places below k.
     pub lower: &'a [Vec<usize>],

@@ -97,6 +97,14 @@ fn nothing_overlaps_and_nothing_is_cut_off() {
         check(&full, &done(&["picture", &full]));
     }
     check("grid", &done(&["picture", &example("grid_3_by_3.mtx")]));
+    // A position with two entries gives the table a line more.
+    for n in [2, 300] {
+        let (e, sizes) = (3 * n - 2, format!("{n} {n} "));
+        let text = arrow(n).replacen(&format!("{sizes}{e}\n"), &format!("{sizes}{}\n1 1 0\n", e + 1), 1);
+        let picture = done(&["picture", &file(&format!("layout_twice_{n}.mtx"), text)]);
+        assert!(picture.contains("stored positions"));
+        check("twice", &picture);
+    }
 }
 
 #[test]

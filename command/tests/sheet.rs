@@ -146,13 +146,11 @@ fn the_values_play_no_part() {
 fn refusals_in_words_and_in_numbers() {
     let crossed = file("sheet_crossed.mtx", format!("{HEADER}2 2 3\n1 2 1\n2 1 1\n2 2 1\n"));
     let empty_row = file("sheet_empty_row.mtx", format!("{HEADER}2 2 1\n1 1 1\n"));
-    let twice = file("sheet_twice.mtx", format!("{HEADER}2 2 3\n1 1 1\n2 2 1\n2 2 1\n"));
     let no_order = file("sheet_no_order.txt", "1 1\n");
     let two = example("two_by_two.lp");
-    let cases: [(&str, &str, &[&str]); 4] = [
+    let cases: [(&str, &str, &[&str]); 3] = [
         ("refused 9 0\n", "the pivot at place 0 (row 0) has no entry and no fill", &["sheet", &crossed]),
         ("refused 7 1\n", "row 1 has no entry", &["sheet", &empty_row]),
-        ("refused 8 1\n", "row 1 has a column twice", &["sheet", &twice]),
         ("refused 5 1\n", "the row order is wrong at place 1", &["sheet", &two, "--order", &no_order]),
     ];
     for (numbers, words, asked) in cases {

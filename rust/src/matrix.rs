@@ -10,6 +10,18 @@ use crate::{ffi, market, Error, Refusal, MAX_ROWS};
 /// assert_eq!(matrix.row(1).collect::<Vec<_>>(), [(0, 1.0), (1, 4.0)]);
 /// # Ok::<(), lilacpliers::Error>(())
 /// ```
+///
+/// A column may stand several times in a row. All of these entries are kept; a solve adds their values in the order of
+/// the row, each sum rounded once, and where a sum is not finite it is refused with 13. A position whose values come to
+/// zero is still one of the pattern.
+///
+/// ```
+/// use lilacpliers::{solve, Form, Matrix, Orders};
+/// let matrix = Matrix::from_triplets(1, &[(0, 0, 1.0), (0, 0, 3.0)])?;
+/// assert_eq!(matrix.entries(), 2);
+/// assert_eq!(solve(Form::Plain, &matrix, &Orders::natural(1), &[8.0])?.x, [2.0]);
+/// # Ok::<(), lilacpliers::Error>(())
+/// ```
 #[derive(Debug, Clone, PartialEq)]
 pub struct Matrix {
     starts: Vec<u32>,
@@ -18,7 +30,8 @@ pub struct Matrix {
 }
 
 impl Matrix {
-    /// A matrix of n rows from (row, column, value), in any order of the rows.
+    /// A matrix of n rows from (row, column, value), in any order of the rows. A position that is given several times
+    /// has as many entries, in the order given.
     ///
     /// An n out of the limits is refused with 1 at once. A column from n to 65,535 is kept for the library to refuse.
     pub fn from_triplets(n: usize, entries: &[(usize, usize, f64)]) -> Result<Matrix, Error> {
@@ -41,8 +54,8 @@ impl Matrix {
         Ok(Matrix { starts, columns, values })
     }
 
-    /// A matrix from its row starts (one more than rows), columns and values. Only the lengths are checked here; the
-    /// library asks the rest.
+    /// A matrix from its row starts (one more than rows), columns and values; a row may have a column several times.
+    /// Only the lengths are checked here; the library asks the rest.
     pub fn from_rows(starts: Vec<u32>, columns: Vec<u16>, values: Vec<f64>) -> Result<Matrix, Error> {
         if starts.is_empty() {
             return Err(Error::Shape("there are no row starts, where one more than the rows is due".into()));
@@ -52,7 +65,8 @@ impl Matrix {
     }
 
     /// Reads a square Matrix Market matrix: coordinate or array; real, integer or pattern, whose values are 1; general
-    /// or symmetric, which is written out in full. The zeros of an array are not stored.
+    /// or symmetric, which is written out in full. The zeros of an array are not stored. An entry that stands in the
+    /// text several times is kept as often, in the order of the text.
     ///
     /// ```
     /// use lilacpliers::Matrix;
@@ -71,7 +85,7 @@ impl Matrix {
         self.starts.len().saturating_sub(1)
     }
 
-    /// The number of entries.
+    /// The number of entries, each of a column that stands several times in a row counted.
     pub fn entries(&self) -> usize {
         self.columns.len()
     }
@@ -108,7 +122,7 @@ impl Matrix {
         &self.values
     }
 
-    /// The same pattern with other values.
+    /// The same pattern with other values, one for each entry.
     pub fn with_values(&self, values: Vec<f64>) -> Result<Matrix, Error> {
         same_length(&self.columns, &values)?;
         Ok(Matrix { starts: self.starts.clone(), columns: self.columns.clone(), values })

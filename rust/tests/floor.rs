@@ -173,6 +173,7 @@ fn faulty() -> Vec<(u32, Matrix, Orders, Vec<f64>)> {
     let rows = |starts: [u32; 3], columns: &[u16]| {
         Matrix::from_rows(starts.to_vec(), columns.to_vec(), vec![1.0; columns.len()]).unwrap()
     };
+    let sum = rows([0, 1, 3], &[0, 1, 1]).with_values(vec![1.0, f64::MAX, f64::MAX]).unwrap();
     let twice = Orders::new(&[0, 1], &[1, 1]).unwrap();
     vec![
         (1, Matrix::from_rows(vec![0; 4098], vec![], vec![]).unwrap(), Orders::natural(4097), vec![1.0; 4097]),
@@ -183,9 +184,9 @@ fn faulty() -> Vec<(u32, Matrix, Orders, Vec<f64>)> {
         (6, number(f64::NAN), Orders::natural(1), vec![1.0]),
         (6, number(1.0), Orders::natural(1), vec![f64::INFINITY]),
         (7, rows([0, 1, 1], &[0]), natural.clone(), ones.clone()),
-        (8, rows([0, 1, 3], &[0, 1, 1]), natural.clone(), ones.clone()),
         (9, rows([0, 1, 2], &[1, 0]), natural.clone(), ones.clone()),
-        (12, rows([0, 2, 4], &[0, 1, 0, 1]), natural, ones),
+        (12, rows([0, 2, 4], &[0, 1, 0, 1]), natural.clone(), ones.clone()),
+        (13, sum, natural, ones),
         (13, number(LEAST), Orders::natural(1), vec![1.0]),
     ]
 }

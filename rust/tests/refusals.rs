@@ -105,10 +105,8 @@ fn values_are_asked_before_rows() {
 }
 
 #[test]
-fn empty_row_and_repeated_column() {
+fn empty_row() {
     check(&matrix(3, &[(0, 0, 1.0), (2, 2, 1.0)]), &Orders::natural(3), &[1.0; 3], 7, 1, "row 1 has no entry");
-    let twice = matrix(2, &[(0, 0, 1.0), (1, 1, 1.0), (1, 0, 2.0), (1, 1, 3.0)]);
-    check(&twice, &Orders::natural(2), &[1.0; 2], 8, 1, "row 1 has a column twice: add the values up (column 1)");
 }
 
 #[test]

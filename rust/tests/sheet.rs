@@ -203,7 +203,6 @@ fn refusals_are_those_of_the_structure() {
     assert_eq!(refused(&matrix(2, &[(0, 0), (1, 7)]), &natural), (4, 1));
     assert_eq!(refused(&unit(3), &Orders::new(&[0, 1, 2], &[0, 9, 1]).unwrap()), (5, 4));
     assert_eq!(refused(&matrix(3, &[(0, 0), (2, 2)]), &Orders::natural(3)), (7, 1));
-    assert_eq!(refused(&matrix(2, &[(0, 0), (1, 1), (1, 0), (1, 1)]), &natural), (8, 1));
     assert_eq!(refused(&matrix(2, &[(0, 1), (1, 0)]), &natural), (9, 0));
     let (number, _) = refused(&arrow(1_600), &Orders::natural(1_600));
     assert_eq!(number, 10);

@@ -1,9 +1,10 @@
-/* Solves the paper's 2 by 2 file through the C interface, tries floors under pivots, prints the fill, makes a test
- * load, holds the length macros to the lengths that the calls take, tries NULL for buffers of length 0, and shows what
- * another floating-point environment changes.
+/* Solves the paper's 2 by 2 file through the C interface, tries floors under pivots and columns that stand several
+ * times in a row, prints the fill, makes a test load, holds the length macros to the lengths that the calls take, tries
+ * NULL for buffers of length 0, and shows what another floating-point environment changes.
  * The exit status is 0 if every answer is as the header promises. */
 #include "lilacpliers.h"
 
+#include <float.h>
 #include <math.h>
 #include <setjmp.h>
 #include <signal.h>
@@ -11,8 +12,8 @@
 #include <string.h>
 #include <xmmintrin.h>
 
-#if LP_VERSION != 5
-#error "this test is written for version 5 of the interface"
+#if LP_VERSION != 6
+#error "this test is written for version 6 of the interface"
 #endif
 
 #define NONE NULL, 0
@@ -277,6 +278,99 @@ static void floors(void)
             floor_in(call, tried[i]);
 }
 
+/* The pattern from above with three entries a row: row 0 has column 0 twice, apart, row 1 has column 1 twice. */
+enum { CITED = 6 };
+
+static const uint32_t cited_starts[LP_STARTS_LEN(N)] = {0, 3, 6};
+static const uint16_t cited_columns[CITED] = {0, 1, 0, 0, 1, 1};
+
+#define CITED_MATRIX(numbers) \
+    LENT(cited_starts), LENT(cited_columns), (numbers), CITED, LENT(order), LENT(order), LENT(right)
+
+static uint32_t factor_cited(int call, const double *numbers)
+{
+    switch (call) {
+    case PLAIN:
+        return lp_solve_plain(N, CITED_MATRIX(numbers), 0.0, PLAIN_SIDES, REST);
+    case SHARED:
+        return lp_solve_shared(N, CITED_MATRIX(numbers), 0.0, SHARED_SIDES, REST);
+    case ROW:
+        return lp_solve_row(N, CITED_MATRIX(numbers), 0.0, SHARED_UPPER, REST);
+    case PLAIN_AGAIN:
+        return lp_refactor_plain(N, CITED_MATRIX(numbers), 0.0, PLAIN_SIDES, REST);
+    default:
+        return lp_refactor_shared(N, CITED_MATRIX(numbers), 0.0, SHARED_SIDES, REST);
+    }
+}
+
+/* Six values, and what every call that factors answers: number, place and x. */
+struct cited {
+    double numbers[CITED];
+    uint32_t number;
+    uint64_t place;
+    double x[N];
+};
+
+static const struct cited cited[] = {
+    {{1, 4, 1, 1, 1, 3}, LP_DONE, 0, {1, 2}},
+    {{-2, 4, 4, 1, 0.5, 3.5}, LP_DONE, 0, {1, 2}},
+    {{1, 4, 1, 1, 2, -2}, LP_DONE, 0, {9, -2}},          /* a sum of zero, and fill over it */
+    {{1, 4, -1, 1, 1, 3}, LP_ZERO_PIVOT, 0, {0, 0}},
+    {{DBL_MAX, 4, DBL_MAX, 1, 1, 3}, LP_OVERFLOW, 0, {0, 0}},
+    {{1, 4, 1, 1, -DBL_MAX, -DBL_MAX}, LP_OVERFLOW, 1, {0, 0}},
+    {{1, 4, -1, 1, DBL_MAX, DBL_MAX}, LP_ZERO_PIVOT, 0, {0, 0}}, /* what place 0 refuses comes first */
+    {{0x1p-1074, 4, 0, 1, DBL_MAX, DBL_MAX}, LP_OVERFLOW, 0, {0, 0}}};
+
+static void cited_in(int call, const struct cited *t)
+{
+    prepare(call);
+    expect(factor_cited(call, t->numbers) == t->number && report[0] == t->place, "number and place of sums");
+    expect(all_bytes(scratch_f64, sizeof scratch_f64, 0) && all_bytes(scratch_u32, sizeof scratch_u32, 0),
+           "scratch is zero after sums");
+    if (t->number == LP_DONE) {
+        expect(x[0] == t->x[0] && x[1] == t->x[1], "x of sums");
+        if (call == PLAIN || call == SHARED || call == ROW)
+            expect_counts("counts of sums");
+        return;
+    }
+    expect(all_bytes(x, sizeof x, 0xA5), "x is untouched after sums");
+    expect(all_bytes(d, sizeof d, 0) && all_bytes(upper.values, sizeof upper.values, 0),
+           "d and the values are zero after a refusal of sums");
+}
+
+/* One row of so many entries, each 2^-16, and b = 1. */
+static uint32_t solve_parts(size_t e, double *solution)
+{
+    static uint16_t zeros[LP_MAX_ENTRIES + 1];
+    static double parts[LP_MAX_ENTRIES + 1];
+    const uint32_t one_row[2] = {0, (uint32_t)e};
+    const double one = 1.0;
+    uint32_t lower_starts[2], upper_starts[2], marks[LP_SCRATCH_U32(1)];
+    double pivot[1], work[LP_SCRATCH_F64(1)];
+    for (size_t i = 0; i < e; i++)
+        parts[i] = 0x1p-16;
+    return lp_solve_plain(1, LENT(one_row), zeros, e, parts, e, zeros, 1, zeros, 1, &one, 1, 0.0,
+                          LENT(lower_starts), NONE, NONE, LENT(upper_starts), NONE, NONE,
+                          LENT(pivot), solution, 1, LENT(work), LENT(marks), NONE);
+}
+
+static void cited_twice(void)
+{
+    double solution = 0.0;
+    for (int call = PLAIN; call < FACTORING; call++)
+        for (size_t i = 0; i < LENGTH(cited); i++)
+            cited_in(call, &cited[i]);
+    expect(lp_structure_plain(N, LENT(cited_starts), LENT(cited_columns), LENT(order), LENT(order), PLAIN_SIDES,
+                              LENT(scratch_f64), LENT(scratch_u32), LENT(report)) == LP_DONE, "structure, repeats");
+    expect_counts("counts of the plain structure, repeats");
+    expect(lp_structure_shared(N, LENT(cited_starts), LENT(cited_columns), LENT(order), LENT(order), SHARED_SIDES,
+                               LENT(scratch_f64), LENT(scratch_u32), LENT(report)) == LP_DONE,
+           "shared structure, repeats");
+    expect_counts("counts of the shared structure, repeats");
+    expect(solve_parts(LP_MAX_ENTRIES, &solution) == LP_DONE && solution == 1.0, "as many entries as there may be");
+    expect(solve_parts(LP_MAX_ENTRIES + 1, &solution) == LP_LENGTHS, "one entry more");
+}
+
 /* The first lines of the fill sheet; blank ones follow. Both orders are 1, 0, so that own row and place differ. */
 static const char sheet_lines[] = "FILL                                   1\n"
                                   "     0       1       0       1         0\n"
@@ -318,6 +412,11 @@ static void fill_sheet(void)
     expect_no_sheet("2 leaves the sheet");
     expect(print_fill(order, sizeof sheet) == LP_DONE, "fill sheet in the natural order");
     expect(memcmp(sheet, sheet_lines, lines) != 0, "another order is another sheet");
+    memset(sheet, 0xA5, sizeof sheet);
+    expect(lp_fill_sheet(N, LENT(cited_starts), LENT(cited_columns), LENT(other_order), LENT(other_order), SHARED_SIDES,
+                         LENT(scratch_f64), LENT(scratch_u32), LENT(sheet), LENT(report)) == LP_DONE,
+           "fill sheet, repeats");
+    expect(memcmp(sheet, sheet_lines, lines) == 0, "repeats do not change the sheet");
     const uint16_t no_order[N] = {0, 0};
     expect(print_fill(no_order, sizeof sheet) == LP_ORDER && report[0] == 1, "fill sheet, no order");
     report[0] = 0;
@@ -608,6 +707,7 @@ int main(void)
     shared_form();
     row_form();
     floors();
+    cited_twice();
     fill_sheet();
     test_load();
     lengths();

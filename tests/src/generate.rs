@@ -1,4 +1,5 @@
 //! Random cases of all shapes. A case depends on its seed and number only.
+use crate::load;
 use crate::model::*;
 use crate::random::Random;
 use crate::reference;
@@ -209,28 +210,106 @@ fn orders(random: &mut Random, n: usize) -> (Vec<usize>, Vec<usize>) {
     }
 }
 
-/// A matrix that passes questions 1 to 8, made from M' and the orders.
+/// The entries of a row in stored order: column and value.
+type Row = Vec<(usize, f64)>;
+
+/// A matrix that passes the questions before 9, made from M' and the orders. In some a column stands several times in
+/// a row.
 pub fn sound_input(random: &mut Random, n: usize) -> Input {
+    let repeats = random.per_mille(300);
+    made_input(random, n, repeats)
+}
+
+/// The same, nearly always with such a column.
+pub fn repeated_input(random: &mut Random, n: usize) -> Input {
+    made_input(random, n, true)
+}
+
+fn made_input(random: &mut Random, n: usize, repeats: bool) -> Input {
     let places = pattern(random, n);
     let (r, c) = orders(random, n);
     let kind = random.pick(&VALUES);
-    let mut place_of_row = vec![0; n];
-    for (k, &row) in r.iter().enumerate() {
-        place_of_row[row] = k;
+    let mut rows: Vec<Row> = vec![Vec::new(); n];
+    for (k, &own) in r.iter().enumerate() {
+        rows[own] = places[k].iter().map(|&p| (c[p], value(random, kind, p == k, n))).collect();
     }
-    let mut input = Input { n, starts: vec![0], ..Input::default() };
-    for &k in &place_of_row {
-        for &p in &places[k] {
-            input.columns.push(c[p] as u16);
-            input.values.push(value(random, kind, p == k, n));
-        }
-        input.starts.push(input.columns.len() as u32);
+    if repeats {
+        repeat(random, kind, &mut rows);
     }
     let right = random.pick(&VALUES);
-    input.b = (0..n).map(|_| value(random, right, false, n)).collect();
-    input.r = r.iter().map(|&k| k as u16).collect();
-    input.c = c.iter().map(|&k| k as u16).collect();
-    input
+    let b: Vec<f64> = (0..n).map(|_| value(random, right, false, n)).collect();
+    let [r, c] = [r, c].map(|order| order.iter().map(|&k| k as u16).collect());
+    Input { r, c, ..load::from_rows(&rows, &b) }
+}
+
+// ---- columns that stand several times in a row
+
+/// Values to be added up in one column.
+fn addends(random: &mut Random, kind: Values, n: usize) -> Vec<f64> {
+    let v = value(random, kind, false, n);
+    let large = signed(random, 2f64.powi(53));
+    match random.below(12) {
+        0..=2 => vec![v, -v],
+        3 | 4 => vec![-0.0; random.between(1, 3)],
+        5 => vec![0.0, -0.0],
+        // their sum depends on the order
+        6..=8 => vec![large, v, -large],
+        _ => (0..random.between(1, 4)).map(|_| value(random, kind, false, n)).collect(),
+    }
+}
+
+/// Puts the values, in any order, among the entries of the row.
+fn put_among(random: &mut Random, row: &mut Row, column: usize, mut values: Vec<f64>) {
+    random.shuffle(&mut values);
+    for value in values {
+        row.insert(random.below(row.len() + 1), (column, value));
+    }
+}
+
+/// More values in a column of the row, or in any other.
+fn repeat_in(random: &mut Random, kind: Values, n: usize, row: &mut Row) {
+    let column = if random.per_mille(700) { random.pick(row).0 } else { random.below(n) };
+    let values = addends(random, kind, n);
+    put_among(random, row, column, values);
+}
+
+/// Two entries for each, whose sum is the value again but for rounding.
+fn split(random: &mut Random, row: &mut Row) {
+    for (column, value) in std::mem::take(row) {
+        let part = value * random.pick(&[0.5, 0.25, 0.75, 0.1, 1.0, 0.0]);
+        put_among(random, row, column, vec![part, value - part]);
+    }
+}
+
+/// Lets columns stand several times: in one row, in many, in all with more entries than columns, one column in all
+/// rows, or every entry in two parts. In some a sum overflows.
+fn repeat(random: &mut Random, kind: Values, rows: &mut [Row]) {
+    let n = rows.len();
+    let any = random.below(n);
+    let most = random.pick(&[n + 1, n + 2, 2 * n, 40]).max(n + 1);
+    match random.below(5) {
+        0 => repeat_in(random, kind, n, &mut rows[any]),
+        1 => rows.iter_mut().for_each(|row| (0..random.below(3)).for_each(|_| repeat_in(random, kind, n, row))),
+        2 => {
+            for row in rows.iter_mut() {
+                while row.len() < most {
+                    repeat_in(random, kind, n, row);
+                }
+            }
+        }
+        3 => {
+            for row in rows.iter_mut() {
+                let values = addends(random, kind, n);
+                put_among(random, row, any, [values, vec![0.5, 0.25]].concat());
+            }
+        }
+        _ => rows.iter_mut().for_each(|row| split(random, row)),
+    }
+    if random.per_mille(120) {
+        // exact arithmetic would end at the first value
+        let (row, column, most) = (random.below(n), random.below(n), signed(random, f64::MAX));
+        rows[row].extend([most, most, -most].map(|value| (column, value)));
+    }
 }
 
 /// The same matrix with its places in a random order; the diagonal stays where it was.
@@ -278,7 +357,7 @@ fn break_order(random: &mut Random, n: usize, order: &mut [u16]) {
     order[slot] = random.pick(&[n as u16, u16::MAX, other, other, far]);
 }
 
-/// Puts a column into its row a second time, at another entry.
+/// Gives an entry the column of another one of its row.
 fn repeat_column(random: &mut Random, input: &mut Input) {
     let row = random.below(input.n);
     let from = input.starts[row] as usize;
@@ -305,20 +384,19 @@ fn empty_row(random: &mut Random, input: &mut Input) {
 fn break_input(random: &mut Random, input: &mut Input) {
     let e = input.columns.len();
     let n = input.n;
-    match random.below(8) {
+    match random.below(7) {
         0 => empty_row(random, input),
-        1 => repeat_column(random, input),
-        2 if e > 0 => {
+        1 if e > 0 => {
             let far = random.bits() as u16;
             input.columns[random.below(e)] = random.pick(&[n as u16, n as u16 + 1, u16::MAX, far]);
         }
-        3 if !input.values.is_empty() => {
+        2 if !input.values.is_empty() => {
             let p = random.below(input.values.len());
             input.values[p] = not_finite(random);
         }
-        4 => input.b[random.below(n)] = not_finite(random),
-        5 => (0..random.between(1, 3)).for_each(|_| break_order(random, n, &mut input.r)),
-        6 => (0..random.between(1, 3)).for_each(|_| break_order(random, n, &mut input.c)),
+        3 => input.b[random.below(n)] = not_finite(random),
+        4 => (0..random.between(1, 3)).for_each(|_| break_order(random, n, &mut input.r)),
+        5 => (0..random.between(1, 3)).for_each(|_| break_order(random, n, &mut input.c)),
         _ => break_starts(random, input),
     }
 }
@@ -738,8 +816,8 @@ pub fn case(random: &mut Random, calls: &[Call]) -> Case {
     case_of(random, call)
 }
 
-/// A call that factors over noise, with stores of these lengths; refactor is lent the lists of the input.
-pub fn factoring(random: &mut Random, call: Call, input: &Input, slots: Slots) -> Case {
+/// A call on the matrix over noise, with stores of these lengths; refactor is lent the lists of the input.
+pub fn over_noise(random: &mut Random, call: Call, input: &Input, slots: Slots) -> Case {
     let mut buffers = dirty_buffers(random, call, input.n, slots);
     if let Call::Refactor(_) = call {
         present_structure(call, input, &mut buffers);

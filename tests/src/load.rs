@@ -1,4 +1,4 @@
-//! Matrices that are made by a rule: the test load, tridiagonal systems, grids.
+//! Matrices that are made by a rule: from rows, the test load, tridiagonal systems, grids.
 use crate::model::Input;
 
 /// The matrix of rows of (column, value), with orders 0, 1, ...
@@ -16,6 +16,48 @@ pub fn from_rows(rows: &[Vec<(usize, f64)>], b: &[f64]) -> Input {
     input.r = (0..n as u16).collect();
     input.c = input.r.clone();
     input
+}
+
+/// Other rows under the orders, the right side and the floor of the input.
+pub fn with_rows(input: &Input, rows: &[Vec<(usize, f64)>]) -> Input {
+    let Input { r, c, floor, .. } = input.clone();
+    Input { r, c, floor, ..from_rows(rows, &input.b) }
+}
+
+/// The values of each column of a row in stored order, columns by their first entries. A structure call is lent no
+/// values: zeros stand for them.
+pub fn columns_of(input: &Input, row: usize) -> Vec<(usize, Vec<f64>)> {
+    let mut found: Vec<(usize, Vec<f64>)> = Vec::new();
+    for p in input.starts[row] as usize..input.starts[row + 1] as usize {
+        let (column, value) = (input.columns[p] as usize, input.values.get(p).copied().unwrap_or(0.0));
+        match found.iter_mut().find(|(other, _)| *other == column) {
+            Some((_, values)) => values.push(value),
+            None => found.push((column, vec![value])),
+        }
+    }
+    found
+}
+
+/// The sum of a column's values from the first on. It is finite exactly if every partial sum is.
+pub fn sum(values: &[f64]) -> f64 {
+    values.iter().copied().reduce(|sum, value| sum + value).unwrap_or(0.0)
+}
+
+/// The same matrix with each entry twice: each row's entries stand there with half their values, then once more.
+/// Unless a value is subnormal, the sums are the values that were there.
+pub fn halved(input: &Input) -> Input {
+    let row = |i: usize| {
+        let entries = input.starts[i] as usize..input.starts[i + 1] as usize;
+        let half = |p: usize| (input.columns[p] as usize, input.values[p] / 2.0);
+        entries.clone().chain(entries).map(half).collect()
+    };
+    let rows: Vec<Vec<(usize, f64)>> = (0..input.n).map(row).collect();
+    with_rows(input, &rows)
+}
+
+/// One row of e entries, each 1 / e; b = 1. The sum is 1 where e is a power of two.
+pub fn parts_of_one(e: usize) -> Input {
+    from_rows(&[vec![(0, 1.0 / e as f64); e]], &[1.0])
 }
 
 /// The test load: 4.0 on the diagonal and three draws a row.

@@ -107,10 +107,42 @@ pub enum Fault {
     FloorScratch,
     /// After 19 all that the call writes is zero.
     FloorClears,
+    /// A column that stands several times in a row is refused with 8.
+    RepeatRefused,
+    /// The structure calls alone refuse it with 8.
+    RepeatStructure,
+    /// Of a column's values the last is taken.
+    RepeatLast,
+    /// Of a column's values the first is taken.
+    RepeatFirst,
+    /// The row form takes the last.
+    RepeatRow,
+    /// Refactor takes the last.
+    RepeatRefactor,
+    /// Of a row's entries only the first n are read.
+    RepeatLong,
+    /// The sum of several values begins from +0.
+    SumZero,
+    /// A single value is added to +0.
+    SumSingle,
+    /// The values are added from the last to the first.
+    SumReverse,
+    /// A position where several values come to zero is dropped.
+    SumDropped,
+    /// A partial sum that overflows is forgiven where the last one does not.
+    SumWide,
+    /// The 13 of a sum comes before 12 and 13 of an earlier place.
+    SumEarly,
+    /// The 13 of a sum comes before 9 to 11 and 14.
+    SumFirst,
+    /// The 13 of a sum comes after the 12 of its place.
+    SumLate,
+    /// The 13 of a sum names the own row.
+    SumPlace,
 }
 
 /// Every fault.
-pub const FAULTS: [Fault; 50] = [
+pub const FAULTS: [Fault; 66] = [
     Fault::Scratch,
     Fault::Place,
     Fault::Products,
@@ -161,6 +193,22 @@ pub const FAULTS: [Fault; 50] = [
     Fault::FloorNan,
     Fault::FloorScratch,
     Fault::FloorClears,
+    Fault::RepeatRefused,
+    Fault::RepeatStructure,
+    Fault::RepeatLast,
+    Fault::RepeatFirst,
+    Fault::RepeatRow,
+    Fault::RepeatRefactor,
+    Fault::RepeatLong,
+    Fault::SumZero,
+    Fault::SumSingle,
+    Fault::SumReverse,
+    Fault::SumDropped,
+    Fault::SumWide,
+    Fault::SumEarly,
+    Fault::SumFirst,
+    Fault::SumLate,
+    Fault::SumPlace,
 ];
 
 thread_local! {
@@ -273,11 +321,13 @@ fn run(call: Call, input: Input, mut lower: Lent, mut upper: Lent, rest: Rest) -
         scratch_f64: rest.sf.to_vec(),
         scratch_u32: rest.su.to_vec(),
     };
+    let before = buffers.clone();
     let answer = if FACTORING.contains(&call) {
         factor(call, &input, &mut buffers)
     } else {
         reference::run(call, &input, &mut buffers)
     };
+    let answer = repeat(call, &input, before, answer, &mut buffers);
     let answer = spoil(call, answer, &mut buffers);
     lower.put(&buffers.lower);
     upper.put(&buffers.upper);
@@ -306,7 +356,7 @@ fn comes_first(number: u32) -> bool {
     match number {
         6 => !has(Fault::FloorEarly),
         7 => has(Fault::FloorLate) || has(Fault::FloorLast),
-        8..=11 | 14 => has(Fault::FloorLast),
+        9..=11 | 14 => has(Fault::FloorLast),
         _ => (1..6).contains(&number),
     }
 }
@@ -370,6 +420,108 @@ fn refuse_floor(call: Call, input: &Input, buffers: &mut Buffers, before: Buffer
         buffers.scratch_f64[0] = 1.0;
     }
     Refusal { number: 19, place: 0 }.into()
+}
+
+/// The first place whose row has such a column.
+fn first_place(input: &Input, is: impl Fn(&[f64]) -> bool) -> Option<usize> {
+    input.r.iter().position(|&row| load::columns_of(input, row as usize).iter().any(|(_, values)| is(values)))
+}
+
+/// The matrix with other values in the place of each column's.
+fn with_columns(input: &Input, change: impl Fn(&[f64]) -> Vec<f64>) -> Input {
+    let entries = |(column, values): (usize, Vec<f64>)| change(&values).into_iter().map(move |value| (column, value));
+    let row = |row: usize| load::columns_of(input, row).into_iter().flat_map(entries).collect();
+    let rows: Vec<Vec<(usize, f64)>> = (0..input.n).map(row).collect();
+    load::with_rows(input, &rows)
+}
+
+/// The matrix with the first n entries of each row.
+fn cut_rows(input: &Input) -> Input {
+    let mut cut = Input { starts: vec![0], columns: Vec::new(), values: Vec::new(), ..input.clone() };
+    for pair in input.starts.windows(2) {
+        let entries = pair[0] as usize..(pair[1] as usize).min(pair[0] as usize + input.n);
+        cut.columns.extend_from_slice(&input.columns[entries.clone()]);
+        cut.values.extend_from_slice(input.values.get(entries).unwrap_or_default());
+        cut.starts.push(cut.columns.len() as u32);
+    }
+    cut
+}
+
+/// The sum with partial sums that do not overflow.
+fn wide_sum(values: &[f64]) -> f64 {
+    let scale = 2f64.powi(-60);
+    values.iter().map(|value| value * scale).sum::<f64>() / scale
+}
+
+/// The matrix that the call solves in the place of its own, where a fault is planted that can be told so.
+fn taken_matrix(call: Call, input: &Input) -> Option<Input> {
+    let last = has(Fault::RepeatLast)
+        || (has(Fault::RepeatRow) && call.form() == Form::Row)
+        || (has(Fault::RepeatRefactor) && matches!(call, Call::Refactor(_)));
+    if last {
+        return Some(with_columns(input, |values| values[values.len() - 1..].to_vec()));
+    }
+    let from_zero = |values: &[f64]| [&[0.0 + values[0]], &values[1..]].concat();
+    match PLANTED.get()? {
+        Fault::RepeatFirst => Some(with_columns(input, |values| values[..1].to_vec())),
+        Fault::RepeatLong => Some(cut_rows(input)),
+        Fault::SumZero => {
+            Some(with_columns(input, |values| if values.len() > 1 { from_zero(values) } else { values.to_vec() }))
+        }
+        Fault::SumSingle => {
+            Some(with_columns(input, |values| if values.len() == 1 { from_zero(values) } else { values.to_vec() }))
+        }
+        Fault::SumReverse => Some(with_columns(input, |values| values.iter().rev().copied().collect())),
+        Fault::SumDropped => {
+            let zero = |values: &[f64]| values.len() > 1 && load::sum(values) == 0.0;
+            Some(with_columns(input, |values| if zero(values) { Vec::new() } else { values.to_vec() }))
+        }
+        Fault::SumWide => {
+            let forgiven = |values: &[f64]| !load::sum(values).is_finite() && wide_sum(values).is_finite();
+            Some(with_columns(input, |values| if forgiven(values) { vec![wide_sum(values)] } else { values.to_vec() }))
+        }
+        _ => None,
+    }
+}
+
+/// The planted faults of columns that stand several times in a row, where the questions up to 7 are passed.
+fn repeat(call: Call, input: &Input, before: Buffers, answer: Answer, buffers: &mut Buffers) -> Answer {
+    if matches!(call, Call::Resolve(_)) || matches!(answer.number, 1..=7 | 19) {
+        return answer;
+    }
+    let refuses = has(Fault::RepeatRefused) || (has(Fault::RepeatStructure) && matches!(call, Call::Structure(_)));
+    if let Some(place) = first_place(input, |values| values.len() > 1).filter(|_| refuses) {
+        *buffers = before;
+        buffers.scratch_f64.fill(0.0);
+        buffers.scratch_u32.fill(0);
+        return Refusal { number: 8, place: input.r[place] as u64 }.into();
+    }
+    if let Some(other) = taken_matrix(call, input).filter(|_| FACTORING.contains(&call) || has(Fault::RepeatLong)) {
+        *buffers = before;
+        return reference::run(call, &other, buffers);
+    }
+    spoil_sum(call, input, before, answer)
+}
+
+/// The planted faults of the answer where a sum is not finite.
+fn spoil_sum(call: Call, input: &Input, mut before: Buffers, answer: Answer) -> Answer {
+    let Some(place) = first_place(input, |values| !load::sum(values).is_finite()) else { return answer };
+    let told = Refusal { number: 13, place: place as u64 }.into();
+    match PLANTED.get() {
+        Some(Fault::SumEarly) if matches!(answer.number, 12 | 13) => told,
+        Some(Fault::SumFirst) if matches!(answer.number, 9..=11 | 14) => told,
+        Some(Fault::SumPlace) if answer == told => Answer { place: input.r[place] as u64, ..told },
+        Some(Fault::SumLate) if answer == told => {
+            let finite = |values: &[f64]| if load::sum(values).is_finite() { values.to_vec() } else { vec![0.0] };
+            let other = reference::run(call, &with_columns(input, finite), &mut before);
+            if other.number == 12 && other.place == told.place {
+                other
+            } else {
+                told
+            }
+        }
+        _ => answer,
+    }
 }
 
 /// The planted faults of the calls.

@@ -2,13 +2,13 @@
 -- A step is a run: the results of its rounded operations and the pivots asked for, in the order listed, whatever they are, and what it comes to.
 -- The answer is judged by the first of them that is bad.
 use Prim.Native.Nat.{ℕ, zero, suc}
-use mathlib.Core.Bool.{Bool, false, not, cond}
+use mathlib.Core.Bool.{Bool, true, false, not, cond}
 use mathlib.Core.List.{List, [], _∷_, _++_}
 use lib.ListN.{getD, set, replicate}
 use lib.IntN.{pos}
-use lib.Ieee.{Float, nan, fin, binary64, sub, mul, div}
+use lib.Ieee.{Float, nan, fin, binary64, add, sub, mul, div}
 use lib.Ieee.Scale.{finite}
-use Rattle.base.specs.Lists.{nought, pairs}
+use Rattle.base.specs.Lists.{nought, has, pairs}
 use Rattle.base.specs.Magnitude.{atMost}
 
 -- ---- runs
@@ -103,15 +103,20 @@ pub record Work : Type 0 where
 abbrev pub lessRun : ℕ → Float → Float → Float → Run Float
 lessRun k v a b = op k (mul binary64 a b) ▸ λ p. op k (sub binary64 v p)
 
--- "the entries of M'", over w
-unfoldable pub loadRun : ℕ → List (ℕ × Float) → List Float → Run (List Float)
-loadRun k [] w = give w
-loadRun k (e ∷ es) w = loadRun k es (set w (e .0) (e .1))
+-- a value at a place: the first there is taken as it is, each further one "added .., each addition rounded once"
+abbrev pub enterRun : ℕ → Bool → Float → Float → Run Float
+enterRun k false s v = give v
+enterRun k true s v = op k (add binary64 s v)
+
+-- "the entries of M'", over w, "in stored order"; `seen` are the places that have a value
+unfoldable pub loadRun : ℕ → List ℕ → List (ℕ × Float) → List Float → Run (List Float)
+loadRun k seen [] w = give w
+loadRun k seen (e ∷ es) w = enterRun k (has seen (e .0)) (getD w (e .0) nan) (e .1) ▸ λ v. loadRun k (e .0 ∷ seen) es (set w (e .0) v)
 
 -- "1. w = +0 at each filled position of row k, then the entries of M'. s = b(r(k))."
 unfoldable pub step1 : System → ℕ → Run Work
 unfolding loadRun
-step1 S k = loadRun k (S .entries k) (replicate (S .n) nought) ▸ λ w. give (record { l = []; w = w; s = S .rhs k })
+step1 S k = loadRun k [] (S .entries k) (replicate (S .n) nought) ▸ λ w. give (record { l = []; w = w; s = S .rhs k })
 
 -- "for j in T(i), ascending, w(j) = w(j) − m·u(i, j)": j and u(i, j)
 unfoldable pub subtractRun : ℕ → Float → List (ℕ × Float) → List Float → Run (List Float)

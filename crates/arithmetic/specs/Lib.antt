@@ -6,3 +6,4 @@ pub mod StoppingLaws
 pub mod RowEnd
 pub mod Factors
 pub mod Sticky
+pub mod Sums

@@ -2,20 +2,22 @@
 -- each result does.
 use mathlib.Core.Path.{_≡_, refl, sym, _∙_, ap, subst}
 use mathlib.Core.Logic.{_⊎_, inl, inr, ⊎-elim}
-use mathlib.Core.Bool.{Bool, true, false, cond, _&&_, Bool·beq, and-false}
+use mathlib.Core.Bool.{Bool, true, false, true≢false, cond, _&&_, Bool·beq, and-false}
 use mathlib.Core.List.{List, [], _∷_, _++_, List·Memᴰ, List·Memᴰ·head, List·Memᴰ·tail, List·Memᴰ·not-nil, List·Memᴰ·cases-cons}
-use Prim.Native.Nat.{ℕ, _<_}
+use Prim.Native.Nat.{ℕ, suc, _<_}
 use native.Mathlib.Decide.{ℕ-discrete, decLt}
 use native.Mathlib.Omega.{arith}
 use lib.Dec.{T, eqb}
-use lib.ListN.{length, getD, set, length-set}
+use borrow.Author.Tests.{eq-eqb}
+use lib.ListN.{length, getD, set, replicate, length-set, length-replicate, getD-replicate}
 use lib.Seq.{getD-set-same, getD-set-other, set-out}
 use lib.Ieee.{Float, nan, inf, fin, Format, binary64, neg, add, sub, mul}
 use lib.Ieee.Scale.{finite}
-use Rattle.base.specs.Tests.{and-cases}
+use Rattle.base.specs.Lists.{nought, has, pairs}
+use Rattle.base.specs.Tests.{and-cases, or-right, or-false}
 use Rattle.arithmetic.specs.RowEnd.{finiteOn, finiteAll, quiet, products}
 use Rattle.arithmetic.specs.Arith.{Out, ok, System, Row, Given, given, Work, met, overflow}
-use Rattle.arithmetic.specs.Stopping.{_>>=_, any, less, subtract, stepAt, scaled, finish, row, rest, at, start, steps}
+use Rattle.arithmetic.specs.Stopping.{_>>=_, any, less, enter, load, subtract, stepAt, scaled, finish, row, rest, at, start, steps}
 
 -- ---- floats
 
@@ -31,7 +33,7 @@ mul-left f (inf s) (inf t) h = refl
 mul-left f (inf s) (fin t n d) h = cond-not (eqb n 0) _ _ refl refl
 mul-left f (fin s m e) b h = let z : true ≡ false = h in absurd (subst T z tt)
 
-add-left : (f : Format) (a b : Float) → finite a ≡ false → finite (add f a b) ≡ false
+pub add-left : (f : Format) (a b : Float) → finite a ≡ false → finite (add f a b) ≡ false
 unfolding add
 add-left f nan b h = refl
 add-left f (inf s) nan h = refl
@@ -104,7 +106,7 @@ subtract-stays m (j ∷ js) [] w X e i h = rw (← ok-inj e) h
 subtract-stays m (j ∷ js) (u ∷ us) w X e i h = subtract-stays m js us _ X e i (store-stays w j i (mul binary64 m u) h)
 
 -- with a check, the same list where every result is finite, and then what was finite is; else a listed slot at the end is not
-abbrev Passed : (k : ℕ) → Out (List Float) → List ℕ → List Float → List Float → Type 0
+abbrev pub Passed : (k : ℕ) → Out (List Float) → List ℕ → List Float → List Float → Type 0
 Passed k o js w X =
     ((o ≡ ok X) × ((i : ℕ) → finite (getD w i nan) ≡ true → finite (getD X i nan) ≡ true))
     ⊎ ((o ≡ met (overflow k)) × ((j : ℕ) × List·Memᴰ j js × (finite (getD X j nan) ≡ false)))
@@ -214,14 +216,113 @@ steps-at k G P (i ∷ is) a F e within range fs fw =
     go true f (inr p) ih =
         rw (less-at k (a .s) m (G .y i), f, p .0, on-none P (F .w) (p .1 .0) (within i (p .1 .0) (List·Memᴰ·head refl) (p .1 .1)) (stay .1 (p .1 .0) (p .1 .2)), and-false (finite (F .s)))
 
--- a row: 12 and 13 by one test between step 2 and step 3. P lists the places that step 2 writes
-pub row-at : (S : System) (rows : List Row) (k : ℕ) (P : List ℕ) (a F : Work) → start (at k) S k ≡ ok a → steps any (given S rows) (S .lower k) a ≡ ok F
+-- ---- step 1: a sum once not finite stays so
+
+-- the value at a place, unchecked
+abbrev pub entered : Bool → Float → Float → Float
+entered false s v = v
+entered true s v = add binary64 s v
+
+pub load-more : (seen : List ℕ) (j : ℕ) (js : List ℕ) (v : Float) (vs w : List Float)
+    → load any seen (pairs (j ∷ js) (v ∷ vs)) w ≡ load any (j ∷ seen) (pairs js vs) (set w j (entered (has seen j) (getD w j nan) v))
+unfolding load pairs
+load-more seen j js v vs w = go (has seen j)
+  where
+    go : (b : Bool) → (enter any b (getD w j nan) v >>= λ v. load any (j ∷ seen) (pairs js vs) (set w j v)) ≡ load any (j ∷ seen) (pairs js vs) (set w j (entered b (getD w j nan) v))
+    go false = refl
+    go true = refl
+
+-- a value is checked as what it comes to
+enter-at : (k : ℕ) (b : Bool) (s v : Float) → finite v ≡ true → enter (at k) b s v ≡ at k (entered b s v)
+enter-at k false s v f = rw f
+enter-at k true s v f = refl
+
+seen-stays : (seen : List ℕ) (w : List Float) (j i : ℕ) (v : Float) → has seen i ≡ true → finite (getD w i nan) ≡ false
+    → finite (getD (set w j (entered (has seen j) (getD w j nan) v)) i nan) ≡ false
+seen-stays seen w j i v m h =
+    ⊎-elim (λ e. ap finite e ∙ h)
+    (λ e. rw (e .1, ← e .0, m) (add-left binary64 (getD w i nan) v h))
+    (set-cases w j i (entered (has seen j) (getD w j nan) v))
+
+load-stays : (seen js : List ℕ) (vs w X : List Float) → load any seen (pairs js vs) w ≡ ok X
+    → (i : ℕ) → has seen i ≡ true → finite (getD w i nan) ≡ false → finite (getD X i nan) ≡ false
+unfolding load pairs has
+load-stays seen [] vs w X e i m h = rw (← ok-inj e) h
+load-stays seen (j ∷ js) [] w X e i m h = rw (← ok-inj e) h
+load-stays seen (j ∷ js) (v ∷ vs) w X e i m h =
+    load-stays (j ∷ seen) js vs _ X (sym (load-more seen j js v vs w) ∙ e) i (or-right (eqb j i) (has seen i) m) (seen-stays seen w j i v m h)
+
+-- what a place that is not listed holds, and the length
+pub load-keeps : (seen js : List ℕ) (vs w X : List Float) → load any seen (pairs js vs) w ≡ ok X
+    → ((i : ℕ) → has js i ≡ false → getD X i nan ≡ getD w i nan) × (length X ≡ length w)
+unfolding load pairs has
+load-keeps seen [] vs w X e = (λ i m. rw (← ok-inj e), rw (← ok-inj e))
+load-keeps seen (j ∷ js) [] w X e = (λ i m. rw (← ok-inj e), rw (← ok-inj e))
+load-keeps seen (j ∷ js) (v ∷ vs) w X e =
+    let r = load-keeps (j ∷ seen) js vs _ X (sym (load-more seen j js v vs w) ∙ e) in (
+      λ i m. let b = or-false (eqb j i) (has js i) m in r .0 i (b .1) ∙ getD-set-other w j i _ nan (λ q. true≢false (sym (eq-eqb j i (sym q)) ∙ b .0)),
+      r .1 ∙ simp length-set,
+    )
+
+pub load-at : (k : ℕ) (seen js : List ℕ) (vs w X : List Float) → load any seen (pairs js vs) w ≡ ok X
+    → ((j : ℕ) → List·Memᴰ j js → j < length w) → ((p : ℕ) → p < length vs → finite (getD vs p nan) ≡ true) → Passed k (load (at k) seen (pairs js vs) w) js w X
+unfolding load pairs has
+load-at k seen [] vs w X e r f = inl (e, λ i h. rw (← ok-inj e) h)
+load-at k seen (j ∷ js) [] w X e r f = inl (e, λ i h. rw (← ok-inj e) h)
+load-at k seen (j ∷ js) (v ∷ vs) w X e r f =
+    go (finite x) refl (load-at k (j ∷ seen) js vs (set w j x) X e′ (λ i h. rw length-set (r i (List·Memᴰ·tail h))) (λ p l. f (suc p) (omega arith)))
+  where
+    x : Float
+    x = entered (has seen j) (getD w j nan) v
+
+    e′ : load any (j ∷ seen) (pairs js vs) (set w j x) ≡ ok X
+    e′ = sym (load-more seen j js v vs w) ∙ e
+
+    checked : enter (at k) (has seen j) (getD w j nan) v ≡ at k x
+    checked = enter-at k (has seen j) (getD w j nan) v (f 0 (omega arith))
+
+    go : (t : Bool) → finite x ≡ t → Passed k (load (at k) (j ∷ seen) (pairs js vs) (set w j x)) js (set w j x) X
+        → Passed k (load (at k) seen (pairs (j ∷ js) (v ∷ vs)) w) (j ∷ js) w X
+    go true g (inl ih) = inl (rw (checked, g) (ih .0), λ i h. ih .1 i (store-finite w j i x g h))
+    go true g (inr ih) = inr (rw (checked, g) (ih .0), (ih .1 .0, List·Memᴰ·tail (ih .1 .1), ih .1 .2))
+    go false g ih =
+        inr (
+          rw (checked, g),
+          (j, List·Memᴰ·head refl, load-stays (j ∷ seen) js vs (set w j x) X e′ j (rw (eq-eqb j j refl)) (ap finite (getD-set-same w j x nan (r j (List·Memᴰ·head refl))) ∙ g)),
+        )
+
+-- a row: 12 and 13 by one test between step 2 and step 3. P lists the places that steps 1 and 2 write
+pub row-at : (S : System) (rows : List Row) (k : ℕ) (P js : List ℕ) (vs W : List Float) (F : Work)
+    → S .entries k ≡ pairs js vs → load any [] (pairs js vs) (replicate (S .n) nought) ≡ ok W
+    → steps any (given S rows) (S .lower k) (record { l = []; w = W; s = S .rhs k }) ≡ ok F
+    → ((j : ℕ) → List·Memᴰ j js → List·Memᴰ j P)
     → ((i j : ℕ) → List·Memᴰ i (S .lower k) → List·Memᴰ j (S .upper i) → List·Memᴰ j P)
-    → ((j : ℕ) → List·Memᴰ j P → j < length (a .w))
-    → finite (a .s) ≡ true → finiteOn P (a .w) ≡ true
+    → ((j : ℕ) → List·Memᴰ j P → j < S .n)
+    → finite (S .rhs k) ≡ true → ((p : ℕ) → p < length vs → finite (getD vs p nan) ≡ true)
     → row S rows k ≡ quiet k P F >>= finish (at k) k (S .floor) (S .upper k)
-unfolding row
-row-at S rows k P a F b e within range fs fw = rw (b, steps-at k (given S rows) P (S .lower k) a F e within range fs fw)
+unfolding row start
+row-at S rows k P js vs W F en ld e listed within range fs fv =
+    go (load-at k [] js vs none W ld (λ j h. rw long (range j (listed j h))) fv)
+  where
+    none : List Float
+    none = replicate (S .n) nought
+
+    long : length none ≡ S .n
+    long = length-replicate (S .n) nought
+
+    a : Work
+    a = record { l = []; w = W; s = S .rhs k }
+
+    go : Passed k (load (at k) [] (pairs js vs) none) js none W → row S rows k ≡ quiet k P F >>= finish (at k) k (S .floor) (S .upper k)
+    go (inl p) =
+        rw (
+          en,
+          p .0,
+          steps-at k (given S rows) P (S .lower k) a F e within (λ j h. rw (load-keeps [] js vs none W ld .1 ∙ long) (range j h)) fs
+              (on-all P W (λ j h. p .1 j (rw (getD-replicate (S .n) j nought nan (range j h))))),
+        )
+    go (inr p) =
+        rw (en, p .0, on-none P (F .w) (p .1 .0) (listed (p .1 .0) (p .1 .1)) (steps-stay (given S rows) (S .lower k) a F e .1 (p .1 .0) (p .1 .2)), and-false (finite (F .s)))
 
 -- ---- step 3's u, tested once they are all there
 pub scaled-at : (k : ℕ) (d : Float) (w : List Float) (js : List ℕ)

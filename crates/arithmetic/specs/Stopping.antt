@@ -1,12 +1,12 @@
 -- The elimination that stops at its first fault: a device of the proofs, since code stops so. What it answers is defined by Arith's runs (StoppingLaws).
 -- A check `c` looks at the result of each rounded operation: `any` takes every result, `at k` refuses one that is not finite.
 use Prim.Native.Nat.{ℕ, zero, suc}
-use mathlib.Core.Bool.{cond}
+use mathlib.Core.Bool.{Bool, true, false, cond}
 use mathlib.Core.List.{List, [], _∷_, _++_}
 use lib.ListN.{getD, set, replicate}
-use lib.Ieee.{Float, nan, binary64, sub, mul, div}
+use lib.Ieee.{Float, nan, binary64, add, sub, mul, div}
 use lib.Ieee.Scale.{finite}
-use Rattle.base.specs.Lists.{nought}
+use Rattle.base.specs.Lists.{nought, has}
 use Rattle.base.specs.Magnitude.{atMost}
 use Rattle.arithmetic.specs.Arith.{zeroPivot, overflow, Out, ok, met, one, System, Row, Given, given, Work, Result}
 use Rattle.arithmetic.specs.Again.{Factors, givenBy}
@@ -37,13 +37,17 @@ less c v a b = c (mul binary64 a b) >>= λ p. c (sub binary64 v p)
 -- ---- place k
 
 -- step 1
-unfoldable pub load : Check → List (ℕ × Float) → List Float → Out (List Float)
-load c [] w = ok w
-load c (e ∷ es) w = load c es (set w (e .0) (e .1))
+abbrev pub enter : Check → Bool → Float → Float → Out Float
+enter c false s v = ok v
+enter c true s v = c (add binary64 s v)
+
+unfoldable pub load : Check → List ℕ → List (ℕ × Float) → List Float → Out (List Float)
+load c seen [] w = ok w
+load c seen (e ∷ es) w = enter c (has seen (e .0)) (getD w (e .0) nan) (e .1) >>= λ v. load c (e .0 ∷ seen) es (set w (e .0) v)
 
 unfoldable pub start : Check → System → ℕ → Out Work
 unfolding load
-start c S k = load c (S .entries k) (replicate (S .n) nought) >>= λ w. ok (record { l = []; w = w; s = S .rhs k })
+start c S k = load c [] (S .entries k) (replicate (S .n) nought) >>= λ w. ok (record { l = []; w = w; s = S .rhs k })
 
 -- step 2
 unfoldable pub subtract : Check → Float → List ℕ → List Float → List Float → Out (List Float)

@@ -4,12 +4,12 @@ use Prim.Native.Nat.{ℕ, zero, suc}
 use mathlib.Core.Bool.{Bool, true, false, not, cond}
 use mathlib.Core.List.{List, [], _∷_, _++_}
 use lib.ListN.{getD, set, replicate}
-use lib.Ieee.{Float, nan, binary64, sub, mul, div}
+use lib.Ieee.{Float, nan, binary64, add, sub, mul, div}
 use lib.Ieee.Scale.{finite}
-use Rattle.base.specs.Lists.{nought, pairs}
-use Rattle.arithmetic.specs.Arith.{Event, Run, give, _▸_, op, asked, overflow, bad, fault, Out, ok, met, firstBad, judged, one, System, Row, Given, given, Work, lessRun, loadRun, step1, subtractRun, stepRun, step2, scaledRun, step3, rowRun, forwardRun, restRun, backRun, wholeRun}
+use Rattle.base.specs.Lists.{nought, has, pairs}
+use Rattle.arithmetic.specs.Arith.{Event, Run, give, _▸_, op, asked, overflow, bad, fault, Out, ok, met, firstBad, judged, one, System, Row, Given, given, Work, lessRun, enterRun, loadRun, step1, subtractRun, stepRun, step2, scaledRun, step3, rowRun, forwardRun, restRun, backRun, wholeRun}
 use Rattle.arithmetic.specs.Again.{Factors, givenBy, yRun, againRun, wholeAgain}
-use Rattle.arithmetic.specs.Stopping.{_>>=_, at, pivot, less, load, start, subtract, stepAt, steps, scaled, finish, row, forward, rest, back, solved, sumLess, yAt, again, solvedAgain}
+use Rattle.arithmetic.specs.Stopping.{_>>=_, at, pivot, less, enter, load, start, subtract, stepAt, steps, scaled, finish, row, forward, rest, back, solved, sumLess, yAt, again, solvedAgain}
 
 bad-then : {A B : Type 0} (floor : Float) (es fs : List Event) (a : A) (b : B) (g : A → Out B) → firstBad floor fs b ≡ g a → firstBad floor (es ++ fs) b ≡ (firstBad floor es a >>= g)
 bad-then floor [] fs a b g e = e
@@ -49,14 +49,21 @@ op-stops k v = record { at = go (finite v) }
 less-stops : {floor : Float} (k : ℕ) (v a b : Float) → Stops floor (lessRun k v a b) (less (at k) v a b)
 less-stops k v a b = then-stops (op-stops k (mul binary64 a b)) (λ p. op-stops k (sub binary64 v p))
 
-load-stops : {floor : Float} (k : ℕ) (es : List (ℕ × Float)) (w : List Float) → Stops floor (loadRun k es w) (load (at k) es w)
+enter-stops : {floor : Float} (k : ℕ) (b : Bool) (s v : Float) → Stops floor (enterRun k b s v) (enter (at k) b s v)
+enter-stops k false s v = give-stops v
+enter-stops k true s v = op-stops k (add binary64 s v)
+
+load-stops : {floor : Float} (k : ℕ) (seen : List ℕ) (es : List (ℕ × Float)) (w : List Float) → Stops floor (loadRun k seen es w) (load (at k) seen es w)
 unfolding loadRun load
-load-stops k [] w = give-stops w
-load-stops k (e ∷ es) w = load-stops k es (set w (e .0) (e .1))
+load-stops k seen [] w = give-stops w
+load-stops k seen (e ∷ es) w = then-stops (enter-stops k (has seen (e .0)) (getD w (e .0) nan) (e .1)) (λ v. load-stops k (e .0 ∷ seen) es (set w (e .0) v))
+
+pub load-judged : (floor : Float) (k : ℕ) (seen : List ℕ) (es : List (ℕ × Float)) (w : List Float) → judged floor (loadRun k seen es w) ≡ load (at k) seen es w
+load-judged floor k seen es w = load-stops k seen es w .at
 
 start-stops : {floor : Float} (S : System) (k : ℕ) → Stops floor (step1 S k) (start (at k) S k)
 unfolding step1 start
-start-stops S k = then-stops (load-stops k (S .entries k) (replicate (S .n) nought)) (λ w. give-stops _)
+start-stops S k = then-stops (load-stops k [] (S .entries k) (replicate (S .n) nought)) (λ w. give-stops _)
 
 subtract-stops : {floor : Float} (k : ℕ) (m : Float) (js : List ℕ) (us w : List Float) → Stops floor (subtractRun k m (pairs js us) w) (subtract (at k) m js us w)
 unfolding subtractRun subtract pairs

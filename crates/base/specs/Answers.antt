@@ -4,7 +4,7 @@ use Rattle.base.specs.declared.OwnNumber.{OwnNumber}
 use Rattle.base.specs.declared.Place.{Place}
 use Rattle.base.specs.declared.Counts.{Counts}
 use Rattle.base.specs.declared.Refusal.{Refusal}
-use Rattle.base.specs.declared.Refusal.the-variants.{Rows, Lengths, Starts, Column, Order, NotFinite, EmptyRow, Repeated, NullPivot, LowerSlots, UpperSlots, ZeroPivot, Overflow, OtherStructure, BadFactors, FileLength, Block, FileShape, Floor}
+use Rattle.base.specs.declared.Refusal.the-variants.{Rows, Lengths, Starts, Column, Order, NotFinite, EmptyRow, NullPivot, LowerSlots, UpperSlots, ZeroPivot, Overflow, OtherStructure, BadFactors, FileLength, Block, FileShape, Floor}
 use Rattle.base.specs.declared.Found.{Found}
 use Rattle.base.specs.declared.Found.the-variants.{At, Nothing}
 use Rattle.base.specs.declared.Asked.{Asked}
@@ -26,7 +26,6 @@ numberOf (Column p) = 4
 numberOf (Order p) = 5
 numberOf (NotFinite p) = 6
 numberOf (EmptyRow i) = 7
-numberOf (Repeated i) = 8
 numberOf (NullPivot k) = 9
 numberOf (LowerSlots k) = 10
 numberOf (UpperSlots k) = 11
@@ -48,7 +47,6 @@ placeOf (Column p) = p
 placeOf (Order p) = p
 placeOf (NotFinite p) = p
 placeOf (EmptyRow i) = i .0
-placeOf (Repeated i) = i .0
 placeOf (NullPivot k) = k .0
 placeOf (LowerSlots k) = k .0
 placeOf (UpperSlots k) = k .0

@@ -29,9 +29,12 @@ cursorsFrom n = 4 * n
 abbrev pub listFrom : ℕ → ℕ
 listFrom n = 5 * n
 
--- the nodes of the column lists, two slots each
+-- the nodes of the column lists, two slots each; while columns are counted, the last row of each column, plus one
 abbrev pub nodesFrom : ℕ → ℕ
 nodesFrom n = 6 * n
+
+abbrev pub lastsFrom : ℕ → ℕ
+lastsFrom n = 6 * n
 
 -- all regions
 abbrev pub regionsEnd : ℕ → ℕ

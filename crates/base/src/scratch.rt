@@ -15,6 +15,8 @@ pub const LIST: usize = 5;
 
 pub const NODES: usize = 6;
 
+pub const LASTS: usize = 6;
+
 // The regions of the binary64 scratch. The working row is region 0.
 pub const Y: usize = 1;
 

@@ -220,12 +220,12 @@ module _ (f : Form) (i : Input) (s : Buffers) where
   placed = later 9 11 _ (omega arith) (omega arith) (places-within f (stored i) (i .n) (sizes s) (i .n))
 
   solved : Later (askSolve i)
-  solved = later 3 8 _ (omega arith) (omega arith) (solve-within i)
+  solved = later 3 7 _ (omega arith) (omega arith) (solve-within i)
 
   module _ (o : rowsWithin (i .n) ≡ true) where
     structure-not : numberOfAnswer (structure f i s .answer) ≡ 1 → ⊥
     unfolding structure
-    structure-not = never numberOfAnswer Refused (λ q. refl) _ (askStructure i) _ _ _ _ _ (shape-later (i .n) _ o) (later 3 8 _ (omega arith) (omega arith) (structure-within i)) placed (λ e. omega arith)
+    structure-not = never numberOfAnswer Refused (λ q. refl) _ (askStructure i) _ _ _ _ _ (shape-later (i .n) _ o) (later 3 7 _ (omega arith) (omega arith) (structure-within i)) placed (λ e. omega arith)
 
     solve-not : numberOfAnswer (solve f i s .answer) ≡ 1 → ⊥
     unfolding solve shape

@@ -1,4 +1,4 @@
--- The test load passes questions 1 to 8 of every solve, its entry count being e, in buffers of the lengths that the solve states, and 19 with every floor that is one.
+-- The test load passes questions 1 to 7 of every solve, its entry count being e, in buffers of the lengths that the solve states, and 19 with every floor that is one.
 use Prim.Native.Nat.{ℕ}
 use mathlib.Core.Path.{_≡_, ap, _∙_}
 use mathlib.Core.Bool.{true}

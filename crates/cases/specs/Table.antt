@@ -1,7 +1,7 @@
--- The boundary graphs of the paper and systems under floors as one table: an input, a form, the slots of its stores, and what must come out. Definitions only.
+-- The boundary graphs of the paper, systems under floors and systems with repeated columns as one table: an input, a form, the slots of its stores, and what must come out. Definitions only.
 use mathlib.Core.List.{List, [], _∷_, _++_, map}
 use Prim.Native.Nat.{ℕ, _+_, _*_}
-use lib.ListN.{replicate}
+use lib.ListN.{length, replicate}
 use lib.Ieee.{Float, nan, binary64, ofBits, toBits}
 use Rattle.base.specs.Answers.{numberOfAnswer, placeOfAnswer, countsOf}
 use Rattle.base.specs.declared.Form.{Form}
@@ -120,6 +120,20 @@ single v = graph 1 (0 ∷ 1 ∷ []) (0 ∷ []) (v ∷ []) (0 ∷ []) (0 ∷ []) 
 unfoldable pub under : ℕ → ℕ → Input
 under f v = withFloor (ofBits binary64 f) (single v)
 
+-- n = 1, b = 1, several values at (0, 0)
+unfoldable pub several : List ℕ → Input
+several v = graph 1 (0 ∷ length v ∷ []) (replicate (length v) 0) v (0 ∷ []) (0 ∷ []) (0x3ff0000000000000 ∷ [])
+
+-- rows (1, 1 − 1), (1, 1), b = (1, 3): the two values at (0, 1) add up to +0
+unfoldable pub cancelled : Input
+cancelled =
+    graph 2 (0 ∷ 3 ∷ 5 ∷ []) (1 ∷ 0 ∷ 1 ∷ 0 ∷ 1 ∷ []) (0x3ff0000000000000 ∷ 0x3ff0000000000000 ∷ 0xbff0000000000000 ∷ 0x3ff0000000000000 ∷ 0x3ff0000000000000 ∷ [])
+    (0 ∷ 1 ∷ []) (0 ∷ 1 ∷ []) (0x3ff0000000000000 ∷ 0x4008000000000000 ∷ [])
+
+-- (0, 0) = v; the two values at (1, 1) add up to infinity
+unfoldable pub behind : ℕ → Input
+behind v = graph 2 (0 ∷ 1 ∷ 3 ∷ []) (0 ∷ 1 ∷ 1 ∷ []) (v ∷ 0x7fefffffffffffff ∷ 0x7fefffffffffffff ∷ []) (0 ∷ 1 ∷ []) (0 ∷ 1 ∷ []) (0x3ff0000000000000 ∷ 0x3ff0000000000000 ∷ [])
+
 -- entries (0, 1), (1, 0), all 1, b = (2, 1)
 unfoldable pub swapped : List ℕ → Input
 swapped r = graph 2 (0 ∷ 1 ∷ 2 ∷ []) (1 ∷ 0 ∷ []) (0x3ff0000000000000 ∷ 0x3ff0000000000000 ∷ []) r (0 ∷ 1 ∷ []) (0x4000000000000000 ∷ 0x3ff0000000000000 ∷ [])
@@ -152,7 +166,7 @@ arrowSolved f z l u =
 abbrev pub arrowRefused : Form → Slots → ℕ → ℕ → Case
 arrowRefused f z q k = record { form = f; input = arrow; stores = z; expected = refusedAt f 3 z q k }
 
--- the table: every graph marked P that a solve decides, then systems under floors
+-- the table: every graph marked P that a solve decides, then systems under floors, and some with a column several times in a row
 unfoldable pub boundary : List Case
 boundary =
     solutions two (slots 1 1 1 1) (1 ∷ 1 ∷ 1 ∷ []) (0x3ff0000000000000 ∷ 0x4000000000000000 ∷ []) (0x3fe0000000000000 ∷ 0x3fe0000000000000 ∷ []) (0 ∷ []) (1 ∷ []) (1 ∷ [])
@@ -185,3 +199,14 @@ boundary =
     ++ solutions (under 0x0000000000000001 0x4000000000000000) (slots 0 0 0 0) (0 ∷ 0 ∷ 0 ∷ []) (0x3fe0000000000000 ∷ []) (0x3fe0000000000000 ∷ []) [] [] []
     -- the arrow's second pivot, 3/2 after step 2, under the floor 3/2
     ++ refusals (withFloor (ofBits binary64 0x3ff8000000000000) arrow) (slots 3 3 3 3) 12 1
+    -- a column several times in a row: 1 + 1; 1 + 2^−53 + 2^−53, and from the other end; 1 − 1 and −0 − 0, which keep their position;
+    -- the greatest number twice, then taken off; a position whose sum is zero; a sum that is not finite behind another refusal, and by itself
+    ++ solutions (several (0x3ff0000000000000 ∷ 0x3ff0000000000000 ∷ [])) (slots 0 0 0 0) (0 ∷ 0 ∷ 0 ∷ []) (0x3fe0000000000000 ∷ []) (0x3fe0000000000000 ∷ []) [] [] []
+    ++ solutions (several (0x3ff0000000000000 ∷ 0x3ca0000000000000 ∷ 0x3ca0000000000000 ∷ [])) (slots 0 0 0 0) (0 ∷ 0 ∷ 0 ∷ []) (0x3ff0000000000000 ∷ []) (0x3ff0000000000000 ∷ []) [] [] []
+    ++ solutions (several (0x3ca0000000000000 ∷ 0x3ca0000000000000 ∷ 0x3ff0000000000000 ∷ [])) (slots 0 0 0 0) (0 ∷ 0 ∷ 0 ∷ []) (0x3feffffffffffffe ∷ []) (0x3feffffffffffffe ∷ []) [] [] []
+    ++ refusals (several (0x3ff0000000000000 ∷ 0xbff0000000000000 ∷ [])) (slots 0 0 0 0) 12 0
+    ++ refusals (several (0x8000000000000000 ∷ 0x8000000000000000 ∷ [])) (slots 0 0 0 0) 12 0
+    ++ refusals (several (0x7fefffffffffffff ∷ 0x7fefffffffffffff ∷ 0xffefffffffffffff ∷ [])) (slots 0 0 0 0) 13 0
+    ++ solutions cancelled (slots 1 1 1 1) (1 ∷ 1 ∷ 1 ∷ []) (0x3ff0000000000000 ∷ 0x4000000000000000 ∷ []) (0x3ff0000000000000 ∷ 0x3ff0000000000000 ∷ []) (0 ∷ []) (1 ∷ []) (1 ∷ [])
+    ++ refusals (behind 0) (slots 0 0 0 0) 12 0
+    ++ refusals (behind 0x3ff0000000000000) (slots 0 0 0 0) 13 1

@@ -35,7 +35,6 @@ given-kept e o g = record {
   long = g .long;
   read = g .read;
   below = g .below;
-  few = rw o (g .few);
 }
 
 -- ---- rows at their places

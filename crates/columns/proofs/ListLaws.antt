@@ -1,18 +1,19 @@
 -- Laws of the linked lists: frames, the pushing of a node, the stamping of a list.
 use mathlib.Core.Path.{_≡_, refl, sym, ap, _∙_}
 use mathlib.Core.List.{List, [], _∷_}
+use mathlib.Core.Bool.{Bool, true, false}
 use Prim.Native.Nat.{ℕ, suc, _+_, _-_, _<_, _≤_}
 use native.Mathlib.Omega.{arith}
 use native.Mathlib.Numerals.{add-one}
 use native.Mathlib.Decide.{ℕ-discrete}
 use lib.ListN.{length, getD, take, set, length-set}
 use lib.Seq.{getD-set-other, getD-set-same}
-use borrow.Author.Tests.{eq-eqb, ne-eqb}
+use lib.Dec.{eqb}
 use Rattle.marks.specs.Marks.{Room, markAt, stamped}
-use Rattle.columns.specs.Columns.{HeadsKept, Steady, hits, Chain, none, node, HasChain, ColumnLists, Listed, Roomy, pushAt, Offered}
+use Rattle.columns.specs.Columns.{HeadsKept, Steady, leads, hits, Chain, none, node, HasChain, Leading, ColumnLists, Listed, Roomy, pushAt, Offered}
 use Rattle.marks.specs.MarkLaws.{unmarked-mark}
 use Rattle.lent.specs.ReadingLaws.{same, then, stored}
-use Rattle.columns.proofs.ColumnLaws.{hits-there, hits-more, hits-part, grown-start, grown-more, grown-end, held-one, held-ext, held-at-most}
+use Rattle.columns.proofs.ColumnLaws.{hits-here, hits-there, hits-again, hits-bounds, hits-more, hits-part, held-one, held-ext, held-at-most}
 use Rattle.base.specs.Scratch.{headsFrom, nodesFrom}
 
 -- ---- frames
@@ -72,18 +73,18 @@ module _ (n p i j : ℕ) (s : List ℕ) (sp : Room n s) (hj : j < n) (hp : p < n
       (then (stored (set s (nodesFrom n + (p + p)) i) (nodesFrom n + (p + p) + 1) (getD s (headsFrom n + j) 0) (λ y x q e. omega (arith, q (omega arith))))
       (stored (set (set s (nodesFrom n + (p + p)) i) (nodesFrom n + (p + p) + 1) (getD s (headsFrom n + j) 0)) (headsFrom n + j) (p + 1) (λ y x q e. omega (arith, x (omega arith)))))
 
-  push-lists : (lo hi : ℕ) (f : ℕ → List ℕ) → i < n → lo ≤ j → j < hi → hi ≤ n → ColumnLists n lo hi s p f → ColumnLists n lo hi (pushAt n p i j s) (p + 1) (hits i (j ∷ []) f)
-  unfolding hits
-  push-lists lo hi f hi′ hl hh hn l = record { chain = λ x a b. chain-at x a b (ℕ-discrete j x); heads = λ x a b. head-at x a b (ℕ-discrete j x) }
+  push-lists : (lo hi : ℕ) (f : ℕ → List ℕ) → i < n → lo ≤ j → j < hi → hi ≤ n → leads i (f j) ≡ false → ColumnLists n lo hi s p f
+      → ColumnLists n lo hi (pushAt n p i j s) (p + 1) (hits i (j ∷ []) f)
+  push-lists lo hi f hi′ hl hh hn new l = record { chain = λ x a b. chain-at x a b (ℕ-discrete j x); heads = λ x a b. head-at x a b (ℕ-discrete j x) }
     where
       other : (x : ℕ) → x < n → (j ≡ x → ⊥) → getD (pushAt n p i j s) (headsFrom n + x) 0 ≡ getD s (headsFrom n + x) 0
       other x a q = push-other n p i j (headsFrom n + x) s (λ e. q (omega arith)) (omega arith) (omega arith)
 
       chain-at : (x : ℕ) → lo ≤ x → x < hi → Dec (j ≡ x) → Chain n (pushAt n p i j s) (getD (pushAt n p i j s) (headsFrom n + x) 0) (hits i (j ∷ []) f x)
       chain-at x a b (yes q) =
-          rw (eq-eqb j x q, ← q)
+          rw (← q, hits-here i j f new)
           (head-chain push-head (node hi′ (l .heads j hl hh) push-row push-rest (push-chain (l .heads j hl hh) (l .chain j hl hh))))
-      chain-at x a b (no q) = rw (ne-eqb j x q, other x (omega arith) q) (push-chain (l .heads x a b) (l .chain x a b))
+      chain-at x a b (no q) = rw (hits-there i j f x q, other x (omega arith) q) (push-chain (l .heads x a b) (l .chain x a b))
 
       head-at : (x : ℕ) → lo ≤ x → x < hi → Dec (j ≡ x) → getD (pushAt n p i j s) (headsFrom n + x) 0 ≤ p + 1
       head-at x a b (yes q) = rw (← q) (omega (arith, push-head))
@@ -95,47 +96,53 @@ module _ (n p i j : ℕ) (s : List ℕ) (sp : Room n s) (hj : j < n) (hp : p < n
 pub offer-out : (n lo hi i j p : ℕ) (s : List ℕ) → ((x : ℕ) → lo ≤ x → x < hi → j ≡ x → ⊥) → Offered n lo hi i (j ∷ []) s s p p
 offer-out n lo hi i j p s h = record {
   kept = same s;
-  grown = record {
-    grow = λ f l. record {
-      lists = record {
-        chain = λ x a b. rw (hits-there i j f x (h x a b)) (l .lists .chain x a b);
-        heads = l .lists .heads;
-      };
-      count = l .count ∙ held-ext lo hi f (hits i (j ∷ []) f) (λ x a b. sym (hits-there i j f x (h x a b)));
+  grow = λ f l. record {
+    lists = record {
+      chain = λ x a b. rw (hits-there i j f x (h x a b)) (l .lists .chain x a b);
+      heads = l .lists .heads;
     };
+    count = l .count ∙ held-ext lo hi f (hits i (j ∷ []) f) (λ x a b. sym (hits-there i j f x (h x a b)));
   };
 }
 
--- a free node for an entry in the window
-pub offer-room : {n lo hi i j p : ℕ} {s : List ℕ} → lo ≤ j → j < hi → Roomy n lo hi i (j ∷ []) s p → p < n
-offer-room {n} {lo} {hi} {i} {j} a b r = omega (arith, r .listed .count, r .room, held-one lo hi i j (r .f) a b)
+-- the list of a column in the window
+pub offer-list : {n lo hi i j p : ℕ} {xs s : List ℕ} → lo ≤ j → j < hi → Roomy n lo hi i xs s p → HasChain n s (getD s (headsFrom n + j) 0)
+offer-list {n} {lo} {hi} {i} {j} {xs = xs} a b r = record {
+  room = omega (arith, r .listed .lists .heads j a b, r .listed .count, r .room, held-at-most lo hi (r .f) (hits i xs (r .f)) (λ x. hits-bounds i xs (r .f) x .0));
+  list = r .f j;
+  chain = r .listed .lists .chain j a b;
+}
 
-pub offer-push : {n lo hi i j p : ℕ} {s u : List ℕ} → Room n s → p < n → hi ≤ n → i < n → lo ≤ j → j < hi → u ≡ pushAt n p i j s
+led : {n lo hi i j p : ℕ} {s : List ℕ} {b c : Bool} {f : ℕ → List ℕ} → lo ≤ j → j < hi → Leading n i j s b → b ≡ c → Listed n lo hi s p f → leads i (f j) ≡ c
+led {j = j} {f = f} hl hh d e l = d .told (f j) (l .lists .chain j hl hh) ∙ e
+
+-- a row that leads its column changes no list
+pub offer-again : {n lo hi i j p : ℕ} {s : List ℕ} {b : Bool} → lo ≤ j → j < hi → Leading n i j s b → b ≡ true → Offered n lo hi i (j ∷ []) s s p p
+offer-again {i = i} {j = j} {s = s} hl hh d e = record { kept = same s; grow = λ f l. rw (hits-again i j f (led hl hh d e l)) l }
+
+-- a free node for a new row in the window
+pub offer-room : {n lo hi i j p : ℕ} {s : List ℕ} {b : Bool} → lo ≤ j → j < hi → Leading n i j s b → b ≡ false → Roomy n lo hi i (j ∷ []) s p → p < n
+offer-room {n} {lo} {hi} {i} {j} hl hh d e r = omega (arith, r .listed .count, r .room, held-one lo hi i j (r .f) hl hh (led hl hh d e (r .listed)))
+
+pub offer-push : {n lo hi i j p : ℕ} {s u : List ℕ} {b : Bool} → Room n s → p < n → hi ≤ n → i < n → lo ≤ j → j < hi → Leading n i j s b → b ≡ false → u ≡ pushAt n p i j s
     → Offered n lo hi i (j ∷ []) s u p (p + 1)
-offer-push {n} {lo} {hi} {i} {j} {p} {s} sp hp hn hi′ hl hh e = rw e (record {
+offer-push {n} {lo} {hi} {i} {j} {p} {s} sp hp hn hi′ hl hh d eb e = rw e (record {
   kept = push-kept n p i j s sp (omega arith) hp lo hi hl hh;
-  grown = record {
-    grow = λ f l. record {
-      lists = push-lists n p i j s sp (omega arith) hp lo hi f hi′ hl hh hn (l .lists);
-      count = omega (arith, l .count, held-one lo hi i j f hl hh);
-    };
-  };
+  grow = λ f l.
+      let new = led hl hh d eb l in
+      record {
+        lists = push-lists n p i j s sp (omega arith) hp lo hi f hi′ hl hh hn new (l .lists);
+        count = omega (arith, l .count, held-one lo hi i j f hl hh new);
+      };
 })
 
 -- ---- a row's offers
-
-pub row-start : (n lo hi i p : ℕ) (s : List ℕ) → Offered n lo hi i [] s s p p
-row-start n lo hi i p s = record { kept = same s; grown = grown-start (Listed n lo hi s p) i }
-
-pub row-more : {n lo hi i j : ℕ} {s₀ s u : List ℕ} {p₀ p p′ : ℕ} (q : ℕ) (xs : List ℕ) → q < length xs → j ≡ getD xs q 0
-    → Offered n lo hi i (take q xs) s₀ s p₀ p → Offered n lo hi i (j ∷ []) s u p p′ → Offered n lo hi i (take (q + 1) xs) s₀ u p₀ p′
-row-more q xs h e a b = record { kept = then (a .kept) (b .kept); grown = grown-more q xs h e (a .grown) (b .grown) }
 
 pub row-room : {n lo hi i j : ℕ} {s₀ s : List ℕ} {p₀ p : ℕ} (q : ℕ) (xs : List ℕ) → q < length xs → j ≡ getD xs q 0
     → Roomy n lo hi i xs s₀ p₀ → Offered n lo hi i (take q xs) s₀ s p₀ p → Roomy n lo hi i (j ∷ []) s p
 row-room {n} {lo} {hi} {i} {j} q xs h e r a = record {
   f = hits i (take q xs) (r .f);
-  listed = a .grown .grow (r .f) (r .listed);
+  listed = a .grow (r .f) (r .listed);
   room = rw (e, ← hits-more i q xs (r .f) h) (omega (
     arith,
     r .room,
@@ -143,10 +150,7 @@ row-room {n} {lo} {hi} {i} {j} q xs h e r a = record {
   ));
 }
 
-pub row-end : {n lo hi i : ℕ} {s₀ s : List ℕ} {p₀ p : ℕ} (q : ℕ) (xs : List ℕ) → length xs ≡ q → Offered n lo hi i (take q xs) s₀ s p₀ p → Offered n lo hi i xs s₀ s p₀ p
-row-end q xs e a = record { kept = a .kept; grown = grown-end q xs e (a .grown) }
-
--- ---- the stamping of a list
+-- ---- the front of a list
 
 -- the first node of a chain
 pub record Node (n : ℕ) (s : List ℕ) (h : ℕ) (l : List ℕ) : Type 0 where
@@ -161,6 +165,19 @@ first-node z none = absurd (omega arith)
 first-node z (node {q} {h} {i} {l} lo le ei eh c) =
     let e : suc q - 1 ≡ q = omega arith in
     record { rest = l; row = rw e (omega (arith, ei)); next = rw e (omega (arith, eh)); list = rw (e, ei); chain = rw (e, eh) c }
+
+chain-none : {n : ℕ} {s l : List ℕ} {h : ℕ} → h ≡ 0 → Chain n s h l → l ≡ []
+chain-none e none = refl
+chain-none e (node lo le ei eh c) = absurd (omega arith)
+
+-- no list, or the first node's row
+pub leads-none : {n i j h : ℕ} {s : List ℕ} → h ≡ getD s (headsFrom n + j) 0 → h ≡ 0 → Leading n i j s false
+leads-none {i = i} e z = record { told = λ l c. ap (leads i) (chain-none (sym e ∙ z) c) }
+
+pub leads-node : {n i j h v : ℕ} {s : List ℕ} → h ≡ getD s (headsFrom n + j) 0 → 0 < h → v ≡ getD s (nodesFrom n + (h - 1 + (h - 1))) 0 → Leading n i j s (eqb v i)
+leads-node {i = i} e z ev = record { told = λ l c. ap (leads i) (first-node z (rw (← e) at c) .list) ∙ ap (λ x. eqb x i) (sym ev) }
+
+-- ---- the stamping of a list
 
 -- what is left to stamp from the head h makes the buffer that the whole list makes
 pub record Left (n t h : ℕ) (s e : List ℕ) : Type 0 where
@@ -186,10 +203,6 @@ left-more n t h i g s u e z hn ei eg eu l =
       chain = chain-frame (λ x a b. k .slots x (λ v. omega arith) (λ v. omega arith)) (d .chain);
       same = sym (stamped-cons n t i s (d .rest)) ∙ ap (stamped n t s) (ap (λ v. v ∷ d .rest) ei ∙ sym (d .list)) ∙ l .same;
     })
-
-chain-none : {n : ℕ} {s l : List ℕ} {h : ℕ} → h ≡ 0 → Chain n s h l → l ≡ []
-chain-none e none = refl
-chain-none e (node lo le ei eh c) = absurd (omega arith)
 
 pub left-end : {n t h : ℕ} {s e : List ℕ} → h ≡ 0 → Left n t h s e → s ≡ e
 left-end {n} {t} {h} {s} z l = sym (stamped-none n t s) ∙ ap (stamped n t s) (sym (chain-none z (l .chain))) ∙ l .same

@@ -1,47 +1,37 @@
 -- The lists are those of M': a row of places is a row of `stored`, a column of rows is one of its columns.
-use mathlib.Core.Path.{_≡_, refl, sym, ap, _∙_}
-use mathlib.Core.Bool.{Bool, true, false, _&&_, _||_}
+use mathlib.Core.Path.{_≡_, refl, ap, _∙_}
+use mathlib.Core.Bool.{Bool, true, false, _&&_, _||_, or-self, or-assoc}
 use mathlib.Core.List.{List, [], _∷_}
-use Prim.Native.Nat.{ℕ, zero, suc, _+_, _-_, _<_, _≤_}
+use Prim.Native.Nat.{ℕ, zero, suc, _<_}
 use native.Mathlib.Omega.{arith}
 use native.Mathlib.Decide.{ℕ-discrete, decLt}
-use lib.ListN.{length, getD}
+use lib.ListN.{getD}
 use lib.Dec.{eqb, ltb}
-use borrow.Author.Tests.{eq-eqb, ne-eqb, lt-ltb, le-ltb}
-use Rattle.base.specs.Lists.{has, rowOf, bit}
+use borrow.Author.Tests.{eqb-true, eq-eqb, ne-eqb, lt-ltb, le-ltb}
+use Rattle.base.specs.Tests.{by-test}
+use Rattle.base.specs.Lists.{has, rowOf}
 use Rattle.base.specs.declared.Side.{Side}
 use Rattle.base.specs.declared.Side.the-variants.{Lower, Upper}
-use Rattle.lent.specs.Reading.{Below, Distinct, orderOf}
-use Rattle.lent.specs.ReadingLaws.{placed-length, placed-at, placed-is}
+use Rattle.lent.specs.Reading.{Below, orderOf}
+use Rattle.lent.specs.ReadingLaws.{placed-is}
 use Rattle.questions.specs.Lent.{Inverse}
 use Rattle.questions.specs.SettledLaws.{columns-under}
 use Rattle.matrix.specs.Input.{Input, ic, stored}
 use Rattle.matrix.specs.OrderLaws.{order-below, place-hits}
 use Rattle.marks.specs.Marks.{Room, stamped, Fresh, Holds}
 use Rattle.marks.specs.MarkLaws.{holds-kept, holds-same, holds-list}
-use Rattle.columns.specs.Columns.{Given, placesByRow, consIf, hits, bare, column}
+use Rattle.columns.specs.Columns.{Given, placesByRow, consIf, bare, column}
 use Rattle.columns.specs.Sides.{sidePattern, sideRow, SideLoaded, Sound, rowsIn}
-use Rattle.columns.proofs.ColumnLaws.{hits-bit, hits-none, column-zero, column-suc, bare-length}
+use Rattle.columns.proofs.ColumnLaws.{hits-is}
 use Rattle.columns.proofs.SideLaws.{side-marks, side-below}
 
 -- ---- a column's members
 
 has-consIf : (b : Bool) (i j : ℕ) (l : List ℕ) → has (consIf b i l) j ≡ ((b && eqb i j) || has l j)
 unfolding has
-has-consIf true i j l = refl
+has-consIf true i j [] = refl
+has-consIf true i j (h ∷ l) = by-test (eqb h i) (λ e. rw (e, eqb-true h i e, ← or-assoc (eqb i j) (eqb i j) (has l j), or-self)) (λ e. rw e)
 has-consIf false i j l = refl
-
-join : (a b c d : Bool) → ((a && c) || ((b && c) || d)) ≡ (((a || b) && c) || d)
-join true b true d = refl
-join true true false d = refl
-join true false false d = refl
-join false b c d = refl
-
-has-hits : (i : ℕ) (xs : List ℕ) (f : ℕ → List ℕ) (k j : ℕ) → has (hits i xs f k) j ≡ ((has xs k && eqb i j) || has (f k) j)
-unfolding hits has
-has-hits i [] f k j = refl
-has-hits i (x ∷ xs) f k j =
-    has-consIf (eqb x k) i j (hits i xs f k) ∙ ap (λ v. (eqb x k && eqb i j) || v) (has-hits i xs f k j) ∙ join (eqb x k) (has xs k) (eqb i j) (has (f k) j)
 
 row-joins : (R : ℕ → List ℕ) (m k j : ℕ) → ((has (R m) k && eqb m j) || (ltb j m && has (R j) k)) ≡ (ltb j (suc m) && has (R j) k)
 row-joins R m k j = go (ℕ-discrete m j) (decLt j m)
@@ -63,36 +53,12 @@ row-joins R m k j = go (ℕ-discrete m j) (decLt j m)
 has-column : (R : ℕ → List ℕ) (n k j : ℕ) → has (column R n k) j ≡ (ltb j n && has (R j) k)
 unfolding column bare has
 has-column R zero k j = rw (le-ltb j 0 (omega arith))
-has-column R (suc m) k j = has-hits m (R m) (column R m) k j ∙ ap (λ v. (has (R m) k && eqb m j) || v) (has-column R m k j) ∙ row-joins R m k j
-
--- ---- a row that names no column twice adds at most one to each
-
-tail : {x : ℕ} {xs : List ℕ} → Distinct (x ∷ xs) → Distinct xs
-tail d = record { apart = λ p q h g e. d .apart (suc p) (suc q) (omega arith) (omega arith) e }
-
-unnamed : (i : ℕ) (xs : List ℕ) (f : ℕ → List ℕ) (j : ℕ) → ((q : ℕ) → q < length xs → getD xs q 0 ≡ j → ⊥) → length (hits i xs f j) ≡ length (f j)
-unnamed i [] f j h = ap (λ g. length (g j)) (hits-none i f)
-unnamed i (y ∷ ys) f j h = omega (arith, hits-bit i y ys f j, ap bit (ne-eqb y j (h 0 (omega arith))), unnamed i ys f j (λ q g e. h (suc q) (omega arith) e))
-
-once : (i : ℕ) (xs : List ℕ) (f : ℕ → List ℕ) (j : ℕ) → Distinct xs → length (hits i xs f j) ≤ length (f j) + 1
-once i [] f j d = omega (arith, ap (λ g. length (g j)) (hits-none i f))
-once i (x ∷ xs) f j d = go (ℕ-discrete x j) (once i xs f j (tail d))
-  where
-    go : Dec (x ≡ j) → length (hits i xs f j) ≤ length (f j) + 1 → length (hits i (x ∷ xs) f j) ≤ length (f j) + 1
-    go (yes e) r =
-        omega (arith, hits-bit i x xs f j, ap bit (eq-eqb x j e), unnamed i xs f j (λ q g v. d .apart 0 (suc q) (omega arith) (omega arith) (e ∙ sym v)))
-    go (no e) r = omega (arith, hits-bit i x xs f j, ap bit (ne-eqb x j e))
-
-column-few : (R : ℕ → List ℕ) (i j : ℕ) → ((k : ℕ) → k < i → Distinct (R k)) → length (column R i j) ≤ i
-column-few R zero j d = rw (column-zero R) (omega (arith, bare-length j))
-column-few R (suc i) j d = rw (column-suc R i) (omega (arith, once i (R i) (column R i) j (d i (omega arith)), column-few R i j (λ k h. d k (omega arith))))
+has-column R (suc m) k j =
+    ap (λ l. has l j) (hits-is m (R m) (column R m) k) ∙ has-consIf (has (R m) k) m j (column R m k) ∙ ap (λ v. (has (R m) k && eqb m j) || v) (has-column R m k j) ∙ row-joins R m k j
 
 -- ---- M'
 
 module _ (i : Input) (s : List ℕ) (sound : Sound i) (inverse : Inverse i s) where
-  back : (c p : ℕ) → c < i .n → getD (orderOf (i .n) s) c 0 ≡ p → c ≡ getD (i .c) p 0
-  back c p h e = sym (place-hits (i .c) (i .n) (sound .structured .readable .column-order) c h .1) ∙ ap (λ m. getD (i .c) m 0) (sym (inverse .place c h) ∙ e)
-
   row-under : (k : ℕ) → Below (i .n) (rowOf (i .starts) (i .columns) (getD (i .r) k 0))
   row-under = columns-under i (sound .structured .readable)
 
@@ -100,20 +66,6 @@ module _ (i : Input) (s : List ℕ) (sound : Sound i) (inverse : Inverse i s) wh
   row-stored : (k p : ℕ) → has (rowsIn i s k) p ≡ stored i k p
   unfolding stored placesByRow
   row-stored k p = ap (λ l. has l p) (placed-is (orderOf (i .n) s) (rowOf (i .starts) (i .columns) (getD (i .r) k 0)) (i .n) (ic (i .c) (i .n)) (inverse .place) (row-under k))
-
-  row-distinct : (k : ℕ) → k < i .n → Distinct (rowsIn i s k)
-  unfolding placesByRow
-  row-distinct k h =
-      let cols = rowOf (i .starts) (i .columns) (getD (i .r) k 0) in
-      let ic = orderOf (i .n) s in
-      let l = placed-length ic cols in
-      record {
-        apart = λ p q a b e.
-            let u = placed-at ic cols p (omega arith) in
-            let v = placed-at ic cols q (omega arith) in
-            sound .structured .distinct k h .apart p q a (omega arith)
-            (back (getD cols p 0) (getD ic (getD cols q 0) 0) (row-under k p (omega arith)) (sym u ∙ e ∙ v) ∙ sym (back (getD cols q 0) (getD ic (getD cols q 0) 0) (row-under k q (omega arith)) refl));
-      }
 
   -- the questions and the inverse order settle what the columns need
   pub given-sound : Room (i .n) s → Given (i .n) (i .starts) (i .columns) (i .r) s
@@ -123,7 +75,6 @@ module _ (i : Input) (s : List ℕ) (sound : Sound i) (inverse : Inverse i s) wh
     long = omega (arith, sound .order-long);
     read = λ k h. sound .structured .readable .rows (sound .starts-long) (getD (i .r) k 0) (order-below (i .r) (i .n) (sound .structured .readable .row-order) k h);
     below = λ k h. row-under k;
-    few = λ j. column-few (rowsIn i s) (i .n) j row-distinct;
   }
 
   -- what a side loads is row k of the side's pattern

@@ -1,22 +1,25 @@
 -- Laws of the counts, of opening and filling a window, and of handing out a column.
-use mathlib.Core.Path.{_≡_, refl, sym, ap, _∙_}
+use mathlib.Core.Path.{_≡_, refl, sym, _∙_}
 use mathlib.Core.List.{List, [], _∷_}
 use Prim.Native.Nat.{ℕ, zero, suc, _+_, _-_, _<_, _≤_}
 use native.Mathlib.Omega.{arith}
 use native.Mathlib.Decide.{ℕ-discrete}
-use lib.ListN.{length, getD, take, set}
+use native.Mathlib.Numerals.{add-one}
+use lib.ListN.{length, getD, set, length-set}
+use lib.Dec.{eqb, eqb·suc-suc}
+use borrow.Author.Tests.{eq-eqb, ne-eqb}
 use lib.Seq.{getD-set-other, getD-set-same}
 use Rattle.base.specs.Lists.{sum}
 use Rattle.base.specs.AscLaws.{sum-ext}
-use Rattle.marks.specs.MarkLaws.{unmarked-stamped, both-stamped}
+use Rattle.marks.specs.MarkLaws.{room-kept, unmarked-stamped, both-stamped}
 use Rattle.lent.specs.ReadingLaws.{same, then, stored}
 use Rattle.lent.specs.Reading.{Below, orderOf}
 use Rattle.marks.specs.Marks.{Room, stamped}
-use Rattle.columns.specs.Columns.{HeadsKept, Steady, placesByRow, hits, bare, column, Counts, Countable, Counted, Tally, Started, Chain, none, HasChain, lengthAt, held, Listed, Roomy, Offered, headAt, Emptied, Filled, Ready, Windowed, Loaded}
+use Rattle.columns.specs.Columns.{HeadsKept, Steady, placesByRow, leads, hits, bare, column, Counting, Countable, Counted, Tally, Started, Chain, none, HasChain, lengthAt, held, Listed, Roomy, Offered, headAt, Emptied, Filled, Ready, Windowed, Loaded}
 use Rattle.columns.proofs.Keeps.{order-kept, kept-wider, steady-unmarked}
-use Rattle.columns.proofs.ColumnLaws.{hits-here, hits-there, hits-more, hits-part, grown-start, grown-more, grown-end, column-zero, column-more, column-part, bare-length, below-column, held-at-most}
+use Rattle.columns.proofs.ColumnLaws.{hits-here, hits-there, hits-again, hits-bounds, column-zero, column-more, column-few, column-part, below-column, held-at-most}
 use Rattle.columns.proofs.ListLaws.{lists-frame}
-use Rattle.base.specs.Scratch.{headsFrom}
+use Rattle.base.specs.Scratch.{headsFrom, lastsFrom}
 
 -- ---- counting
 
@@ -24,72 +27,85 @@ use Rattle.base.specs.Scratch.{headsFrom}
 head-kept : (n lo hi j v : ℕ) (s : List ℕ) → lo ≤ j → j < hi → hi ≤ n → HeadsKept n lo hi s (set s (headsFrom n + j) v)
 head-kept n lo hi j v s a b h = stored s (headsFrom n + j) v (λ y p q e. omega (arith, p (omega arith)))
 
+-- a head and the last row of its column written
+module _ (n j v w : ℕ) (s : List ℕ) (sp : Room n s) (h : j < n) where
+  abbrev written : List ℕ
+  written = set (set s (headsFrom n + j) v) (lastsFrom n + j) w
+
+  other : (y : ℕ) → (y ≡ headsFrom n + j → ⊥) → (y ≡ lastsFrom n + j → ⊥) → getD written y 0 ≡ getD s y 0
+  other y a b = getD-set-other (set s (headsFrom n + j) v) (lastsFrom n + j) y w 0 b ∙ getD-set-other s (headsFrom n + j) y v 0 a
+
+  written-kept : HeadsKept n 0 n s written
+  written-kept = record { size = simp length-set; slots = λ y p q. other y (λ e. omega (arith, p (omega arith))) (λ e. omega (arith, q (omega arith))) }
+
+  -- what holds of the two slots written, and held of every other column's, holds of every column's
+  written-at : (P : ℕ → ℕ → ℕ → Type 0) → P j v w → ((x : ℕ) → x < n → (x ≡ j → ⊥) → P x (getD s (headsFrom n + x) 0) (getD s (lastsFrom n + x) 0))
+      → (x : ℕ) → x < n → P x (getD written (headsFrom n + x) 0) (getD written (lastsFrom n + x) 0)
+  written-at P here there x g =
+      let s₁ = set s (headsFrom n + j) v in
+      let head = getD-set-other s₁ (lastsFrom n + j) (headsFrom n + j) w 0 (omega arith) ∙ getD-set-same s (headsFrom n + j) v 0 (omega (arith, sp .long)) in
+      let last = getD-set-same s₁ (lastsFrom n + j) w 0 (simp length-set (omega (arith, sp .long))) in
+      elim (ℕ-discrete x j) [
+        | yes e ↦ rw (e, head, last) here
+        | no e ↦ rw (other (headsFrom n + x) (omega arith) (omega arith), other (lastsFrom n + x) (omega arith) (omega arith)) (there x g e)
+      ]
+
 pub record Clearing (n i : ℕ) (s₀ s : List ℕ) : Type 0 where
   pub kept : HeadsKept n 0 n s₀ s
-  pub zero : (j : ℕ) → j < i → getD s (headsFrom n + j) 0 ≡ 0
+  pub zero : (j : ℕ) → j < n → j < i → (getD s (headsFrom n + j) 0 ≡ 0) × (getD s (lastsFrom n + j) 0 ≡ 0)
 
 pub clear-start : (n : ℕ) (s : List ℕ) → Clearing n 0 s s
-clear-start n s = record { kept = same s; zero = λ j h. absurd (omega arith) }
+clear-start n s = record { kept = same s; zero = λ j h g. absurd (omega arith) }
 
-pub clear-more : {n i : ℕ} {s₀ s : List ℕ} → Room n s₀ → i < n → Clearing n i s₀ s → Clearing n (i + 1) s₀ (set s (headsFrom n + i) 0)
-clear-more {n} {i} {s₀} {s} sp h c = record {
-  kept = then (c .kept) (head-kept n 0 n i 0 s (omega arith) h (omega arith));
-  zero = λ j g. elim (ℕ-discrete j i) [
-    | yes e ↦ rw e (getD-set-same s (headsFrom n + i) 0 0 (omega (arith, sp .long, c .kept .size)))
-    | no e ↦ getD-set-other s (headsFrom n + i) (headsFrom n + j) 0 0 (omega arith) ∙ c .zero j (omega arith)
-  ];
-}
+pub clear-more : {n i : ℕ} {s₀ s : List ℕ} → Room n s₀ → i < n → Clearing n i s₀ s → Clearing n (i + 1) s₀ (set (set s (headsFrom n + i) 0) (lastsFrom n + i) 0)
+clear-more {n} {i} {s₀} {s} sp′ h c =
+    let sp = room-kept _ _ _ (c .kept .size) sp′ in
+    record {
+      kept = then (c .kept) (written-kept n i 0 0 s sp h);
+      zero = written-at n i 0 0 s sp h (λ x a b. x < i + 1 → (a ≡ 0) × (b ≡ 0)) (λ g. (refl, refl)) (λ x g q k. c .zero x g (omega arith));
+    }
 
 pub clear-end : {n i : ℕ} {s₀ s : List ℕ} → n ≤ i → Clearing n i s₀ s → Tally n bare s₀ s
-clear-end h c = record { kept = c .kept; counts = record { slot = λ j a b. c .zero j (omega arith) ∙ sym (bare-length j) } }
-
--- one entry counted
-pub one-counted : {n j : ℕ} {s u : List ℕ} → Room n s → j < n → u ≡ set s (headsFrom n + j) (getD s (headsFrom n + j) 0 + 1) → Counted n (j ∷ []) s u
-one-counted {n} {j} {s} sp h e = rw e (record {
-  kept = head-kept n 0 n j (getD s (headsFrom n + j) 0 + 1) s (omega arith) h (omega arith);
-  grown = λ i. record {
-    grow = λ f c. record {
-      slot = λ x a b. elim (ℕ-discrete x j) [
-        | yes q ↦ rw q (getD-set-same s (headsFrom n + j) (getD s (headsFrom n + j) 0 + 1) 0 (omega (arith, sp .long)) ∙ omega (arith, c .slot j (omega arith) h, hits-here i j f))
-        | no q ↦ getD-set-other s (headsFrom n + j) (headsFrom n + x) (getD s (headsFrom n + j) 0 + 1) 0 (omega arith) ∙ c .slot x a b ∙ ap length (sym (hits-there i j f x (λ v. q (sym v))))
-      ];
-    };
-  };
-})
-
-pub count-start : (n : ℕ) (s : List ℕ) → Counted n [] s s
-count-start n s = record { kept = same s; grown = grown-start (Counts n 0 s) }
-
-pub count-more : {n j : ℕ} {s₀ s u : List ℕ} (q : ℕ) (xs : List ℕ) → q < length xs → j ≡ getD xs q 0 → Counted n (take q xs) s₀ s → Counted n (j ∷ []) s u
-    → Counted n (take (q + 1) xs) s₀ u
-count-more q xs h e a b = record { kept = then (a .kept) (b .kept); grown = λ i. grown-more q xs h e (a .grown i) (b .grown i) }
-
-pub count-end : {n : ℕ} {s₀ s : List ℕ} (q : ℕ) (xs : List ℕ) → length xs ≡ q → Counted n (take q xs) s₀ s → Counted n xs s₀ s
-count-end q xs e a = record { kept = a .kept; grown = λ i. grown-end q xs e (a .grown i) }
-
-pub count-room : {n j : ℕ} {s₀ s : List ℕ} (q : ℕ) (xs : List ℕ) → q < length xs → j ≡ getD xs q 0 → j < n → Countable n xs s₀ → Counted n (take q xs) s₀ s
-    → getD s (headsFrom n + j) 0 < n
-count-room {n} {j} q xs h e hj r a =
-    let g = hits (r .row) (take q xs) (r .f) in
-    let v : length (hits (r .row) (j ∷ []) g j) ≤ length (hits (r .row) xs (r .f) j)
-    = rw (e, ← hits-more (r .row) q xs (r .f) h) (hits-part (r .row) (q + 1) xs (r .f) (getD xs q 0)) in
-    omega (arith, a .grown (r .row) .grow (r .f) (r .counts) .slot j (omega arith) hj, v, r .few j, hits-here (r .row) j g)
-
-pub tally-start : {n : ℕ} (R : ℕ → List ℕ) {s : List ℕ} → Counts n 0 s bare → Tally n (column R 0) s s
-tally-start R {s} c = record { kept = same s; counts = rw (column-zero R) c }
-
-pub tally-room : (n k : ℕ) (R : ℕ → List ℕ) {xs s₀ s : List ℕ} → k < n → ((j : ℕ) → length (column R n j) ≤ n) → xs ≡ R k → Tally n (column R k) s₀ s → Countable n xs s
-tally-room n k R h few e t = record {
-  row = k;
-  f = column R k;
-  counts = t .counts;
-  few = λ j. rw (e, ← column-more R k) (omega (arith, few j, column-part R (k + 1) n j (omega arith)));
+unfolding bare
+clear-end h c = record {
+  kept = c .kept;
+  counting = record { counts = record { slot = λ j a b. c .zero j b (omega arith) .0 }; lasts = λ j b i. ne-eqb _ (i + 1) (omega (arith, c .zero j b (omega arith) .1)) };
 }
 
-pub tally-more : (n k : ℕ) (R : ℕ → List ℕ) {xs s₀ s u : List ℕ} → xs ≡ R k → Tally n (column R k) s₀ s → Counted n xs s u → Tally n (column R (k + 1)) s₀ u
+-- a row counted for a column, where it is not yet
+pub one-counted : {n i j : ℕ} {s u : List ℕ} → Room n s → j < n → (getD s (lastsFrom n + j) 0 ≡ i + 1 → ⊥)
+    → u ≡ set (set s (headsFrom n + j) (getD s (headsFrom n + j) 0 + 1)) (lastsFrom n + j) (i + 1) → Counted n i (j ∷ []) s u
+one-counted {n} {i} {j} {s} sp h o e = let c₀ = getD s (headsFrom n + j) 0 in rw e (record {
+  kept = written-kept n j (c₀ + 1) (i + 1) s sp h;
+  grow = λ f c.
+      let new = hits-here i j f (sym (c .lasts j h i) ∙ ne-eqb (getD s (lastsFrom n + j) 0) (i + 1) o) in
+      let at = written-at n j (c₀ + 1) (i + 1) s sp h (λ x a b. (a ≡ length (hits i (j ∷ []) f x)) × ((k : ℕ) → eqb b (k + 1) ≡ leads k (hits i (j ∷ []) f x)))
+      (rw new (omega (arith, c .counts .slot j (omega arith) h), λ k. rw (add-one i, add-one k) (eqb·suc-suc i k)))
+      (λ x g q. rw (hits-there i j f x (λ v. q (sym v))) (c .counts .slot x (omega arith) g, c .lasts x g)) in
+      record { counts = record { slot = λ x a b. at x b .0 }; lasts = λ x b. at x b .1 };
+})
+
+-- a row that is counted there already
+pub counted-before : {n i j : ℕ} {s : List ℕ} → j < n → getD s (lastsFrom n + j) 0 ≡ i + 1 → Counted n i (j ∷ []) s s
+counted-before {n} {i} {j} {s} h e = record {
+  kept = same s;
+  grow = λ f c. rw (hits-again i j f (sym (c .lasts j h i) ∙ eq-eqb (getD s (lastsFrom n + j) 0) (i + 1) e)) c;
+}
+
+pub count-room : {n i j : ℕ} {xs s₀ s : List ℕ} → i < n → j < n → Countable n i s₀ → Counted n i xs s₀ s → getD s (headsFrom n + j) 0 ≤ n
+count-room {n} {i} {j} {xs} h g r a =
+    omega (arith, a .grow (r .f) (r .counting) .counts .slot j (omega arith) g, hits-bounds i xs (r .f) j, r .few j)
+
+pub tally-start : {n : ℕ} (R : ℕ → List ℕ) {s : List ℕ} → Counting n s bare → Tally n (column R 0) s s
+tally-start R {s} c = record { kept = same s; counting = rw (column-zero R) c }
+
+pub tally-room : (n k : ℕ) (R : ℕ → List ℕ) {s₀ s : List ℕ} → Tally n (column R k) s₀ s → Countable n k s
+tally-room n k R t = record { f = column R k; counting = t .counting; few = column-few R k }
+
+pub tally-more : (n k : ℕ) (R : ℕ → List ℕ) {xs s₀ s u : List ℕ} → xs ≡ R k → Tally n (column R k) s₀ s → Counted n k xs s u → Tally n (column R (k + 1)) s₀ u
 tally-more n k R e t c = record {
   kept = then (t .kept) (c .kept);
-  counts = rw (column-more R k, ← e) (c .grown k .grow (column R k) (t .counts));
+  counting = rw (column-more R k, ← e) (c .grow (column R k) (t .counting));
 }
 
 pub tally-end : (n k : ℕ) (R : ℕ → List ℕ) {s₀ s : List ℕ} → k ≡ n → Tally n (column R k) s₀ s → Tally n (column R n) s₀ s
@@ -103,7 +119,7 @@ started n starts columns r a b = rw (← order-kept n 0 n (a .kept)) (record {
     least = omega arith;
     most = omega arith;
     lists = record { chain = λ j x y. absurd (omega arith); heads = λ j x y. absurd (omega arith) };
-    counts = b .counts;
+    counts = b .counting .counts;
   };
 })
 
@@ -212,7 +228,7 @@ pub fill-more : {n lo hi k : ℕ} {R : ℕ → List ℕ} {xs s₀ s u : List ℕ
     → Filling n lo hi (k + 1) R s₀ u p′
 fill-more {k = k} {R = R} e a b = record {
   kept = then (a .kept) (b .kept);
-  listed = rw (column-more R k, ← e) (b .grown .grow (column R k) (a .listed));
+  listed = rw (column-more R k, ← e) (b .grow (column R k) (a .listed));
 }
 
 pub fill-end : {n lo hi k : ℕ} {R : ℕ → List ℕ} {s₀ s : List ℕ} {p : ℕ} → k ≡ n → held lo hi (column R n) ≤ n → Filling n lo hi k R s₀ s p → Filled n lo hi (column R n) s₀ s
@@ -230,16 +246,16 @@ window-fits {n} {k} {hi} {end} {R} {Q} {s₀} e h r m =
     let g = m .most in
     rw (e, sum-ext (end - k) (lengthAt (column R n) k) (headAt n s₀ k) (λ j a. sym (r .counts .slot (k + j) (omega arith) (omega arith)))) (m .total)
 
-pub window-made : (n k hi end : ℕ) (R Q : ℕ → List ℕ) {s₀ s u : List ℕ} → Q ≡ R → k < n → hi ≤ k → ((j : ℕ) → length (column R n j) ≤ n) → Ready n k hi R s₀
+pub window-made : (n k hi end : ℕ) (R Q : ℕ → List ℕ) {s₀ s u : List ℕ} → Q ≡ R → k < n → hi ≤ k → Ready n k hi R s₀
     → Emptied n k end s₀ s → Filled n k end (column Q n) s u → Windowed n k end R s₀ u
-window-made n k hi end R Q q h g few r m f′ =
+window-made n k hi end R Q q h g r m f′ =
     let f = rw q at f′ in
     let w = then (m .kept) (f .kept) in
     let l = m .least in
     let e = m .most in
     record {
       kept = kept-wider n k end k n (omega arith) (omega arith) w;
-      has = m .some h (omega (arith, r .counts .slot k g h, few k));
+      has = m .some h (omega (arith, r .counts .slot k g h, column-few R n k));
       ready = record {
         least = l;
         most = e;

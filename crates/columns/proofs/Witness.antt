@@ -1,5 +1,5 @@
 -- The least matrix meets what the functions require: one entry, its column counted, and its window open.
-use mathlib.Core.Path.{refl}
+use mathlib.Core.Path.{_≡_, refl}
 use mathlib.Core.List.{List, [], _∷_}
 use Prim.Native.Nat.{ℕ, zero, suc}
 use native.Mathlib.Omega.{arith}
@@ -29,7 +29,6 @@ sound =
       structured = record {
         readable = record { rows = q .readable .rows; columns = q .readable .columns; row-order = q .readable .row-order; column-order = q .readable .column-order };
         entered = q .entered;
-        distinct = q .distinct;
       };
     }
 
@@ -39,6 +38,11 @@ inverse = record { place = elim [ zero ↦ λ h. refl | suc k ↦ λ h. absurd (
 
 pub given : Given 1 (0 ∷ 1 ∷ []) (0 ∷ []) (0 ∷ []) scratch
 given = given-sound one scratch sound inverse (record { small = omega arith; long = omega arith })
+
+-- a row that names a column twice is in it once
+pub twice : column (λ k. 0 ∷ 0 ∷ []) 1 0 ≡ 0 ∷ []
+unfolding column hits bare
+twice = refl
 
 pub counted : Ready 1 0 0 (rowsIn one scratch) scratch
 unfolding column placesByRow placed orderOf listAt hits bare

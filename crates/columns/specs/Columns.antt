@@ -1,9 +1,10 @@
 -- The columns of M', which is lent by rows, handed out in turn as stamps.
 -- Scratch has eight regions of n slots: marks, inverse column order, block stamps, cuts, heads (from slot 4n on), a list, and in the last two (from slot 6n on) n nodes.
--- A node is a row and the rest of its list. The head of a column counts its entries until its window is opened, and leads to its list then.
+-- A node is a row and the rest of its list. The head of a column counts its rows until its window is opened, and leads to its list then.
+-- A column has a row once, however often the row names it. While columns are counted, slot 6n + j holds the last row of column j, plus one.
 -- The heads of columns handed out are not spoken of. Definitions only.
 use mathlib.Core.List.{List, [], _∷_}
-use mathlib.Core.Bool.{Bool, true, false}
+use mathlib.Core.Bool.{Bool, true, false, cond}
 use mathlib.Core.Path.{_≡_}
 use Prim.Native.Nat.{ℕ, zero, suc, _+_, _-_, _<_, _≤_}
 use lib.ListN.{length, getD, set}
@@ -11,7 +12,7 @@ use lib.Dec.{eqb}
 use Rattle.base.specs.Lists.{sum, rowOf}
 use Rattle.lent.specs.Reading.{ListIn, Below, orderOf, placed, Outside}
 use Rattle.marks.specs.Marks.{Room, Order, stamped}
-use Rattle.base.specs.Scratch.{upperCuts, headsFrom, listFrom, nodesFrom, regionsEnd}
+use Rattle.base.specs.Scratch.{upperCuts, headsFrom, listFrom, nodesFrom, lastsFrom, regionsEnd}
 
 -- ---- scratch
 
@@ -37,11 +38,17 @@ pub record Steady (n k : ℕ) (s₀ s : List ℕ) : Type 0 where
 unfoldable pub placesByRow : List ℕ → List ℕ → List ℕ → List ℕ → ℕ → List ℕ
 placesByRow ic starts columns r k = placed ic (rowOf starts columns (getD r k 0))
 
+-- whether i stands in front of l
+abbrev pub leads : ℕ → List ℕ → Bool
+leads i [] = false
+leads i (h ∷ l) = eqb h i
+
+-- where told, i in front of l, unless it stands there already
 abbrev pub consIf : Bool → ℕ → List ℕ → List ℕ
-consIf true i l = i ∷ l
+consIf true i l = cond (leads i l) l (i ∷ l)
 consIf false i l = l
 
--- column j's list with i in front, once for each time that row i's places xs name j
+-- column j's list with i in front, once, however often row i's places xs name j
 unfoldable pub hits : ℕ → List ℕ → (ℕ → List ℕ) → ℕ → List ℕ
 hits i [] f j = f j
 hits i (x ∷ xs) f j = consIf (eqb x j) i (hits i xs f j)
@@ -55,41 +62,44 @@ unfoldable pub column : (ℕ → List ℕ) → ℕ → ℕ → List ℕ
 column R zero = bare
 column R (suc i) = hits i (R i) (column R i)
 
--- what held of lists f holds once row i's places xs were added to them
-pub record Grown (P Q : (ℕ → List ℕ) → Type 0) (i : ℕ) (xs : List ℕ) : Type 0 where
+-- row i's places xs were added to the lists of columns lo to hi: Q holds of them where P held of them before
+pub record Added (n lo hi i : ℕ) (xs s₀ s : List ℕ) (P Q : (ℕ → List ℕ) → Type 0) : Type 0 where
+  pub kept : HeadsKept n lo hi s₀ s
   pub grow : (f : ℕ → List ℕ) → P f → Q (hits i xs f)
 
--- what the questions and the inverse order settle: the rows of M' can be read, and no column has more than n entries
+-- what the questions and the inverse order settle: the rows of M' can be read
 pub record Given (n : ℕ) (starts columns r s : List ℕ) : Type 0 where
   pub space : Room n s
   pub order : Order n s
   pub long : n ≤ length r
   pub read : (k : ℕ) → k < n → ListIn starts starts (length columns) (getD r k 0)
   pub below : (k : ℕ) → k < n → Below n (rowOf starts columns (getD r k 0))
-  pub few : (j : ℕ) → length (column (placesByRow (orderOf n s) starts columns r) n j) ≤ n
 
 -- ---- counts
 
--- the heads from column lo on count the entries of the lists f
+-- the heads from column lo on count the rows of the lists f
 pub record Counts (n lo : ℕ) (s : List ℕ) (f : ℕ → List ℕ) : Type 0 where
   pub slot : (j : ℕ) → lo ≤ j → j < n → getD s (headsFrom n + j) 0 ≡ length (f j)
 
--- the heads count some lists, which the places xs of some row leave at most n long
-pub record Countable (n : ℕ) (xs s : List ℕ) : Type 0 where
-  pub row : ℕ
-  pub f : ℕ → List ℕ
+-- the heads count the lists f, and the last row of column j is held as i + 1 exactly where i leads f j
+pub record Counting (n : ℕ) (s : List ℕ) (f : ℕ → List ℕ) : Type 0 where
   pub counts : Counts n 0 s f
-  pub few : (j : ℕ) → length (hits row xs f j) ≤ n
+  pub lasts : (j : ℕ) → j < n → (i : ℕ) → eqb (getD s (lastsFrom n + j) 0) (i + 1) ≡ leads i (f j)
 
--- the places xs of a row were counted
-pub record Counted (n : ℕ) (xs s₀ s : List ℕ) : Type 0 where
-  pub kept : HeadsKept n 0 n s₀ s
-  pub grown : (i : ℕ) → Grown (Counts n 0 s₀) (Counts n 0 s) i xs
+-- some lists, of at most i rows each, are counted
+pub record Countable (n i : ℕ) (s : List ℕ) : Type 0 where
+  pub f : ℕ → List ℕ
+  pub counting : Counting n s f
+  pub few : (j : ℕ) → length (f j) ≤ i
 
--- the heads count the lists f, and nothing else changed
+-- the places xs of row i were counted
+abbrev pub Counted : ℕ → ℕ → List ℕ → List ℕ → List ℕ → Type 0
+Counted n i xs s₀ s = Added n 0 n i xs s₀ s (Counting n s₀) (Counting n s)
+
+-- the lists f are counted, and nothing else changed
 pub record Tally (n : ℕ) (f : ℕ → List ℕ) (s₀ s : List ℕ) : Type 0 where
   pub kept : HeadsKept n 0 n s₀ s
-  pub counts : Counts n 0 s f
+  pub counting : Counting n s f
 
 -- ---- lists
 
@@ -104,6 +114,10 @@ pub record HasChain (n : ℕ) (s : List ℕ) (h : ℕ) : Type 0 where
   pub list : List ℕ
   pub chain : Chain n s h list
 
+-- b says whether row i stands in front of the list at column j's head
+pub record Leading (n i j : ℕ) (s : List ℕ) (b : Bool) : Type 0 where
+  pub told : (l : List ℕ) → Chain n s (getD s (headsFrom n + j) 0) l → leads i l ≡ b
+
 -- the heads of columns lo to hi lead to the lists f, in the first p nodes
 pub record ColumnLists (n lo hi : ℕ) (s : List ℕ) (p : ℕ) (f : ℕ → List ℕ) : Type 0 where
   pub chain : (j : ℕ) → lo ≤ j → j < hi → Chain n s (getD s (headsFrom n + j) 0) (f j)
@@ -112,7 +126,7 @@ pub record ColumnLists (n lo hi : ℕ) (s : List ℕ) (p : ℕ) (f : ℕ → Lis
 unfoldable pub lengthAt : (ℕ → List ℕ) → ℕ → ℕ → ℕ
 lengthAt f lo m = length (f (lo + m))
 
--- the entries of the columns lo to hi
+-- the rows of the columns lo to hi
 unfoldable pub held : ℕ → ℕ → (ℕ → List ℕ) → ℕ
 held lo hi f = sum (hi - lo) (lengthAt f lo)
 
@@ -132,9 +146,8 @@ abbrev pub pushAt : ℕ → ℕ → ℕ → ℕ → List ℕ → List ℕ
 pushAt n p i j s = set (set (set s (nodesFrom n + (p + p)) i) (nodesFrom n + (p + p) + 1) (getD s (headsFrom n + j) 0)) (headsFrom n + j) (p + 1)
 
 -- the places xs of row i went into the lists of lo to hi
-pub record Offered (n lo hi i : ℕ) (xs s₀ s : List ℕ) (p₀ p : ℕ) : Type 0 where
-  pub kept : HeadsKept n lo hi s₀ s
-  pub grown : Grown (Listed n lo hi s₀ p₀) (Listed n lo hi s p) i xs
+abbrev pub Offered : ℕ → ℕ → ℕ → ℕ → List ℕ → List ℕ → List ℕ → ℕ → ℕ → Type 0
+Offered n lo hi i xs s₀ s p₀ p = Added n lo hi i xs s₀ s (Listed n lo hi s₀ p₀) (Listed n lo hi s p)
 
 -- ---- windows
 

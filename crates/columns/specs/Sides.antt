@@ -36,7 +36,7 @@ SideLoaded Lower n t k hi₀ hi R s₀ s = Loaded n t k hi R s₀ s
 abbrev pub rowsIn : Input → List ℕ → ℕ → List ℕ
 rowsIn i s = placesByRow (orderOf (i .n) s) (i .starts) (i .columns) (i .r)
 
--- what question 2 settles of the starts and the row order, and 3, 4, 5, 7 and 8
+-- what question 2 settles of the starts and the row order, and 3, 4, 5 and 7
 pub record Sound (i : Input) : Type 0 where
   pub starts-long : length (i .starts) ≡ i .n + 1
   pub order-long : length (i .r) ≡ i .n

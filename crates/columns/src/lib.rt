@@ -3,11 +3,11 @@
 ghost use mathlib.Core.Path.{_≡_};
 ghost use mathlib.Core.List.{List, [], _∷_};
 ghost use Prim.Native.Nat.{ℕ, _+_, _*_, _≤_, _<_};
-ghost use lib.ListN.{length, getD, set};
+ghost use lib.ListN.{length, getD};
 ghost use Rattle.base.specs.Lists.{rowOf};
 ghost use Rattle.lent.specs.Reading.{ListIn, Below, orderOf, placed};
 ghost use Rattle.marks.specs.Marks.{Room, Order, stamped};
-ghost use Rattle.columns.specs.Columns.{Given, placesByRow, bare, column, Countable, Counted, Counts, Tally, Started, Emptied, Roomy, Offered, pushAt, held, Filled, Ready, Windowed, Chain, HasChain, Loaded};
+ghost use Rattle.columns.specs.Columns.{Given, placesByRow, bare, column, Counting, Countable, Counted, Tally, Started, Emptied, Roomy, Offered, pushAt, held, Filled, Ready, Windowed, Chain, HasChain, Leading, Loaded};
 ghost use Rattle.columns.specs.Sides.{SideReady, SideLoaded};
 ghost use Rattle.base.specs.Scratch.{headsFrom};
 ghost use Rattle.base.specs.Limits.{maxRows};
@@ -28,54 +28,60 @@ fn row_of<'a>(starts: &[u32], columns: &'a [Index], r: &[Index], k: usize) -> &'
 
 // ---- counts
 
-// Empties all heads.
-fn clear_heads(marks: &mut [u32], n: usize)
+// Empties all heads, and the last rows.
+fn clear_counts(marks: &mut [u32], n: usize)
     requires { ⌜ Room n (now marks) ⌝ }
     ensures { λ _. ⌜ Tally n bare (now (marks .entry)) (now (marks .exit)) ⌝ }
 {
     let mut j = 0;
     while j < n {
         marks[scratch::HEADS * n + j] = 0;
+        marks[scratch::LASTS * n + j] = 0;
         j += 1;
     }
 }
 
-// Counts one entry of column j.
-fn count_one(marks: &mut [u32], n: usize, j: usize)
+// Counts row i for column j, unless it is counted there.
+fn count_one(marks: &mut [u32], n: usize, i: usize, j: usize)
     requires { ⌜ Room n (now marks) ⌝ }
-    requires { ⌜ (j < n) × (getD (now marks) (headsFrom n + j) 0 < maxRows) ⌝ }
-    ensures { λ _. ⌜ now (marks .exit) ≡ set (now (marks .entry)) (headsFrom n + j) (getD (now (marks .entry)) (headsFrom n + j) 0 + 1) ⌝ }
+    requires { ⌜ (i < n) × (j < n) × (getD (now marks) (headsFrom n + j) 0 ≤ n) ⌝ }
+    ensures { λ _. ⌜ Counted n i (j ∷ []) (now (marks .entry)) (now (marks .exit)) ⌝ }
 {
+    let last = (i + 1) as u32;
+    if marks[scratch::LASTS * n + j] == last {
+        return;
+    }
     let count = marks[scratch::HEADS * n + j];
     marks[scratch::HEADS * n + j] = count + 1;
+    marks[scratch::LASTS * n + j] = last;
 }
 
-// Counts the entries of a row by column.
-fn count_row(marks: &mut [u32], n: usize, cols: &[Index])
+// Counts row i for each column that it names.
+fn count_row(marks: &mut [u32], n: usize, i: usize, cols: &[Index])
     requires { ⌜ Room n (now marks) ⌝ }
     requires { ⌜ Order n (now marks) ⌝ }
     requires { ⌜ Below n (now cols) ⌝ }
-    requires { ⌜ Countable n (placed (orderOf n (now marks)) (now cols)) (now marks) ⌝ }
-    ensures { λ _. ⌜ Counted n (placed (orderOf n (now (marks .entry))) (now (cols .entry))) (now (marks .entry)) (now (marks .exit)) ⌝ }
+    requires { ⌜ (i < n) × Countable n i (now marks) ⌝ }
+    ensures { λ _. ⌜ Counted n i (placed (orderOf n (now (marks .entry))) (now (cols .entry))) (now (marks .entry)) (now (marks .exit)) ⌝ }
 {
     let mut q = 0;
     while q < cols.len() {
-        let j = marks::entry_place(marks, n, cols, q);
-        count_one(marks, n, j);
+        let j = lent::entry_place(n, marks, cols, q);
+        count_one(marks, n, i, j);
         q += 1;
     }
 }
 
-// Counts the entries of each column in heads that are empty.
+// Counts the rows of each column in heads that are empty.
 fn count_columns(marks: &mut [u32], n: usize, starts: &[u32], columns: &[Index], r: &[Index])
     requires { ⌜ Given n (now starts) (now columns) (now r) (now marks) ⌝ }
-    requires { ⌜ Counts n 0 (now marks) bare ⌝ }
+    requires { ⌜ Counting n (now marks) bare ⌝ }
     ensures { λ _. ⌜ Tally n (column (placesByRow (orderOf n (now (marks .entry))) (now (starts .entry)) (now (columns .entry)) (now (r .entry))) n) (now (marks .entry)) (now (marks .exit)) ⌝ }
 {
     let mut k = 0;
     while k < n {
         let cols = row_of(starts, columns, r, k);
-        count_row(marks, n, cols);
+        count_row(marks, n, k, cols);
         k += 1;
     }
 }
@@ -85,7 +91,7 @@ pub fn start_columns(marks: &mut [u32], n: usize, starts: &[u32], columns: &[Ind
     requires { ⌜ Given n (now starts) (now columns) (now r) (now marks) ⌝ }
     ensures { λ _. ⌜ Started n (placesByRow (orderOf n (now (marks .entry))) (now (starts .entry)) (now (columns .entry)) (now (r .entry))) (now (marks .entry)) (now (marks .exit)) ⌝ }
 {
-    clear_heads(marks, n);
+    clear_counts(marks, n);
     count_columns(marks, n, starts, columns, r);
 }
 
@@ -124,7 +130,20 @@ fn push_node(marks: &mut [u32], n: usize, p: usize, i: usize, j: usize)
     marks[scratch::HEADS * n + j] = (p + 1) as u32;
 }
 
-// Entry (i, j) goes into the lists of lo to hi; answers how many nodes are used.
+// Whether row i stands in front of column j's list.
+fn leads_with(marks: &[u32], n: usize, i: usize, j: usize) -> bool
+    requires { ⌜ Room n (now marks) ⌝ }
+    requires { ⌜ (j < n) × HasChain n (now marks) (getD (now marks) (headsFrom n + j) 0) ⌝ }
+    ensures { λ r. ⌜ Leading n i j (now (marks .entry)) r ⌝ }
+{
+    let head = base::slot(marks[scratch::HEADS * n + j]);
+    if head == 0 {
+        return false;
+    }
+    base::slot(marks[scratch::NODES * n + (head - 1 + (head - 1))]) == i
+}
+
+// Row i goes into column j's list, once, where that is one of lo to hi; answers how many nodes are used.
 fn offer(
     marks: &mut [u32],
     n: usize,
@@ -143,6 +162,9 @@ fn offer(
         return used;
     }
     if hi <= j {
+        return used;
+    }
+    if leads_with(marks, n, i, j) {
         return used;
     }
     push_node(marks, n, used, i, j);
@@ -168,7 +190,7 @@ fn offer_row(
     let mut p = used;
     let mut q = 0;
     while q < cols.len() {
-        let j = marks::entry_place(marks, n, cols, q);
+        let j = lent::entry_place(n, marks, cols, q);
         p = offer(marks, n, lo, hi, i, j, p);
         q += 1;
     }

@@ -138,7 +138,7 @@ abbrev pub RunsBy : Way → List ℕ → List ℕ → Type 0
 RunsBy OneAfterAnother starts runs = runs ≡ starts
 RunsBy Sharing starts runs = Unit {0}
 
--- what questions 1 to 8 settle
+-- what the questions before 9 settle
 pub record Presenting (way : Way) (i : Input) (ls lr li : List ℕ) (lv : ℕ) (us ur ui : List ℕ) (uv marks : ℕ) : Type 0 where
   pub matrix : MatrixLent i marks
   pub lower : Stores way (i .n) li lv ls lr

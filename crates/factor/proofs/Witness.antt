@@ -14,7 +14,7 @@ use Rattle.base.specs.declared.Form.the-variants.{Plain, Shared, ByRow}
 use Rattle.base.specs.declared.Side.the-variants.{Lower, Upper}
 use Rattle.fill.specs.Fill.{reach, filled, upper, upperRow, lowerRow}
 use Rattle.matrix.specs.Input.{Input, inputOf, isOf, ic, stored}
-use Rattle.matrix.specs.Questions.{badStart, badColumn, badIndex, notFinite, emptyRow, noEntry, repeatRow, repeats, seenAt, ask3, ask4, ask5, ask6, askFloor, askNumbers, ask7, ask8, askFinite, askPattern, askRows, askSolve}
+use Rattle.matrix.specs.Questions.{badStart, badColumn, badIndex, notFinite, emptyRow, noEntry, ask3, ask4, ask5, ask6, askFloor, askNumbers, ask7, askFinite, askPattern, askSolve}
 use Rattle.lent.specs.Reading.{orderOf}
 use Rattle.questions.specs.Lent.{SolveLent, Inverse}
 use Rattle.questions.specs.SettledLaws.{settled}
@@ -30,7 +30,7 @@ example = inputOf 2 (0 ∷ 2 ∷ 4 ∷ []) (0 ∷ 1 ∷ 0 ∷ 1 ∷ [])
     (0 ∷ 1 ∷ []) (0 ∷ 1 ∷ []) (ofBits binary64 0x4024000000000000 ∷ ofBits binary64 0x4022000000000000 ∷ [])
 
 passed : askSolve example ≡ Pass
-unfolding askSolve askPattern askRows ask3 ask4 ask5 ask6 ask7 ask8 askFinite badStart badColumn badIndex notFinite emptyRow noEntry repeatRow repeats seenAt isOf first listAt ofBits askNumbers askFloor isFloor lt
+unfolding askSolve askPattern ask3 ask4 ask5 ask6 ask7 askFinite badStart badColumn badIndex notFinite emptyRow noEntry isOf first listAt ofBits askNumbers askFloor isFloor lt
 passed = refl
 
 lent : SolveLent example 16

@@ -140,12 +140,14 @@ module _ (i : Input) (k below : ℕ) (us ur ui marks : List ℕ) (upper work : �
       place = R .place;
       scratch = R .scratch;
       row = record {
-        few = omega (arith, R .lent .lent .orders .few);
-        slots = omega (arith, R .slots);
+        placeable = record {
+          few = omega (arith, R .lent .lent .orders .few);
+          slots = omega (arith, R .slots);
+          known = columns-below;
+          inside = λ p g. rw (R .inverse .place (getD columns p 0) (columns-below p g))
+              (place-hits (i .c) (i .n) (R .settled .structured .readable .column-order) (getD columns p 0) (columns-below p g) .0);
+        };
         paired = long;
-        known = columns-below;
-        inside = λ p g. rw (R .inverse .place (getD columns p 0) (columns-below p g))
-            (place-hits (i .c) (i .n) (R .settled .structured .readable .column-order) (getD columns p 0) (columns-below p g) .0);
       };
       below = rw (el ∙ R .lower) (lower-below (stored i) (i .n) k (omega (arith, R .place)));
       lists = R .shape;

@@ -12,7 +12,7 @@ use Rattle.base.specs.declared.Refusal.the-variants.{Lengths}
 use Rattle.fill.specs.Fill.{reach, filled, upper, upperRow, lowerRow, lowerColumn, products}
 use Rattle.placement.specs.Placing.{countAbove, tails, bestFrom, firstAt, agree, appendAll, fresh, meets, overlap, tailOr, shared, after, placed, startOf}
 use Rattle.matrix.specs.Input.{Input, inputOf, isOf, ic, stored}
-use Rattle.matrix.specs.Questions.{badStart, badColumn, badIndex, noEntry, emptyRow, seenAt, repeats, repeatRow, ask3, ask4, ask5, ask7, ask8, askPattern, askRows, askStructure}
+use Rattle.matrix.specs.Questions.{badStart, badColumn, badIndex, noEntry, emptyRow, ask3, ask4, ask5, ask7, askPattern, askStructure}
 use Rattle.outcome.specs.Forms.{placedTo, indexNeed, valueNeed}
 use Rattle.outcome.specs.Buffers.{sharedBuffers, askShape}
 use Rattle.outcome.specs.Structure.{fits, askPlace, askPlaces, counts, sidePlaced, structured, structure}
@@ -51,7 +51,7 @@ pub done : sheetOutcome three (used 2050) ≡ left (Done (record { lower = 1; up
     (sheetBuffers
     (sharedBuffers (0 ∷ 1 ∷ 1 ∷ 1 ∷ []) (0 ∷ 1 ∷ 1 ∷ []) (2 ∷ 0 ∷ []) (nought ∷ nought ∷ []) (0 ∷ 1 ∷ 2 ∷ 2 ∷ []) (0 ∷ 0 ∷ 1 ∷ []) (2 ∷ 0 ∷ []) (nought ∷ nought ∷ []) [] [] (replicate 9 nought) (replicate 32 0))
     (fillSheet three))
-unfolding three sheetOutcome sheetStructure askSheet askShape structure askStructure askPattern askRows ask3 ask4 ask5 ask7 ask8 first badStart badColumn badIndex isOf emptyRow noEntry repeatRow repeats seenAt listAt askPlaces askPlace fits indexNeed valueNeed startOf structured sidePlaced counts products lowerColumn count sum padded table placedTo placed after shared appendAll fresh meets overlap tailOr tails bestFrom countAbove firstAt agree lowerRow upperRow asc upper filled reach stored ic has
+unfolding three sheetOutcome sheetStructure askSheet askShape structure askStructure askPattern ask3 ask4 ask5 ask7 first badStart badColumn badIndex isOf emptyRow noEntry listAt askPlaces askPlace fits indexNeed valueNeed startOf structured sidePlaced counts products lowerColumn count sum padded table placedTo placed after shared appendAll fresh meets overlap tailOr tails bestFrom countAbove firstAt agree lowerRow upperRow asc upper filled reach stored ic has
 done = refl
 
 -- a byte less

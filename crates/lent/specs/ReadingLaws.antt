@@ -50,6 +50,9 @@ order-read n s c h = sym (getD-take n (drop n s) c 0 h ∙ getD-drop n s c 0)
 pub place-read : (n : ℕ) (s : List ℕ) (c : OwnNumber) (x : ℕ) → c .0 < n → x ≡ n + c .0 → _≡_ {A = Place} (record { 0 = getD s x 0 }) (placeAt (orderOf n s) c)
 place-read n s c x h e = rw (e, order-read n s (c .0) h)
 
+pub place-is : (k : Place) (order : List ℕ) (x y : ℕ) → k ≡ placeAt order (record { 0 = x }) → x ≡ y → k .0 ≡ getD order y 0
+place-is k order x y e h = rw (e, h)
+
 pub placed-length : (ic l : List ℕ) → length (placed ic l) ≡ length l
 unfolding placed
 placed-length ic l = length-map l (λ j. getD ic j 0)

@@ -62,6 +62,16 @@ pub fn place_of(n: usize, marks: &[u32], j: OwnNumber) -> Place
     Place(marks[scratch::INVERSE * n + at])
 }
 
+// Gives the place of entry q of a row, by its own column.
+pub fn entry_place(n: usize, marks: &[u32], columns: &[Index], q: usize) -> usize
+    requires { ⌜ (q < length (now columns)) × (getD (now columns) q 0 < n) × (n ≤ maxRows) × (blocksFrom n ≤ length (now marks)) ⌝ }
+    ensures { λ j. ⌜ j ≡ getD (orderOf n (now (marks .entry))) (getD (now (columns .entry)) q 0) 0 ⌝ }
+{
+    let own = OwnNumber(base::number(columns[q]));
+    let place = place_of(n, marks, own);
+    place.0 as usize
+}
+
 // ---- own rows
 
 // Hands back the own columns of an own row, as stored.

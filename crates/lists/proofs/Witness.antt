@@ -16,7 +16,7 @@ use Rattle.base.specs.declared.Answer.{Answer}
 use Rattle.base.specs.declared.Answer.the-variants.{Done}
 use Rattle.fill.specs.Fill.{reach, filled, upper, upperRow, lowerRow, lowerColumn, products}
 use Rattle.matrix.specs.Input.{Input, inputOf, isOf, ic, stored, entries, rightAt}
-use Rattle.matrix.specs.Questions.{badStart, badColumn, badIndex, notFinite, noEntry, emptyRow, seenAt, repeats, repeatRow, ask3, ask4, ask5, askFinite, ask6, askFloor, askNumbers, ask7, ask8, askPattern, askRows, askStructure, askSolve}
+use Rattle.matrix.specs.Questions.{badStart, badColumn, badIndex, notFinite, noEntry, emptyRow, ask3, ask4, ask5, askFinite, ask6, askFloor, askNumbers, ask7, askPattern, askStructure, askSolve}
 use Rattle.placement.specs.Placing.{countAbove, tails, bestFrom, firstAt, agree, appendAll, fresh, meets, overlap, tailOr, shared, plain, after, placed, startOf}
 use Rattle.arithmetic.specs.Arith.{judged, loadRun, step1, subtractRun, stepRun, step2, scaledRun, step3, rowRun, forwardRun, restRun, backRun, wholeRun}
 use Rattle.outcome.specs.Forms.{placedTo, indexNeed, valueNeed}
@@ -43,7 +43,7 @@ lent =
 pub arrow-done : ended (Done (counted 3 3 5))
     (sharedBuffers (0 ∷ 2 ∷ 3 ∷ 3 ∷ []) (0 ∷ 1 ∷ 2 ∷ []) (1 ∷ 2 ∷ []) (replicate 3 nought) (0 ∷ 2 ∷ 3 ∷ 3 ∷ []) (0 ∷ 1 ∷ 2 ∷ []) (1 ∷ 2 ∷ []) (replicate 3 nought) [] []
     (replicate 9 nought) (replicate 32 0)) ≡ structure Shared arrow lent
-unfolding arrow lent structure askShape askStructure askPattern askRows ask3 ask4 ask5 ask7 ask8 first badStart badColumn badIndex isOf emptyRow noEntry repeatRow repeats seenAt listAt askPlaces askPlace filled reach stored ic has fits indexNeed valueNeed placedTo placed after shared appendAll fresh meets overlap tailOr tails bestFrom countAbove firstAt agree startOf upperRow lowerRow asc upper counts sum count lowerColumn products table structured sidePlaced padded
+unfolding arrow lent structure askShape askStructure askPattern ask3 ask4 ask5 ask7 first badStart badColumn badIndex isOf emptyRow noEntry listAt askPlaces askPlace filled reach stored ic has fits indexNeed valueNeed placedTo placed after shared appendAll fresh meets overlap tailOr tails bestFrom countAbove firstAt agree startOf upperRow lowerRow asc upper counts sum count lowerColumn products table structured sidePlaced padded
 arrow-done = refl
 
 pub arrow-lists : HandedShared arrow (0 ∷ 2 ∷ 3 ∷ 3 ∷ []) (0 ∷ 1 ∷ 2 ∷ []) (1 ∷ 2 ∷ []) (0 ∷ 2 ∷ 3 ∷ 3 ∷ []) (0 ∷ 1 ∷ 2 ∷ []) (1 ∷ 2 ∷ [])
@@ -69,7 +69,7 @@ given =
     plainBuffers (replicate 3 77) (replicate 1 79) (replicate 1 nan) (replicate 3 77) (replicate 1 79) (replicate 1 nan) (replicate 2 nan) (replicate 2 nan) (replicate 6 nan) (replicate 24 80)
 
 two-answer : solve Plain two given .answer ≡ Done (counted 1 1 1)
-unfolding floats two given solve shape askShape askSolve askPattern askRows ask3 ask4 ask5 ask6 ask7 ask8 askFinite first badStart badColumn badIndex isOf notFinite emptyRow noEntry repeatRow repeats seenAt listAt pairs askPlaces askPlace filled reach stored has fits indexNeed valueNeed placedTo placed after plain appendAll startOf upperRow lowerRow asc upper listed system entries rightAt ic judged wholeRun loadRun step1 subtractRun stepRun step2 scaledRun step3 rowRun forwardRun restRun backRun counts sum count lowerColumn products table ofBits sub mul div askNumbers askFloor isFloor atMost lt eq le
+unfolding floats two given solve shape askShape askSolve askPattern ask3 ask4 ask5 ask6 ask7 askFinite first badStart badColumn badIndex isOf notFinite emptyRow noEntry listAt pairs askPlaces askPlace filled reach stored has fits indexNeed valueNeed placedTo placed after plain appendAll startOf upperRow lowerRow asc upper listed system entries rightAt ic judged wholeRun loadRun step1 subtractRun stepRun step2 scaledRun step3 rowRun forwardRun restRun backRun counts sum count lowerColumn products table ofBits sub mul div askNumbers askFloor isFloor atMost lt eq le
 two-answer = refl
 
 pub two-done : solve Plain two given ≡ ended (Done (counted 1 1 1)) (solve Plain two given .buffers)

@@ -1,4 +1,4 @@
--- The load passes questions 3 to 8, and 19 with every floor that is one, and its lists are what 1 and 2 ask for, with e its entry count. No claim is made on pivots.
+-- The load passes questions 3 to 7, and 19 with every floor that is one, and its lists are what 1 and 2 ask for, with e its entry count. No claim is made on pivots.
 use Prim.Native.Nat.{ℕ, zero, suc, _+_, _-_, _<_, _≤_}
 use mathlib.Core.Path.{_≡_, refl, sym, ap, _∙_}
 use mathlib.Core.Bool.{true, false, not, _&&_}
@@ -18,10 +18,10 @@ use Rattle.base.specs.declared.Asked.the-variants.{Pass}
 use Rattle.base.specs.Magnitude.{isFloor}
 use Rattle.matrix.specs.Input.{withFloor, isOf}
 use Rattle.matrix.specs.ListsLaws.{Long}
-use Rattle.matrix.specs.Questions.{badStart, badColumn, badIndex, notFinite, noEntry, emptyRow, seenAt, repeats, repeatRow, ask3, ask4, ask5, ask6, ask7, ask8, askFloor, askNumbers, askFinite, askPattern, askRows, askSolve}
+use Rattle.matrix.specs.Questions.{badStart, badColumn, badIndex, notFinite, noEntry, emptyRow, ask3, ask4, ask5, ask6, ask7, askFloor, askNumbers, askFinite, askPattern, askSolve}
 use Rattle.load.specs.Load.{rowAt, entriesAt, valuesFor, minusOne, one, load}
 use Rattle.load.proofs.RowsLaws.{entries-long, numbers-long, entries-more}
-use Rattle.load.proofs.RowLaws.{Row, row-at, entries-most, part-is}
+use Rattle.load.proofs.RowLaws.{row-at, entries-most}
 
 -- ---- what holds of every entry
 
@@ -78,13 +78,6 @@ module _ (n s : ℕ) where
   unfolding load
   count-is = entries-long n s n
 
-  row-is : (i : ℕ) → i < n → rowOf (load n s .starts) (load n s .columns) i ≡ rowAt n s i
-  unfolding listAt load
-  row-is i l =
-      let d : entriesAt n s (i + 1) - entriesAt n s i ≡ length (rowAt n s i) = omega (arith, entries-more n s i) in
-      rw (getD-table (entriesAt n s) (n + 1) 0 (i + 1) (omega arith), getD-table (entriesAt n s) (n + 1) 0 i (omega arith), d)
-      (part-is (rowAt n s) i n (entriesAt n s i) l (sym (entries-long n s i)))
-
   zero-first : entriesAt n s 0 ≡ 0
   unfolding entriesAt sum
   zero-first = refl
@@ -137,19 +130,10 @@ module _ (n s : ℕ) where
   unfolding ask7
   pass-7 = rw (first-all (emptyRow (load n s .starts) (load n s .r)) n row-some)
 
-  row-apart : (row : List ℕ) → Row n row → repeats row ≡ false
-  unfolding repeats seenAt isOf
-  row-apart row R =
-      rw (first-all (seenAt row) (length row) (λ p l. rw (first-all (isOf row (getD row p 0)) p (λ q h. ne-eqb (getD row q 0) (getD row p 0) (R .apart p q h l)))))
-
-  pass-8 : ask8 n (load n s .starts) (load n s .columns) (load n s .r) ≡ Pass
-  unfolding ask8 repeatRow
-  pass-8 = rw (first-all (repeatRow (load n s .starts) (load n s .columns) (load n s .r)) n (λ k l. rw (own-row k l, row-is k l) (row-apart (rowAt n s k) (row-at n s k l))))
-
-  -- questions 3 to 8 of a solve, and 19 where the floor is one
+  -- questions 3 to 7 of a solve, and 19 where the floor is one
   pub passes : (f : Float) → isFloor f ≡ true → askSolve (withFloor f (load n s)) ≡ Pass
-  unfolding askSolve askPattern askNumbers askFloor askRows
-  passes f h = rw (n-is, pass-3, pass-4, pass-5, pass-6, h, pass-7) pass-8
+  unfolding askSolve askPattern askNumbers askFloor
+  passes f h = rw (n-is, pass-3, pass-4, pass-5, pass-6, h, pass-7)
 
   -- its lists have the lengths of n rows and as many entries
   pub lists-long : Long n (length (load n s .columns)) (length (load n s .starts)) (length (load n s .columns)) (length (load n s .values)) (length (load n s .r)) (length (load n s .c)) (length (load n s .b))

@@ -156,9 +156,9 @@ below-placed n s cols o b p h =
     omega (arith, placed-at (orderOf n s) cols p (omega arith), o (getD cols p 0) (b p (omega arith)))
 
 -- the place of entry q of a row, while the order stands
-pub entry-read : (n q j : ℕ) (s₀ s cols : List ℕ) → q < length cols → orderOf n s ≡ orderOf n s₀ → j ≡ getD (placed (orderOf n s) cols) q 0
+pub entry-read : (n q j : ℕ) (s₀ s cols : List ℕ) → q < length cols → orderOf n s ≡ orderOf n s₀ → j ≡ getD (orderOf n s) (getD cols q 0) 0
     → (q < length (placed (orderOf n s₀) cols)) × (j ≡ getD (placed (orderOf n s₀) cols) q 0)
-entry-read n q j s₀ s cols h o e = (omega (arith, placed-length (orderOf n s₀) cols), e ∙ ap (λ v. getD (placed v cols) q 0) o)
+entry-read n q j s₀ s cols h o e = (omega (arith, placed-length (orderOf n s₀) cols), e ∙ ap (λ v. getD v (getD cols q 0) 0) o ∙ sym (placed-at (orderOf n s₀) cols q h))
 
 pub entry-below : (n q j : ℕ) (s cols : List ℕ) → Order n s → Below n cols → q < length (placed (orderOf n s) cols) → j ≡ getD (placed (orderOf n s) cols) q 0 → j < n
 entry-below n q j s cols o b h e = omega (arith, e, below-placed n s cols o b q h)

@@ -13,7 +13,6 @@ ghost use Rattle.marks.specs.Rows.{Loaded, Closing, UpperListed, Renewed
 ghost use Rattle.base.specs.Scratch.{blocksFrom, upperCuts, listFrom};
 ghost use Rattle.base.specs.Limits.{maxRows};
 use base::Index;
-use base::OwnNumber;
 use base::Place;
 use base::scratch;
 
@@ -113,16 +112,6 @@ fn gather(marks: &mut [u32], n: usize, stamp: u32, from: usize, end: usize, at: 
     count
 }
 
-// Gives the place of entry q of a row.
-pub fn entry_place(marks: &[u32], n: usize, cols: &[Index], q: usize) -> usize
-    requires { ⌜ (q < length (now cols)) × (getD (now cols) q 0 < n) × Room n (now marks) ⌝ }
-    ensures { λ j. ⌜ j ≡ getD (placed (orderOf n (now (marks .entry))) (now (cols .entry))) q 0 ⌝ }
-{
-    let c = OwnNumber(base::number(cols[q]));
-    let p = lent::place_of(n, marks, c);
-    p.0 as usize
-}
-
 // Adds the columns of a row of M at their places.
 pub fn load_row(marks: &mut [u32], n: usize, stamp: u32, cols: &[Index])
     requires { ⌜ Below n (now cols) ⌝ }
@@ -132,7 +121,7 @@ pub fn load_row(marks: &mut [u32], n: usize, stamp: u32, cols: &[Index])
 {
     let mut q = 0;
     while q < cols.len() {
-        let j = entry_place(marks, n, cols, q);
+        let j = lent::entry_place(n, marks, cols, q);
         mark(marks, n, stamp, j);
         q += 1;
     }

@@ -10,7 +10,7 @@ use Rattle.base.specs.Answers.{own}
 use Rattle.base.specs.declared.Asked.the-variants.{Stop}
 use Rattle.base.specs.declared.Refusal.the-variants.{NotFinite, EmptyRow, Floor}
 use Rattle.matrix.specs.Input.{Input, inputOf, withFloor, isOf}
-use Rattle.matrix.specs.Questions.{badStart, badColumn, badIndex, notFinite, noEntry, emptyRow, ask3, ask4, ask5, askFinite, ask6, askFloor, askNumbers, ask7, askPattern, askRows, askSolve}
+use Rattle.matrix.specs.Questions.{badStart, badColumn, badIndex, notFinite, noEntry, emptyRow, ask3, ask4, ask5, askFinite, ask6, askFloor, askNumbers, ask7, askPattern, askSolve}
 
 abbrev one : Float
 one = fin false 1 (pos 0)
@@ -28,5 +28,5 @@ before-7 = refl
 
 -- a floor of -0 is one
 pub floor-passed : askSolve (empty one (fin true 0 (pos 0))) ≡ Stop (EmptyRow (own 0))
-unfolding askSolve askPattern ask3 ask4 ask5 badStart badColumn badIndex isOf first askNumbers ask6 askFinite notFinite askFloor isFloor lt askRows ask7 emptyRow noEntry
+unfolding askSolve askPattern ask3 ask4 ask5 badStart badColumn badIndex isOf first askNumbers ask6 askFinite notFinite askFloor isFloor lt ask7 emptyRow noEntry
 floor-passed = refl

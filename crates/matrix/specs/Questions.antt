@@ -1,4 +1,4 @@
--- Questions 3 to 8 and 19, each by itself: a test of every index, of which `first` takes the first that holds; 19 is one test. Definitions only.
+-- Questions 3 to 7 and 19, each by itself: a test of every index, of which `first` takes the first that holds; 19 is one test. Definitions only.
 use mathlib.Core.Path.{_≡_}
 use mathlib.Core.Bool.{Bool, not, _&&_, _||_}
 use mathlib.Core.List.{List}
@@ -7,12 +7,11 @@ use lib.ListN.{length, getD}
 use lib.Dec.{leb, ltb, eqb}
 use lib.Ieee.{Float, nan}
 use lib.Ieee.Scale.{finite}
-use Rattle.base.specs.Lists.{rowOf}
 use Rattle.base.specs.Magnitude.{isFloor}
 use Rattle.base.specs.First.{first, isAt}
 use Rattle.base.specs.Answers.{own, holds, absent, andThen}
 use Rattle.base.specs.declared.Found.the-variants.{Nothing}
-use Rattle.base.specs.declared.Refusal.the-variants.{Starts, Column, Order, NotFinite, EmptyRow, Repeated, Floor}
+use Rattle.base.specs.declared.Refusal.the-variants.{Starts, Column, Order, NotFinite, EmptyRow, Floor}
 use Rattle.base.specs.declared.Asked.{Asked}
 use Rattle.matrix.specs.Input.{Input, isOf}
 
@@ -41,16 +40,6 @@ noEntry s i = leb (getD s (i + 1) 0) (getD s i 0)
 
 unfoldable pub emptyRow : List ℕ → List ℕ → ℕ → Bool
 emptyRow s r k = noEntry s (getD r k 0)
-
--- 8: the row at place k has a column twice
-unfoldable pub seenAt : List ℕ → ℕ → Bool
-seenAt row p = isAt (first (isOf row (getD row p 0)) p)
-
-unfoldable pub repeats : List ℕ → Bool
-repeats row = isAt (first (seenAt row) (length row))
-
-unfoldable pub repeatRow : List ℕ → List ℕ → List ℕ → ℕ → Bool
-repeatRow s j r k = repeats (rowOf s j (getD r k 0))
 
 -- o is an order of 0 to n - 1: no index of it is at fault
 unfoldable pub IsOrder : List ℕ → ℕ → Type 0
@@ -82,21 +71,13 @@ ask6 v b = andThen (askFinite v 0) (askFinite b (length v))
 unfoldable pub ask7 : ℕ → List ℕ → List ℕ → Asked
 ask7 n s r = absent (first (emptyRow s r) n) (λ k. EmptyRow (own (getD r k 0)))
 
--- "By k, is no column twice in a row? 8, own row"
-unfoldable pub ask8 : ℕ → List ℕ → List ℕ → List ℕ → Asked
-ask8 n s j r = absent (first (repeatRow s j r) n) (λ k. Repeated (own (getD r k 0)))
-
 -- 3, 4, 5
 unfoldable pub askPattern : Input → Asked
 askPattern i = andThen (ask3 (i .n) (length (i .columns)) (i .starts)) (andThen (ask4 (i .n) (i .columns)) (ask5 (i .n) (i .r) (i .c)))
 
--- 7, 8
-unfoldable pub askRows : Input → Asked
-askRows i = andThen (ask7 (i .n) (i .starts) (i .r)) (ask8 (i .n) (i .starts) (i .columns) (i .r))
-
--- structure: 3, 4, 5, 7, 8
+-- structure: 3, 4, 5, 7
 unfoldable pub askStructure : Input → Asked
-askStructure i = andThen (askPattern i) (askRows i)
+askStructure i = andThen (askPattern i) (ask7 (i .n) (i .starts) (i .r))
 
 -- "19, the floor is negative, infinite or not a number; −0 counts as 0"
 unfoldable pub askFloor : Float → Asked
@@ -106,9 +87,9 @@ askFloor f = holds (isFloor f) Floor
 unfoldable pub askNumbers : List Float → List Float → Float → Asked
 askNumbers v b floor = andThen (ask6 v b) (askFloor floor)
 
--- solve and refactor: 3 to 8 and 19
+-- solve and refactor: 3 to 6, 19, 7
 unfoldable pub askSolve : Input → Asked
-askSolve i = andThen (askPattern i) (andThen (askNumbers (i .values) (i .b) (i .floor)) (askRows i))
+askSolve i = andThen (askPattern i) (andThen (askNumbers (i .values) (i .b) (i .floor)) (ask7 (i .n) (i .starts) (i .r)))
 
 -- another right side: 5, and 6 of b only
 unfoldable pub askRight : ℕ → List ℕ → List ℕ → List Float → Asked

@@ -12,32 +12,37 @@ use lib.Ieee.{Float, nan, binary64, sub, mul}
 use lib.Ieee.Scale.{finite}
 use Rattle.base.specs.Lists.{listAt, rowOf, pairs, nought}
 use Rattle.base.specs.declared.RowSums.{RowSums}
-use Rattle.base.specs.declared.Place.{Place}
-use Rattle.lent.specs.Reading.{Below, placeAt, placed}
+use Rattle.lent.specs.Reading.{Below, placed}
 use Rattle.lent.specs.ReadingLaws.{take-rest}
 use Rattle.arithmetic.specs.Arith.{ok, met, overflow, Given, Work}
-use Rattle.arithmetic.specs.Stopping.{any, load, subtract, steps, rest, back}
+use Rattle.arithmetic.specs.Stopping.{any, subtract, steps, rest, back}
 use Rattle.arithmetic.specs.RowEnd.{finiteOn, finiteAll, products}
 use Rattle.arithmetic.specs.Sticky.{step-any, rest-at}
 use Rattle.numeric.specs.Rows.{Shut}
-use Rattle.numeric.specs.Stores.{Ascending, storeGiven, work, Stepped, gathered, zeroed, Columns, columns, keepColumns}
+use Rattle.numeric.specs.Stores.{Ascending, storeGiven, work, Stepped, gathered, zeroed, setAll, withValue, entering, Columns, columns, keepColumns}
 use Rattle.base.specs.Scratch.{zFrom}
 
 -- ---- step 1
 
-pub place-is : (k : Place) (order : List ℕ) (x y : ℕ) → k ≡ placeAt order (record { 0 = x }) → x ≡ y → k .0 ≡ getD order y 0
-place-is k order x y e h = rw (e, h)
+module _ (ic columns : List ℕ) (w : List Float) (p : ℕ) where
+  pub unset-turn : (j : ℕ) (v : Float) → j ≡ getD ic (getD columns p 0) 0 → v ≡ nan → p < length columns
+      → setAll nan (placed ic (drop (p + 1) columns)) (set w j v) ≡ setAll nan (placed ic (drop p columns)) w
+  unfolding placed
+  unset-turn j v e n h = rw (e, n, add-one, drop-cons columns p 0)
+
+  pub unset-end : length columns ≤ p → setAll nan (placed ic (drop p columns)) w ≡ w
+  unfolding placed
+  unset-end h = rw (drop-of-length-le columns h)
 
 module _ (ic columns : List ℕ) (vs w : List Float) (p : ℕ) where
-  pub load-turn : (j : ℕ) → j ≡ getD ic (getD columns p 0) 0 → p < length columns → p < length vs
-      → load any (pairs (placed ic (drop (p + 1) columns)) (drop (p + 1) vs)) (set w j (getD vs p nan))
-      ≡ load any (pairs (placed ic (drop p columns)) (drop p vs)) w
-  unfolding load pairs placed
-  load-turn j e h g = rw (e, add-one, drop-cons columns p 0, drop-cons vs p nan)
+  pub enter-turn : (j : ℕ) (x : Float) → j ≡ getD ic (getD columns p 0) 0 → x ≡ withValue (getD w j nan) (getD vs p nan) → p < length columns → p < length vs
+      → entering (pairs (placed ic (drop (p + 1) columns)) (drop (p + 1) vs)) (set w j x) ≡ entering (pairs (placed ic (drop p columns)) (drop p vs)) w
+  unfolding entering pairs placed
+  enter-turn j x e n h g = rw (n, e, add-one, drop-cons columns p 0, drop-cons vs p nan)
 
-  pub load-end : length columns ≤ p → load any (pairs (placed ic (drop p columns)) (drop p vs)) w ≡ ok w
-  unfolding load pairs placed
-  load-end h = rw (drop-of-length-le columns h)
+  pub enter-end : length columns ≤ p → entering (pairs (placed ic (drop p columns)) (drop p vs)) w ≡ w
+  unfolding entering pairs placed
+  enter-end h = rw (drop-of-length-le columns h)
 
 -- ---- step 2
 

@@ -67,7 +67,7 @@ unfolding orderOf
 reducible = record {
   place = lit< tt;
   scratch = refl;
-  row = record { few = lit≤ tt; slots = lit≤ tt; paired = refl; known = two _ (lit< tt) (lit< tt); inside = two _ (lit< tt) (lit< tt) };
+  row = record { placeable = record { few = lit≤ tt; slots = lit≤ tt; known = two _ (lit< tt) (lit< tt); inside = two _ (lit< tt) (lit< tt) }; paired = refl };
   below = single _ (lit< tt);
   lists = shape;
 }

@@ -27,7 +27,7 @@ use Rattle.numeric.specs.Stores.{StoreShape, storeGiven, work, Eliminate
 use Rattle.numeric.specs.declared.Back.{Back}
 use Rattle.numeric.specs.declared.Back.the-variants.{Complete, Stopped}
 use Rattle.numeric.specs.Rows.{filledRow, Closed, RowLent, Stacked, uOf, RowsHeld, Reduced, Shut, keptRow}
-use Rattle.numeric.specs.StoreLaws.{sets-part, products-length, stacked-none, zeroed-drop, zeroed-length, zeroed-stays, zeroed-has}
+use Rattle.numeric.specs.StoreLaws.{sets-part, products-length, stacked-none, set-all-drop, set-all-length, set-all-stays, set-all-has}
 use Rattle.numeric.specs.KeepLaws.{stacked-row}
 use Rattle.numeric.specs.RowLaws.{Same, bind-same, has-at, filled-cases, row-is, row-outside}
 use Rattle.base.specs.Scratch.{zFrom}
@@ -97,7 +97,7 @@ module _ (S : System) (rows : List Row) (n k : ℕ) (f : List Float) (starts run
 
   module _ (lower places : List ℕ) (vs : List Float) (b floor : Float) (L : RowLent S k lower places vs b floor) (C : Closed S k) (T : StoreShape n starts runs upper (length u)) where
     pub reduced : (W g v : List Float) (s r : RowSums) (above : List ℕ) (from : ℕ) (answer : Pivot) → s .sum ≡ b
-        → load any (pairs places vs) (take n f) ≡ ok W → length W ≡ length (take n f)
+        → load any [] (pairs places vs) (take n f) ≡ ok W → length W ≡ length (take n f)
         → Eliminated n lower (storeGiven n (W ++ drop n f) starts runs upper u) (W ++ drop n f) g s r
         → above ≡ listAt starts runs upper k → from ≡ getD starts k 0
         → Finished k floor above from (take n g) u v (r .sum) answer
@@ -106,7 +106,7 @@ module _ (S : System) (rows : List Row) (n k : ℕ) (f : List Float) (starts run
     reduced W g v s r above from answer es ld lw E ea ef F =
         let ln : length W ≡ n = lw ∙ length-take-le n f (omega arith) in
         let hs : k < S .n = rw (H .size) h in
-        let loaded : load any (pairs places vs) (replicate (S .n) nought) ≡ ok W = rw (H .size) (rw (H .clear) at ld) in
+        let loaded : load any [] (pairs places vs) (replicate (S .n) nought) ≡ ok W = rw (H .size) (rw (H .clear) at ld) in
         let G = storeGiven n (W ++ drop n f) starts runs upper u in
         let ran : steps any G lower (work [] W b) ≡ ok (work (E .l) (take n g) (r .sum)) =
         ap (λ (w : List Float). steps any G lower (work [] w b)) (sym (take-at W (drop n f) n ln)) ∙ rw es at (E .working) in
@@ -140,13 +140,13 @@ module _ (S : System) (rows : List Row) (n k : ℕ) (f : List Float) (starts run
     core = zeroed (listAt starts runs upper k) (zeroed lower (set g k nought))
 
     core-length : length core ≡ length g
-    core-length = zeroed-length above (zeroed lower (set g k nought)) ∙ zeroed-length lower (set g k nought) ∙ length-set g k nought
+    core-length = set-all-length nought above (zeroed lower (set g k nought)) ∙ set-all-length nought lower (set g k nought) ∙ length-set g k nought
 
     lower-below : Below n lower
     lower-below p l = let m = C .left (getD lower p 0) (rw el (has-at lower p l)) in omega arith
 
     core-drop : drop n core ≡ drop n f
-    core-drop = zeroed-drop n above (zeroed lower (set g k nought)) (T .below k h) ∙ zeroed-drop n lower (set g k nought) lower-below ∙ drop-set-lt n g k nought h ∙ R .kept
+    core-drop = set-all-drop nought n above (zeroed lower (set g k nought)) (T .below k h) ∙ set-all-drop nought n lower (set g k nought) lower-below ∙ drop-set-lt n g k nought h ∙ R .kept
 
     after : drop n h′ ≡ set (drop n f) k (t .y)
     after = ap (λ (l : List Float). drop n l) (Q .scratch) ∙ drop-set-add n core k (t .y) ∙ ap (λ (l : List Float). set l k (t .y)) core-drop
@@ -156,10 +156,10 @@ module _ (S : System) (rows : List Row) (n k : ℕ) (f : List Float) (starts run
         let lj : j < length g = omega arith in
         by-test (has (filledRow S k) j)
         (λ m. filled-cases S k j m
-        (λ a. zeroed-stays above (zeroed lower (set g k nought)) j (zeroed-has lower (set g k nought) j (rw (← el) a) (rw length-set lj)))
-        (λ s. zeroed-stays above (zeroed lower (set g k nought)) j (zeroed-stays lower (set g k nought) j (rw s (getD-set-same g j nought nan lj))))
-        (λ b. zeroed-has above (zeroed lower (set g k nought)) j (rw (← H .lists k h) b) (rw (zeroed-length lower (set g k nought), length-set g k nought) lj)))
-        (λ m. zeroed-stays above (zeroed lower (set g k nought)) j (zeroed-stays lower (set g k nought) j (zeroed-stays (k ∷ []) g j (R .outside j l m))))
+        (λ a. set-all-stays nought above (zeroed lower (set g k nought)) j (set-all-has nought lower (set g k nought) j (rw (← el) a) (rw length-set lj)))
+        (λ s. set-all-stays nought above (zeroed lower (set g k nought)) j (set-all-stays nought lower (set g k nought) j (rw s (getD-set-same g j nought nan lj))))
+        (λ b. set-all-has nought above (zeroed lower (set g k nought)) j (rw (← H .lists k h) b) (rw (set-all-length nought lower (set g k nought), length-set g k nought) lj)))
+        (λ m. set-all-stays nought above (zeroed lower (set g k nought)) j (set-all-stays nought lower (set g k nought) j (set-all-stays nought (k ∷ []) g j (R .outside j l m))))
 
     pub held-more : RowsHeld S (rows ++ (next ∷ [])) n (k + 1) h′ starts runs upper v
     held-more = record {

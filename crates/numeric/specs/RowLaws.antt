@@ -1,13 +1,12 @@
 -- Row k from what its steps leave: the multipliers are read off the working row, one test of the row tells 12 and 13, and the rest of the row is +0.
 use mathlib.Core.Path.{_≡_, refl, sym, _∙_}
-use mathlib.Core.Bool.{Bool, true, false, true≢false}
+use mathlib.Core.Bool.{true, false, true≢false}
 use mathlib.Core.Logic.{⊎-elim}
 use mathlib.Core.List.{List, [], _∷_, _++_, append-nil, append-assoc, List·Memᴰ, List·Memᴰ·head, List·Memᴰ·tail, List·Memᴰ·not-nil, List·Memᴰ·cases-cons}
 use Prim.Native.Nat.{ℕ, suc, _<_}
 use native.Mathlib.Omega.{arith}
-use native.Mathlib.Decide.{ℕ-discrete}
-use lib.ListN.{length, getD, set, replicate, length-set, length-replicate, getD-replicate}
-use lib.Seq.{getD-set-same, getD-set-other, set-out}
+use lib.ListN.{length, getD, replicate, getD-replicate}
+use lib.Seq.{getD-set-other}
 use lib.Dec.{eqb}
 use lib.Ieee.{Float, nan, binary64}
 use lib.Ieee.Scale.{finite}
@@ -16,9 +15,9 @@ use Rattle.base.specs.Lists.{has, pairs, nought}
 use Rattle.base.specs.Tests.{by-test, or-cases, or-right}
 use Rattle.base.specs.AscLaws.{has-append, mem-at}
 use Rattle.arithmetic.specs.Arith.{Out, ok, met, System, Row, Given, given, Work}
-use Rattle.arithmetic.specs.Stopping.{_>>=_, Check, any, at, load, start, row, subtract, stepAt, steps}
+use Rattle.arithmetic.specs.Stopping.{_>>=_, Check, any, load, row, subtract, stepAt, steps}
 use Rattle.arithmetic.specs.RowEnd.{finiteOn, rowEnd}
-use Rattle.arithmetic.specs.Sticky.{ok-inj, subtract-any, after, step-any, row-at, sub-left, sub-right, mul-left, on-all}
+use Rattle.arithmetic.specs.Sticky.{ok-inj, subtract-any, after, step-any, load-keeps, row-at, sub-left, sub-right, mul-left}
 use Rattle.numeric.specs.Stores.{Ascending, gathered, work}
 use Rattle.numeric.specs.Rows.{filledRow, Closed, RowLent}
 
@@ -128,34 +127,6 @@ finiteOn-append (i ∷ is) js w h = by-test (finite (getD w i nan))
 pub end-same : (k : ℕ) (floor : Float) (is above : List ℕ) (a : Work) → (finite (a .s) ≡ true → finiteOn is (a .w) ≡ true) → rowEnd k floor is above a ≡ rowEnd k floor [] above a
 end-same k floor is above a h = by-test (finite (a .s)) (λ f. rw (f, finiteOn-append is (k ∷ above) (a .w) (h f))) (λ f. rw f)
 
--- ---- step 1
-
-pub load-same : (c : Check) (es : List (ℕ × Float)) (w : List Float) → load c es w ≡ load any es w
-unfolding load
-load-same c [] w = refl
-load-same c (e ∷ es) w = load-same c es (set w (e .0) (e .1))
-
--- what a slot holds after loading: what it held, or a finite value at a place listed
-load-cases : (js : List ℕ) (vs w W : List Float) (P : ℕ → Bool) → ((p : ℕ) → p < length js → P (getD js p 0) ≡ true) → ((p : ℕ) → p < length vs → finite (getD vs p nan) ≡ true)
-    → load any (pairs js vs) w ≡ ok W → (j : ℕ)
-    → (finite (getD w j nan) ≡ true → finite (getD W j nan) ≡ true) × (P j ≡ false → getD W j nan ≡ getD w j nan) × (length W ≡ length w)
-unfolding load pairs
-load-cases [] vs w W P hp hv e j = (λ f. rw (← ok-inj e) f, λ f. rw (← ok-inj e), rw (← ok-inj e))
-load-cases (i ∷ js) [] w W P hp hv e j = (λ f. rw (← ok-inj e) f, λ f. rw (← ok-inj e), rw (← ok-inj e))
-load-cases (i ∷ js) (v ∷ vs) w W P hp hv e j =
-    let ih = load-cases js vs (set w i v) W P (λ p h. hp (suc p) (omega arith)) (λ p h. hv (suc p) (omega arith)) e j in (
-      λ f. ih .0 (fine f (ℕ-discrete j i)),
-      λ f. ih .1 f ∙ getD-set-other w i j v nan (λ q. true≢false (sym (hp 0 (omega arith)) ∙ rw (← q) f)),
-      ih .2 ∙ length-set w i v,
-    )
-  where
-    fine : finite (getD w j nan) ≡ true → Dec (j ≡ i) → finite (getD (set w i v) j nan) ≡ true
-    fine f (no n) = rw (getD-set-other w i j v nan n) f
-    fine f (yes q) = elim (native.Mathlib.Decide.decLt i (length w)) [
-      | yes l ↦ rw (q, getD-set-same w i v nan l) (hv 0 (omega arith))
-      | no l ↦ rw (set-out w i v (omega arith)) f
-    ]
-
 -- ---- row k
 
 -- a filled place is in the lower row, k, or in T(k)
@@ -172,11 +143,11 @@ module _ (S : System) (k : ℕ) (C : Closed S k) where
       filled-cases S k j m (λ a. omega (arith, C .left j a)) (λ e. omega (arith, e)) (λ b. C .range j b)
 
   module _ (rows : List Row) (G : Given) (lower places : List ℕ) (vs : List Float) (b floor : Float) (W l w : List Float) (s : Float) (h : k < S .n)
-      (L : RowLent S k lower places vs b floor) (loaded : load any (pairs places vs) (replicate (S .n) nought) ≡ ok W)
+      (L : RowLent S k lower places vs b floor) (loaded : load any [] (pairs places vs) (replicate (S .n) nought) ≡ ok W)
       (same : (i : ℕ) → i < k → Same G (given S rows) i) (ran : steps any G lower (work [] W b) ≡ ok (work l w s)) where
-    each : (j : ℕ) → (finite (getD (replicate (S .n) nought) j nan) ≡ true → finite (getD W j nan) ≡ true)
-        × (has (filledRow S k) j ≡ false → getD W j nan ≡ getD (replicate (S .n) nought) j nan) × (length W ≡ length (replicate (S .n) nought))
-    each j = load-cases places vs (replicate (S .n) nought) W (has (filledRow S k)) (L .filled) (L .fine) loaded j
+    -- the places of the entries are filled
+    entered : (j : ℕ) → List·Memᴰ j places → List·Memᴰ j (filledRow S k)
+    entered j m = let r = index places j m in mem-has (filledRow S k) j (rw (r .2) at (L .filled (r .0) (r .1)))
 
     run : steps any (given S rows) (S .lower k) (work [] W b) ≡ ok (work l w s)
     run = rw (L .below)
@@ -192,21 +163,19 @@ module _ (S : System) (k : ℕ) (C : Closed S k) where
     inside : (j : ℕ) → List·Memᴰ j (filledRow S k) → j < S .n
     inside j m = range h j (has-mem (filledRow S k) j m)
 
-    began : start (at k) S k ≡ ok (work [] W b)
-    unfolding start
-    began = rw (L .entries, L .right, load-same (at k) (pairs places vs) (replicate (S .n) nought), loaded)
-
     -- the row's answer from its end
     pub row-is : rowEnd k floor [] (S .upper k) (work (gathered (S .lower k) w) w s) ≡ row S rows k
     row-is =
         rw (← ms .0, ← L .under)
         (sym (end-same k (S .floor) (S .lower k) (S .upper k) (work l w s) (ms .1))
-        ∙ sym (row-at S rows k (filledRow S k) (work [] W b) (work l w s) began run within
-        (λ j m. omega (arith, each j .2, length-replicate (S .n) nought, inside j m)) (L .sum)
-        (on-all (filledRow S k) W (λ j m. each j .0 (rw (getD-replicate (S .n) j nought nan (inside j m)))))))
+        ∙ sym (row-at S rows k (filledRow S k) places vs W (work l w s) (L .entries) loaded (rw (L .right) run) entered within inside (rw (L .right) (L .sum)) (L .fine)))
 
-    -- elsewhere the working row is +0
+    -- elsewhere no entry stands
+    absent : (j : ℕ) → has (filledRow S k) j ≡ false → has places j ≡ false
+    absent j e = by-test (has places j) (λ t. absurd (true≢false (sym (has-mem (filledRow S k) j (entered j (mem-has places j t))) ∙ e))) (λ t. t)
+
+    -- and the working row is +0
     pub row-outside : (j : ℕ) → j < S .n → has (filledRow S k) j ≡ false → getD w j nan ≡ nought
     row-outside j g e =
         steps-keep (given S rows) (S .lower k) (work [] W b) (work l w s) j (λ i p u v q. true≢false (sym (rw (← q) at (has-mem (filledRow S k) p (within i p u v))) ∙ e)) run
-        ∙ each j .1 e ∙ getD-replicate (S .n) j nought nan g
+        ∙ load-keeps [] places vs (replicate (S .n) nought) W loaded .0 j (absent j e) ∙ getD-replicate (S .n) j nought nan g

@@ -1,6 +1,6 @@
--- Laws of stores: where a list stands, what a store of values leaves, lists one after another, and clearing.
+-- Laws of stores: where a list stands, what a store of values leaves, lists one after another, and one value at many places.
 use mathlib.Core.Path.{_≡_, refl, sym, ap, _∙_}
-use mathlib.Core.Bool.{true, true≢false}
+use mathlib.Core.Bool.{true, false, true≢false}
 use mathlib.Core.Logic.{⊎-elim}
 use mathlib.Core.List.{List, [], _∷_, _++_, append-assoc}
 use Prim.Native.Nat.{ℕ, zero, suc, _+_, _-_, _<_, _≤_}
@@ -12,14 +12,14 @@ use lib.ListN.{length, getD, set, take, drop, replicate, length-drop, length-set
 use lib.Seq.{sets, sets-eq, length-sets, length-take-le, take-at, drop-at, take-append-le, drop-append-le, take-add, drop-drop, drop-set-lt, getD-set-same, getD-set-other, set-out}
 use lib.Dec.{eqb}
 use lib.Ieee.{Float, nan}
-use borrow.Author.Tests.{eqb-true}
-use Rattle.base.specs.Lists.{listAt, rowOf, has, joined, padded, nought}
-use Rattle.base.specs.Tests.{or-cases}
+use borrow.Author.Tests.{eqb-true, eq-eqb}
+use Rattle.base.specs.Lists.{listAt, rowOf, has, joined, padded}
+use Rattle.base.specs.Tests.{or-cases, or-false}
 use Rattle.base.specs.ZerosLaws.{drop-replicate}
 use Rattle.lent.specs.Reading.{ListIn, Below}
 use Rattle.lent.specs.ReadingLaws.{list-length}
 use Rattle.arithmetic.specs.RowEnd.{products}
-use Rattle.numeric.specs.Stores.{StoreShape, zeroed, gathered}
+use Rattle.numeric.specs.Stores.{StoreShape, setAll, gathered}
 use Rattle.numeric.specs.Rows.{Stacked}
 
 -- ---- lists in their stores
@@ -129,30 +129,38 @@ module _ {A : Type 0} where
       let lf : length (joined lists k) ≡ getD starts k 0 = rw (← f) (length-take-le (getD starts k 0) v h) in
       sym (take-append-drop (getD starts k 0) v) ∙ rw (f, T .rest, lf)
 
--- ---- clearing
+-- ---- one value at the listed places
 
--- places below n leave what stands from n on
-pub zeroed-drop : (n : ℕ) (js : List ℕ) (w : List Float) → Below n js → drop n (zeroed js w) ≡ drop n w
-zeroed-drop n [] w b = refl
-zeroed-drop n (j ∷ js) w b = zeroed-drop n js (set w j nought) (λ p h. b (suc p) (omega arith)) ∙ drop-set-lt n w j nought (b 0 (omega arith))
+module _ (v : Float) where
+  -- places below n leave what stands from n on
+  pub set-all-drop : (n : ℕ) (js : List ℕ) (w : List Float) → Below n js → drop n (setAll v js w) ≡ drop n w
+  set-all-drop n [] w b = refl
+  set-all-drop n (j ∷ js) w b = set-all-drop n js (set w j v) (λ p h. b (suc p) (omega arith)) ∙ drop-set-lt n w j v (b 0 (omega arith))
 
-pub zeroed-length : (js : List ℕ) (w : List Float) → length (zeroed js w) ≡ length w
-zeroed-length [] w = refl
-zeroed-length (j ∷ js) w = zeroed-length js (set w j nought) ∙ length-set w j nought
+  pub set-all-length : (js : List ℕ) (w : List Float) → length (setAll v js w) ≡ length w
+  set-all-length [] w = refl
+  set-all-length (j ∷ js) w = set-all-length js (set w j v) ∙ length-set w j v
 
-set-nought : (w : List Float) (i j : ℕ) → getD w j nan ≡ nought → getD (set w i nought) j nan ≡ nought
-set-nought w i j e = elim (ℕ-discrete j i) [
-  | yes q ↦ elim (decLt i (length w)) [ yes l ↦ rw (q, getD-set-same w i nought nan l) | no l ↦ rw (set-out w i nought (omega arith)) e ]
-  | no q ↦ rw (getD-set-other w i j nought nan q) e
-]
+  set-again : (w : List Float) (i j : ℕ) → getD w j nan ≡ v → getD (set w i v) j nan ≡ v
+  set-again w i j e = elim (ℕ-discrete j i) [
+    | yes q ↦ elim (decLt i (length w)) [ yes l ↦ rw (q, getD-set-same w i v nan l) | no l ↦ rw (set-out w i v (omega arith)) e ]
+    | no q ↦ rw (getD-set-other w i j v nan q) e
+  ]
 
-pub zeroed-stays : (js : List ℕ) (w : List Float) (j : ℕ) → getD w j nan ≡ nought → getD (zeroed js w) j nan ≡ nought
-zeroed-stays [] w j e = e
-zeroed-stays (i ∷ js) w j e = zeroed-stays js (set w i nought) j (set-nought w i j e)
+  pub set-all-stays : (js : List ℕ) (w : List Float) (j : ℕ) → getD w j nan ≡ v → getD (setAll v js w) j nan ≡ v
+  set-all-stays [] w j e = e
+  set-all-stays (i ∷ js) w j e = set-all-stays js (set w i v) j (set-again w i j e)
 
-pub zeroed-has : (js : List ℕ) (w : List Float) (j : ℕ) → has js j ≡ true → j < length w → getD (zeroed js w) j nan ≡ nought
-unfolding has
-zeroed-has [] w j m h = absurd (true≢false (sym m))
-zeroed-has (i ∷ js) w j m h =
-    ⊎-elim (λ e. let q = eqb-true i j e in zeroed-stays js (set w i nought) j (rw q (getD-set-same w j nought nan h)))
-    (λ t. zeroed-has js (set w i nought) j t (rw length-set h)) (or-cases (eqb i j) (has js j) m)
+  pub set-all-has : (js : List ℕ) (w : List Float) (j : ℕ) → has js j ≡ true → j < length w → getD (setAll v js w) j nan ≡ v
+  unfolding has
+  set-all-has [] w j m h = absurd (true≢false (sym m))
+  set-all-has (i ∷ js) w j m h =
+      ⊎-elim (λ e. let q = eqb-true i j e in set-all-stays js (set w i v) j (rw q (getD-set-same w j v nan h)))
+      (λ t. set-all-has js (set w i v) j t (rw length-set h)) (or-cases (eqb i j) (has js j) m)
+
+  pub set-all-other : (js : List ℕ) (w : List Float) (j : ℕ) → has js j ≡ false → getD (setAll v js w) j nan ≡ getD w j nan
+  unfolding has
+  set-all-other [] w j m = refl
+  set-all-other (i ∷ js) w j m =
+      let b = or-false (eqb i j) (has js j) m in
+      set-all-other js (set w i v) j (b .1) ∙ getD-set-other w i j v nan (λ q. true≢false (sym (eq-eqb i j (sym q)) ∙ b .0))

@@ -4,7 +4,7 @@ use mathlib.Core.List.{List, [], _∷_}
 use Prim.Native.Nat.{ℕ, _+_, _*_, _<_, _≤_}
 use lib.ListN.{length, getD, take, drop, set}
 use lib.Seq.{sets}
-use lib.Ieee.{Float, nan, binary64, sub, mul}
+use lib.Ieee.{Float, nan, binary64, sub, mul, eq}
 use Rattle.base.specs.Lists.{listAt, rowOf, nought}
 use Rattle.base.specs.Limits.{maxRows}
 use Rattle.base.specs.Scratch.{blocksFrom}
@@ -13,6 +13,7 @@ use Rattle.lent.specs.Reading.{ListIn, Below, orderOf}
 use Rattle.arithmetic.specs.Arith.{Out, ok, met, zeroPivot, overflow, Row, Given, Work}
 use Rattle.arithmetic.specs.Stopping.{any, subtract, steps}
 use Rattle.arithmetic.specs.RowEnd.{products, rowEnd}
+use Rattle.arithmetic.specs.Sticky.{entered}
 use Rattle.numeric.specs.declared.Pivot.{Pivot}
 use Rattle.numeric.specs.declared.Pivot.the-variants.{Usable, Zero, Overflow}
 use Rattle.numeric.specs.declared.Back.{Back}
@@ -32,13 +33,30 @@ storeGiven n f starts runs upper u = record { upper = listAt starts runs upper; 
 
 -- ---- step 1
 
--- own columns with their values, whose places are below n by the inverse order in scratch
-pub record Loadable (n : ℕ) (marks columns : List ℕ) (values : List Float) : Type 0 where
+-- own columns whose places are below n by the inverse order in scratch
+pub record Placeable (n : ℕ) (marks columns : List ℕ) : Type 0 where
   pub few : n ≤ maxRows
   pub slots : blocksFrom n ≤ length marks
-  pub paired : length columns ≡ length values
   pub known : Below n columns
   pub inside : (p : ℕ) → p < length columns → getD (orderOf n marks) (getD columns p 0) 0 < n
+
+-- with their values
+pub record Loadable (n : ℕ) (marks columns : List ℕ) (values : List Float) : Type 0 where
+  pub placeable : Placeable n marks columns
+  pub paired : length columns ≡ length values
+
+-- v at the listed places
+abbrev pub setAll : Float → List ℕ → List Float → List Float
+setAll v [] w = w
+setAll v (i ∷ is) w = setAll v is (set w i v)
+
+-- the sum at a place with one value more, NaN standing for none yet
+abbrev pub withValue : Float → Float → Float
+withValue s v = entered (eq s s) s v
+
+unfoldable pub entering : List (ℕ × Float) → List Float → List Float
+entering [] w = w
+entering (e ∷ es) w = entering es (set w (e .0) (withValue (getD w (e .0) nan) (e .1)))
 
 -- ---- steps 2 and 3
 
@@ -75,8 +93,7 @@ gathered (i ∷ is) w = getD w i nan ∷ gathered is w
 
 -- +0 at the listed places
 abbrev pub zeroed : List ℕ → List Float → List Float
-zeroed [] w = w
-zeroed (i ∷ is) w = zeroed is (set w i nought)
+zeroed = setAll nought
 
 -- ---- a row as a whole
 

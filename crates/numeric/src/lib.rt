@@ -2,7 +2,6 @@
 // and z in the last n. T(i) is list i of an upper store (list starts, run starts, index), its u stand in a value store from list start i on.
 // Lower row k is lent, so that no step knows where it is kept.
 use base::Index;
-use base::OwnNumber;
 use base::RowSums;
 use base::is_finite;
 use base::scratch;
@@ -16,26 +15,66 @@ ghost use lib.Ieee.{nan};
 ghost use lib.Ieee.Scale.{finite};
 ghost use Rattle.base.specs.Lists.{listAt, rowOf, pairs};
 ghost use Rattle.arithmetic.specs.Arith.{ok, System, Row};
-ghost use Rattle.arithmetic.specs.Stopping.{any, load, subtract, rest, back};
+ghost use Rattle.arithmetic.specs.Stopping.{any, subtract, rest, back};
 ghost use Rattle.arithmetic.specs.RowEnd.{finiteOn, finiteAll, products};
-ghost use Rattle.numeric.specs.Stores.{StoreShape, Loadable, Reducible, Closable, Stepped, Eliminated, Finished, storeGiven, gathered, zeroed, numberedBack};
+ghost use Rattle.numeric.specs.Stores.{StoreShape, Placeable, Loadable, setAll, withValue, entering, Reducible, Closable, Stepped, Eliminated, Finished, storeGiven, gathered, zeroed, numberedBack};
 ghost use Rattle.numeric.specs.Rows.{RowsHeld, RowLent, Closed, Reduced, Shut};
 ghost use Rattle.base.specs.Scratch.{zFrom};
 ghost use Rattle.lent.specs.Reading.{Below, orderOf, placed};
 
-// Does step 1: writes the entries of a row, own columns and values, over w at their places.
-pub fn load_row(w: &mut [f64], n: usize, marks: &[u32], columns: &[Index], values: &[f64])
+// The number that stands for no value: no sum of finite values is NaN.
+fn no_value() -> f64
+    ensures { λ r. ⌜ r ≡ nan ⌝ }
+{
+    let zero = 0.0;
+    zero / zero
+}
+
+// The sum at a place with one value more: the first value as it is, each further one added.
+fn with_value(sum: f64, v: f64) -> f64
+    ensures { λ r. ⌜ r ≡ withValue sum v ⌝ }
+{
+    if sum == sum {
+        return sum + v;
+    }
+    v
+}
+
+// Leaves the places of a row's entries without a value.
+fn unset_row(w: &mut [f64], n: usize, marks: &[u32], columns: &[Index])
+    requires { ⌜ (length (now w) ≡ n) × Placeable n (now marks) (now columns) ⌝ }
+    ensures { λ _. ⌜ now (w .exit) ≡ setAll nan (placed (orderOf n (now (marks .entry))) (now (columns .entry))) (now (w .entry)) ⌝ }
+{
+    let none = no_value();
+    let mut p = 0;
+    while p < columns.len() {
+        let j = lent::entry_place(n, marks, columns, p);
+        w[j] = none;
+        p += 1;
+    }
+}
+
+// Enters the values of a row at their places, in stored order.
+fn enter_row(w: &mut [f64], n: usize, marks: &[u32], columns: &[Index], values: &[f64])
     requires { ⌜ (length (now w) ≡ n) × Loadable n (now marks) (now columns) (now values) ⌝ }
-    ensures { λ _. ⌜ load any (pairs (placed (orderOf n (now (marks .entry))) (now (columns .entry))) (now (values .entry))) (now (w .entry)) ≡ ok (now (w .exit)) ⌝ }
+    ensures { λ _. ⌜ now (w .exit) ≡ entering (pairs (placed (orderOf n (now (marks .entry))) (now (columns .entry))) (now (values .entry))) (now (w .entry)) ⌝ }
 {
     let mut p = 0;
     while p < columns.len() {
-        let own = OwnNumber(base::number(columns[p]));
-        let place = lent::place_of(n, marks, own);
-        let j = place.0 as usize;
-        w[j] = values[p];
+        let j = lent::entry_place(n, marks, columns, p);
+        w[j] = with_value(w[j], values[p]);
         p += 1;
     }
+}
+
+// Does step 1: the entries of a row, own columns and values, over w at their places, the values of one column added in stored order. That this is
+// step 1 where all values are finite, specs/LoadLaws.loads says.
+pub fn load_row(w: &mut [f64], n: usize, marks: &[u32], columns: &[Index], values: &[f64])
+    requires { ⌜ (length (now w) ≡ n) × Loadable n (now marks) (now columns) (now values) ⌝ }
+    ensures { λ _. ⌜ now (w .exit) ≡ entering (pairs (placed (orderOf n (now (marks .entry))) (now (columns .entry))) (now (values .entry))) (setAll nan (placed (orderOf n (now (marks .entry))) (now (columns .entry))) (now (w .entry))) ⌝ }
+{
+    unset_row(w, n, marks, columns);
+    enter_row(w, n, marks, columns, values);
 }
 
 // Does w[j] = w[j] - m * u for the listed j: a product and a difference, each rounded once.

@@ -10,10 +10,10 @@ use Rattle.base.specs.Magnitude.{isFloor}
 use Rattle.fill.specs.Fill.{Pattern, filled}
 use Rattle.base.specs.First.{first}
 use Rattle.base.specs.All.{all}
-use Rattle.matrix.specs.Questions.{badStart, badColumn, badIndex, notFinite, emptyRow, repeatRow, askSolve, ask3, ask4, ask5, ask6, ask7, ask8, askFinite, askFloor, askNumbers, askPattern, askRows, askStructure, askRight}
+use Rattle.matrix.specs.Questions.{badStart, badColumn, badIndex, notFinite, emptyRow, askSolve, ask3, ask4, ask5, ask6, ask7, askFinite, askFloor, askNumbers, askPattern, askStructure, askRight}
 use Rattle.arithmetic.specs.Arith.{Out, ok, met, Result}
 use Rattle.base.specs.declared.Counts.{Counts}
-use Rattle.base.specs.declared.Refusal.the-variants.{Rows, Lengths, Starts, Column, Order, NotFinite, EmptyRow, Repeated, NullPivot, LowerSlots, UpperSlots, Floor}
+use Rattle.base.specs.declared.Refusal.the-variants.{Rows, Lengths, Starts, Column, Order, NotFinite, EmptyRow, NullPivot, LowerSlots, UpperSlots, Floor}
 use Rattle.base.specs.declared.Asked.{Asked}
 use Rattle.base.specs.declared.Asked.the-variants.{Pass, Stop}
 use Rattle.base.specs.declared.Answer.{Answer}
@@ -114,27 +114,24 @@ pattern-within i =
     (within-absent 3 5 (first (badColumn (i .columns) (i .n)) (length (i .columns))) Column (λ k. omega arith) (λ k. omega arith))
     (within-wide 5 5 3 5 _ (omega arith) (omega arith) (ask5-within (i .n) (i .r) (i .c))))
 
-pub rows-within : (i : Input) → Within 7 8 (askRows i)
-unfolding askRows ask7 ask8
-rows-within i =
-    within-then 7 8 (ask7 (i .n) (i .starts) (i .r)) (ask8 (i .n) (i .starts) (i .columns) (i .r))
-    (within-absent 7 8 (first (emptyRow (i .starts) (i .r)) (i .n)) (λ k. EmptyRow (own (getD (i .r) k 0))) (λ k. omega arith) (λ k. omega arith))
-    (within-absent 7 8 (first (repeatRow (i .starts) (i .columns) (i .r)) (i .n)) (λ k. Repeated (own (getD (i .r) k 0))) (λ k. omega arith) (λ k. omega arith))
+pub rows-within : (i : Input) → Within 7 7 (ask7 (i .n) (i .starts) (i .r))
+unfolding ask7
+rows-within i = within-absent 7 7 (first (emptyRow (i .starts) (i .r)) (i .n)) (λ k. EmptyRow (own (getD (i .r) k 0))) (λ k. omega arith) (λ k. omega arith)
 
-pub structure-within : (i : Input) → Within 3 8 (askStructure i)
+pub structure-within : (i : Input) → Within 3 7 (askStructure i)
 unfolding askStructure
 structure-within i =
-    within-then 3 8 (askPattern i) (askRows i) (within-wide 3 5 3 8 _ (omega arith) (omega arith) (pattern-within i)) (within-wide 7 8 3 8 _ (omega arith) (omega arith) (rows-within i))
+    within-then 3 7 (askPattern i) (ask7 (i .n) (i .starts) (i .r)) (within-wide 3 5 3 7 _ (omega arith) (omega arith) (pattern-within i)) (within-wide 7 7 3 7 _ (omega arith) (omega arith) (rows-within i))
 
-pub solve-within : (i : Input) → Within 3 8 (askSolve i)
+pub solve-within : (i : Input) → Within 3 7 (askSolve i)
 unfolding askSolve askNumbers ask6 askFloor
 solve-within i =
-    within-then 3 8 (askPattern i) _ (within-wide 3 5 3 8 _ (omega arith) (omega arith) (pattern-within i))
-    (within-then 3 8 (askNumbers (i .values) (i .b) (i .floor)) (askRows i)
-    (within-wide 6 6 3 8 _ (omega arith) (omega arith) (within-then 6 6 (ask6 (i .values) (i .b)) (askFloor (i .floor))
+    within-then 3 7 (askPattern i) _ (within-wide 3 5 3 7 _ (omega arith) (omega arith) (pattern-within i))
+    (within-then 3 7 (askNumbers (i .values) (i .b) (i .floor)) (ask7 (i .n) (i .starts) (i .r))
+    (within-wide 6 6 3 7 _ (omega arith) (omega arith) (within-then 6 6 (ask6 (i .values) (i .b)) (askFloor (i .floor))
     (within-then 6 6 (askFinite (i .values) 0) (askFinite (i .b) (length (i .values))) (finite-within (i .values) 0) (finite-within (i .b) (length (i .values))))
     (within-holds 6 6 (isFloor (i .floor)) Floor (omega arith) (omega arith))))
-    (within-wide 7 8 3 8 _ (omega arith) (omega arith) (rows-within i)))
+    (within-wide 7 7 3 7 _ (omega arith) (omega arith) (rows-within i)))
 
 pub right-within : (n : ℕ) (r c : List ℕ) (b : List Float) → Within 5 6 (askRight n r c b)
 unfolding askRight
@@ -142,12 +139,12 @@ right-within n r c b =
     within-then 5 6 (ask5 n r c) (askFinite b 0) (within-wide 5 5 5 6 _ (omega arith) (omega arith) (ask5-within n r c)) (within-wide 6 6 5 6 _ (omega arith) (omega arith) (finite-within b 0))
 
 abbrev pub Early : Asked → Type 0
-Early a = Within 1 8 a
+Early a = Within 1 7 a
 
 pub earlier-early : (f : Form) (i : Input) (z : Sizes) → Early (earlier f i z)
 earlier-early f i z =
-    within-then 1 8 (shape f i z) (askSolve i) (within-wide 1 2 1 8 (shape f i z) (omega arith) (omega arith) (shape-within f i z))
-    (within-wide 3 8 1 8 (askSolve i) (omega arith) (omega arith) (solve-within i))
+    within-then 1 7 (shape f i z) (askSolve i) (within-wide 1 2 1 7 (shape f i z) (omega arith) (omega arith) (shape-within f i z))
+    (within-wide 3 7 1 7 (askSolve i) (omega arith) (omega arith) (solve-within i))
 
 pub places-within : (f : Form) (P : Pattern) (n : ℕ) (z : Sizes) (k : ℕ) → Within 9 11 (askPlaces f P n z k)
 unfolding askPlaces askPlace
@@ -160,7 +157,7 @@ places-within f P n z (suc k) =
 
 -- ---- the stated lengths leave question 2 to the matrix
 
--- questions 1 to 8 and 19 of the matrix, its orders, b and the floor
+-- questions 1 to 7 and 19 of the matrix, its orders, b and the floor
 unfoldable pub ofMatrix : Input → Asked
 ofMatrix i = andThen (askShape (i .n) (matrixTests i)) (askSolve i)
 

@@ -15,34 +15,40 @@ use Rattle.base.specs.Tests.{by-test}
 use Rattle.base.specs.declared.Found.{Found}
 use Rattle.base.specs.declared.Found.the-variants.{At, Nothing}
 use Rattle.base.specs.declared.Refusal.{Refusal}
-use Rattle.base.specs.declared.Refusal.the-variants.{Rows, Lengths, Starts, Column, Order, NotFinite, EmptyRow, Repeated, NullPivot, LowerSlots, UpperSlots, ZeroPivot, Overflow, OtherStructure, BadFactors, FileLength, Block, FileShape, Floor}
+use Rattle.base.specs.declared.Refusal.the-variants.{Rows, Lengths, Starts, Column, Order, NotFinite, EmptyRow, NullPivot, LowerSlots, UpperSlots, ZeroPivot, Overflow, OtherStructure, BadFactors, FileLength, Block, FileShape, Floor}
 use Rattle.base.specs.declared.Asked.{Asked}
 use Rattle.base.specs.declared.Asked.the-variants.{Pass, Stop}
 
 pub stop-inj : (q r : Refusal) → Stop q ≡ Stop r → q ≡ r
 stop-inj q r e = cc
 
--- no refusal has the number 0
+-- no refusal has the number 0, and none has 8 any more
+unused-numbers : (q : Refusal) → (numberOf q ≡ 0 → ⊥) × (numberOf q ≡ 8 → ⊥)
+unused-numbers Rows = (λ e. omega arith, λ e. omega arith)
+unused-numbers Lengths = (λ e. omega arith, λ e. omega arith)
+unused-numbers (Starts i) = (λ e. omega arith, λ e. omega arith)
+unused-numbers (Column i) = (λ e. omega arith, λ e. omega arith)
+unused-numbers (Order i) = (λ e. omega arith, λ e. omega arith)
+unused-numbers (NotFinite i) = (λ e. omega arith, λ e. omega arith)
+unused-numbers (EmptyRow i) = (λ e. omega arith, λ e. omega arith)
+unused-numbers (NullPivot i) = (λ e. omega arith, λ e. omega arith)
+unused-numbers (LowerSlots i) = (λ e. omega arith, λ e. omega arith)
+unused-numbers (UpperSlots i) = (λ e. omega arith, λ e. omega arith)
+unused-numbers (ZeroPivot i) = (λ e. omega arith, λ e. omega arith)
+unused-numbers (Overflow i) = (λ e. omega arith, λ e. omega arith)
+unused-numbers (OtherStructure i) = (λ e. omega arith, λ e. omega arith)
+unused-numbers (BadFactors i) = (λ e. omega arith, λ e. omega arith)
+unused-numbers FileLength = (λ e. omega arith, λ e. omega arith)
+unused-numbers (Block i) = (λ e. omega arith, λ e. omega arith)
+unused-numbers FileShape = (λ e. omega arith, λ e. omega arith)
+unused-numbers Floor = (λ e. omega arith, λ e. omega arith)
+
 pub number-some : (q : Refusal) → numberOf q ≡ 0 → ⊥
-number-some Rows e = omega arith
-number-some Lengths e = omega arith
-number-some (Starts i) e = omega arith
-number-some (Column i) e = omega arith
-number-some (Order i) e = omega arith
-number-some (NotFinite i) e = omega arith
-number-some (EmptyRow i) e = omega arith
-number-some (Repeated i) e = omega arith
-number-some (NullPivot i) e = omega arith
-number-some (LowerSlots i) e = omega arith
-number-some (UpperSlots i) e = omega arith
-number-some (ZeroPivot i) e = omega arith
-number-some (Overflow i) e = omega arith
-number-some (OtherStructure i) e = omega arith
-number-some (BadFactors i) e = omega arith
-number-some FileLength e = omega arith
-number-some (Block i) e = omega arith
-number-some FileShape e = omega arith
-number-some Floor e = omega arith
+number-some q = unused-numbers q .0
+
+-- "Question 8 is never answered no"
+pub never-eight : (q : Refusal) → numberOf q ≡ 8 → ⊥
+never-eight q = unused-numbers q .1
 
 -- "put right after question 6": the turn of a question is its number, but 19 has 6's
 abbrev pub turnOf : Refusal → ℕ

@@ -54,7 +54,7 @@ module _ {A : Type 0} (number : A → ℕ) (refuse : Refusal → A) (told : (q :
       let v = turned q in
       record { nothing = λ l h. refl; scratch = λ l h. absurd (omega arith); floor = λ l. absurd (omega arith); checked = λ l h. absurd (omega arith); all = λ l h. absurd (omega arith); x = λ l. refl }
 
-  stop-scratch : (a : Asked) (o : Outcome A) → Within 3 8 a → Ends number s t o → Ends number s t (stop refuse a (scratchCleared s) o)
+  stop-scratch : (a : Asked) (o : Outcome A) → Within 3 7 a → Ends number s t o → Ends number s t (stop refuse a (scratchCleared s) o)
   unfolding Within scratchCleared
   stop-scratch Pass o w h = h
   stop-scratch (Stop q) o w h =
@@ -155,6 +155,6 @@ module _ (f : Form) (i : Input) (s : Buffers) where
   unfolding resolve scratchCleared
   resolve-ends =
       stop-first numberOfEnd ends.Refused end-told s (scratchCleared s) refl (askShape (i .n) (rightTests i ++ bufferTests f (i .n) (sizes s))) _ (ask-shape-within (i .n) (rightTests i ++ bufferTests f (i .n) (sizes s)))
-      (stop-scratch numberOfEnd ends.Refused end-told s (scratchCleared s) refl (askRight (i .n) (i .r) (i .c) (i .b)) _ (within-wide 5 6 3 8 _ (omega arith) (omega arith) (right-within (i .n) (i .r) (i .c) (i .b)))
+      (stop-scratch numberOfEnd ends.Refused end-told s (scratchCleared s) refl (askRight (i .n) (i .r) (i .c) (i .b)) _ (within-wide 5 6 3 7 _ (omega arith) (omega arith) (right-within (i .n) (i .r) (i .c) (i .b)))
       (stop-checked numberOfEnd ends.Refused end-told s (scratchCleared s) refl (askFactors f (i .n) s) _ factored
       (resolved-ends (judged nought (wholeAgain (factorsOf f i s))))))

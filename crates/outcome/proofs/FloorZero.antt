@@ -1,4 +1,4 @@
--- "f = 0 behaves as before": with a floor of zero, of either sign, each call that factors ends as it did without one.
+-- "f = 0 behaves as before": with a floor of zero, of either sign, each call that factors ends as without one.
 use mathlib.Core.Path.{_≡_, refl, ap}
 use mathlib.Core.Bool.{true}
 use mathlib.Core.List.{List, [], _∷_}
@@ -10,7 +10,7 @@ use Rattle.base.specs.declared.Asked.{Asked}
 use Rattle.base.specs.declared.Asked.the-variants.{Pass, Stop}
 use Rattle.base.specs.declared.Form.{Form}
 use Rattle.matrix.specs.Input.{Input}
-use Rattle.matrix.specs.Questions.{ask6, askFloor, askNumbers, askPattern, askRows, askSolve}
+use Rattle.matrix.specs.Questions.{ask7, ask6, askFloor, askNumbers, askPattern, askSolve}
 use Rattle.arithmetic.specs.Arith.{Event, result, pivoted, bad, firstBad, judged, wholeRun}
 use Rattle.outcome.specs.Buffers.{Buffers}
 use Rattle.outcome.specs.Solve.{system, listed, solve}
@@ -40,7 +40,7 @@ module _ (i : Input) (z : eq (i .floor) nought ≡ true) where
 
   asks-same : askSolve i ≡ askSolveBefore i
   unfolding askSolve askSolveBefore
-  asks-same = ap (λ (a : Asked). andThen (askPattern i) (andThen a (askRows i))) numbers-same
+  asks-same = ap (λ (a : Asked). andThen (askPattern i) (andThen a (ask7 (i .n) (i .starts) (i .r)))) numbers-same
 
   pub solve-zero : (f : Form) (s : Buffers) → solve f i s ≡ solveBefore f i s
   unfolding solve solveBefore

@@ -19,7 +19,7 @@ use Rattle.base.specs.declared.Asked.the-variants.{Pass, Stop}
 use Rattle.base.specs.declared.Answer.the-variants.{Refused}
 use Rattle.base.specs.declared.Ended.the-variants as ends
 use Rattle.matrix.specs.Input.{Input, stored}
-use Rattle.matrix.specs.Questions.{notFinite, ask5, askFinite, askPattern, askRows, askStructure, askRight}
+use Rattle.matrix.specs.Questions.{ask7, notFinite, ask5, askFinite, askPattern, askStructure, askRight}
 use Rattle.arithmetic.specs.Arith.{Out, ok, met, judged}
 use Rattle.arithmetic.specs.Again.{wholeAgain}
 use Rattle.outcome.specs.Buffers.{Buffers, sizes, patternTests, structureTests, rightTests, bufferTests, askShape, Outcome, stop}
@@ -71,7 +71,7 @@ module _ (f : Form) (i : Input) (s : Buffers) where
       let asked = askPlaces f (stored i) (i .n) (sizes s) (i .n) in
       stopped numberOfAnswer Refused (λ q. refl) (askShape (i .n) tests) _ _ (before 1 2 _ (ask-shape-within (i .n) tests) (omega arith))
       (stopped numberOfAnswer Refused (λ q. refl) (askStructure i) _ _
-      (both (askPattern i) (askRows i) (before 3 5 _ (pattern-within i) (omega arith)) (behind 7 8 _ (rows-within i) (omega arith)))
+      (both (askPattern i) (ask7 (i .n) (i .starts) (i .r)) (before 3 5 _ (pattern-within i) (omega arith)) (behind 7 7 _ (rows-within i) (omega arith)))
       (stopped numberOfAnswer Refused (λ q. refl) asked _ _ (behind 9 11 _ (places-within f (stored i) (i .n) (sizes s) (i .n)) (omega arith)) (λ e. omega arith)))
 
   resolved-unfloored : (o : Out (List Float)) → numberOfEnd (resolved i s o .answer) ≡ 19 → ⊥

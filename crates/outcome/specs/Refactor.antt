@@ -72,7 +72,7 @@ abbrev pub refactored : Form → Input → Buffers → Out Result → Outcome En
 refactored f i s (ok a) = ended Done (refilled f (stored i) (i .n) s (a .rows) (pivotsKept (i .n) (a .rows)) (ownOrder (i .c) (i .n) (a .z)))
 refactored f i s (met q) = ended (Refused (faultOf q)) (emptied s)
 
--- refactor: 1 to 6, 19, 7, 8, 14, then 12 and 13
+-- refactor: 1 to 6, 19, 7, 14, then 12 and 13
 unfoldable pub refactor : Form → Input → Buffers → Outcome Ended
 refactor f i s =
     stop Refused (shape f i (sizes s)) s

@@ -1,4 +1,4 @@
--- The solve in its three forms: questions 1 to 6, 19 and 7 to 13 in order, the answer, and what every buffer holds at the end. Definitions only.
+-- The solve in its three forms: questions 1 to 6, 19, 7 and 9 to 13 in order, the answer, and what every buffer holds at the end. Definitions only.
 use mathlib.Core.Path.{_≡_}
 use mathlib.Core.List.{List, [], _++_, map}
 use Prim.Native.Nat.{ℕ}

@@ -1,4 +1,4 @@
--- The calls that factor as they were before they took a floor: a pivot is refused where it is a zero of either sign, and no question is put about a floor.
+-- The calls that factor, without a floor: a pivot is refused where it is a zero of either sign, and no question is put about a floor.
 -- Definitions only; with a floor of zero they are the calls as they are now (outcome/proofs/FloorZero).
 use mathlib.Core.Bool.{Bool, not, cond}
 use mathlib.Core.List.{List, [], _∷_}
@@ -13,7 +13,7 @@ use Rattle.base.specs.declared.Ended.{Ended}
 use Rattle.base.specs.declared.Ended.the-variants as ends
 use Rattle.base.specs.declared.Form.{Form}
 use Rattle.matrix.specs.Input.{Input, stored}
-use Rattle.matrix.specs.Questions.{ask6, askPattern, askRows}
+use Rattle.matrix.specs.Questions.{ask7, ask6, askPattern}
 use Rattle.arithmetic.specs.Arith.{Event, result, pivoted, fault, Out, ok, met, Result, wholeRun}
 use Rattle.outcome.specs.Buffers.{Buffers, sizes, scratchCleared, cleared, Outcome, stop}
 use Rattle.outcome.specs.Structure.{askPlaces}
@@ -32,9 +32,9 @@ firstBefore (e ∷ es) a = cond (badBefore e) (met (fault e)) (firstBefore es a)
 unfoldable pub listedBefore : Input → Out Result
 listedBefore i = firstBefore (wholeRun (system i) .events) (wholeRun (system i) .value)
 
--- 3 to 8
+-- 3 to 7
 unfoldable pub askSolveBefore : Input → Asked
-askSolveBefore i = andThen (askPattern i) (andThen (ask6 (i .values) (i .b)) (askRows i))
+askSolveBefore i = andThen (askPattern i) (andThen (ask6 (i .values) (i .b)) (ask7 (i .n) (i .starts) (i .r)))
 
 unfoldable pub solveBefore : Form → Input → Buffers → Outcome Answer
 solveBefore f i s =

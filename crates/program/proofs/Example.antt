@@ -11,7 +11,7 @@ use Rattle.base.specs.Lists.{sum, count, asc, has, table, listAt, pairs}
 use Rattle.base.specs.First.{first}
 use Rattle.fill.specs.Fill.{reach, filled, upper, upperRow, lowerRow, lowerColumn, products}
 use Rattle.matrix.specs.Input.{isOf, ic, stored, entries, rightAt, ownOrder}
-use Rattle.matrix.specs.Questions.{badStart, badColumn, badIndex, notFinite, noEntry, emptyRow, seenAt, repeats, repeatRow, ask3, ask4, ask5, askFinite, ask6, askFloor, askNumbers, ask7, ask8, askPattern, askRows, askSolve}
+use Rattle.matrix.specs.Questions.{badStart, badColumn, badIndex, notFinite, noEntry, emptyRow, ask3, ask4, ask5, askFinite, ask6, askFloor, askNumbers, ask7, askPattern, askSolve}
 use Rattle.placement.specs.Placing.{appendAll, plain, after, placed, startOf}
 use Rattle.arithmetic.specs.Arith.{judged, loadRun, step1, subtractRun, stepRun, step2, scaledRun, step3, rowRun, forwardRun, restRun, backRun, wholeRun}
 use Rattle.outcome.specs.Forms.{placedTo, indexNeed, valueNeed}
@@ -32,7 +32,7 @@ exampleLines =
 
 -- the example's matrix, solved and printed
 lines : solvedLines exampleMatrix ≡ exampleLines
-unfolding solvedLines valueLines exampleLines zeros noughts digit digits widthIn decimal hexadecimal labelled countsLine bitsEnd valueLine solve shape askShape askSolve askPattern askRows ask3 ask4 ask5 ask6 ask7 ask8 askFinite first badStart badColumn badIndex isOf notFinite emptyRow noEntry repeatRow repeats seenAt listAt pairs askPlaces askPlace filled reach stored has fits indexNeed valueNeed placedTo placed after plain appendAll startOf upperRow lowerRow asc upper listed system entries rightAt ic judged wholeRun loadRun step1 subtractRun stepRun step2 scaledRun step3 rowRun forwardRun restRun backRun counts sum count lowerColumn products ownOrder table kept ofBits toBits sub mul div askNumbers askFloor isFloor atMost lt eq le
+unfolding solvedLines valueLines exampleLines zeros noughts digit digits widthIn decimal hexadecimal labelled countsLine bitsEnd valueLine solve shape askShape askSolve askPattern ask3 ask4 ask5 ask6 ask7 askFinite first badStart badColumn badIndex isOf notFinite emptyRow noEntry listAt pairs askPlaces askPlace filled reach stored has fits indexNeed valueNeed placedTo placed after plain appendAll startOf upperRow lowerRow asc upper listed system entries rightAt ic judged wholeRun loadRun step1 subtractRun stepRun step2 scaledRun step3 rowRun forwardRun restRun backRun counts sum count lowerColumn products ownOrder table kept ofBits toBits sub mul div askNumbers askFloor isFloor atMost lt eq le
 lines = refl
 
 within : leb (length exampleFile) 11776 ≡ true

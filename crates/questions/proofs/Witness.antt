@@ -9,11 +9,11 @@ use Rattle.base.specs.Lists.{nought, blank, listAt}
 use Rattle.base.specs.First.{first}
 use Rattle.base.specs.declared.Asked.the-variants.{Pass}
 use Rattle.matrix.specs.Input.{inputOf, isOf}
-use Rattle.matrix.specs.Questions.{badStart, badColumn, badIndex, notFinite, emptyRow, noEntry, repeatRow, repeats, seenAt, IsOrder, ask3, ask4, ask5, ask6, askFloor, askNumbers, ask7, ask8, askFinite, askPattern, askRows, askSolve}
+use Rattle.matrix.specs.Questions.{badStart, badColumn, badIndex, notFinite, emptyRow, noEntry, IsOrder, ask3, ask4, ask5, ask6, askFloor, askNumbers, ask7, askFinite, askPattern, askSolve}
 use Rattle.questions.specs.Settled.{Settled}
-use Rattle.questions.specs.Lent.{OrderLent, SolveLent, RightLent, RowsLent, RowLent, Unstamped, InverseLent, SolutionLent}
+use Rattle.questions.specs.Lent.{OrderLent, SolveLent, RightLent, PlacesLent, Unmarked, InverseLent, SolutionLent}
 use Rattle.questions.specs.SettledLaws.{settled}
-use Rattle.questions.specs.StampLaws.{unstamped-next, at-most-blank}
+use Rattle.questions.specs.MarkingLaws.{unmarked-blank}
 
 abbrev zeros : List ℕ
 zeros = 0 ∷ []
@@ -37,7 +37,7 @@ lent = record {
 }
 
 passed : askSolve (inputOf 1 starts zeros numbers zeros zeros numbers) ≡ Pass
-unfolding askSolve askPattern askRows ask3 ask4 ask5 ask6 ask7 ask8 askFinite badStart badColumn badIndex notFinite emptyRow noEntry repeatRow repeats seenAt isOf first listAt askNumbers askFloor isFloor lt
+unfolding askSolve askPattern ask3 ask4 ask5 ask6 ask7 askFinite badStart badColumn badIndex notFinite emptyRow noEntry isOf first listAt askNumbers askFloor isFloor lt
 passed = refl
 
 -- what the questions settle can be met
@@ -50,20 +50,12 @@ right = record { orders = lent .lent .orders; size = refl }
 pub order : OrderLent 1 zeros 1 1
 order = record { few = omega arith; added = omega arith; size = refl; slots = omega arith }
 
-pub rows : RowsLent 1 starts zeros zeros 1
-rows = record {
-  places = record { few = lent .lent .orders .few; starts = lent .lent .starts; size = lent .lent .orders .row-order; order = unfolded-order };
-  rows = holds .structured .readable .rows refl;
-  columns = holds .structured .readable .columns;
-  slots = lent .lent .orders .slots;
-}
+pub places : PlacesLent 1 starts zeros
+places = record { few = lent .lent .orders .few; starts = lent .lent .starts; size = lent .lent .orders .row-order; order = unfolded-order }
 
-pub row : RowLent 1 starts zeros 0
-row = record { row = rows .rows 0 (omega arith); columns = rows .columns }
-
-pub unstamped : Unstamped 1 1 zeros
+pub unmarked : Unmarked 1 zeros
 unfolding blank
-unstamped = unstamped-next 1 0 zeros (omega arith) (at-most-blank zeros zeros refl)
+unmarked = unmarked-blank 1 zeros zeros (omega arith) refl
 
 pub inverse : InverseLent 1 zeros 1
 inverse = record { few = omega arith; size = lent .lent .orders .row-order; slots = omega arith; order = unfolded-order }

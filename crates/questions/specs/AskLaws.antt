@@ -14,8 +14,7 @@ use Rattle.base.specs.declared.Refusal.{Refusal}
 use Rattle.base.specs.declared.Refusal.the-variants.{Order}
 use Rattle.base.specs.declared.Asked.{Asked}
 use Rattle.base.specs.declared.Asked.the-variants.{Pass, Stop}
-use Rattle.matrix.specs.Questions.{badIndex, noEntry, emptyRow, repeats, repeatRow, ask5}
-use Rattle.base.specs.Lists.{rowOf}
+use Rattle.matrix.specs.Questions.{badIndex, noEntry, emptyRow, ask5}
 use Rattle.base.specs.declared.OwnNumber.{OwnNumber}
 use Rattle.questions.specs.Lent.{askOrder}
 
@@ -77,7 +76,3 @@ order-pass o n from f s e h = found-pass (badIndex o n) (λ k. Order (k + from))
 pub empty-at : (s r : List ℕ) (k : ℕ) (i : OwnNumber) (b : Bool) → i ≡ own (getD r k 0) → b ≡ noEntry s (i .0) → emptyRow s r k ≡ b
 unfolding emptyRow
 empty-at s r k i b e h = sym (rw e at h)
-
-pub repeat-at : (s j r : List ℕ) (k : ℕ) (i : OwnNumber) (b : Bool) → i ≡ own (getD r k 0) → b ≡ repeats (rowOf s j (i .0)) → repeatRow s j r k ≡ b
-unfolding repeatRow
-repeat-at s j r k i b e h = sym (rw e at h)

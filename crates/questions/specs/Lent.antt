@@ -1,4 +1,4 @@
--- What questions 1 and 2 have settled for the questions after them, the exits of what the orders write, and stamps. Definitions only.
+-- What questions 1 and 2 have settled for the questions after them, the exits of what the orders write, and marks. Definitions only.
 use mathlib.Core.Path.{_≡_}
 use mathlib.Core.List.{List, _++_}
 use Prim.Native.Nat.{ℕ, _+_, _≤_, _<_}
@@ -9,7 +9,7 @@ use Rattle.base.specs.Answers.{absent}
 use Rattle.base.specs.declared.Asked.{Asked}
 use Rattle.base.specs.declared.Refusal.the-variants.{Order}
 use Rattle.base.specs.Limits.{maxRows, maxEntries}
-use Rattle.lent.specs.Reading.{ListIn, Below, orderOf}
+use Rattle.lent.specs.Reading.{orderOf}
 use Rattle.matrix.specs.Input.{Input, ic}
 use Rattle.matrix.specs.Questions.{badIndex, IsOrder}
 
@@ -44,7 +44,7 @@ pub record RightLent (n : ℕ) (r c : List ℕ) (right room : ℕ) : Type 0 wher
   pub orders : OrdersLent n r c room
   pub size : right ≡ n
 
--- ---- what a row is read from, once 3, 4 and 5 are passed
+-- ---- where a row's starts are read, once 3, 4 and 5 are passed
 
 pub record PlacesLent (n : ℕ) (s r : List ℕ) : Type 0 where
   pub few : n ≤ maxRows
@@ -52,26 +52,12 @@ pub record PlacesLent (n : ℕ) (s r : List ℕ) : Type 0 where
   pub size : length r ≡ n
   pub order : IsOrder r n
 
-pub record RowsLent (n : ℕ) (s j r : List ℕ) (room : ℕ) : Type 0 where
-  pub places : PlacesLent n s r
-  pub rows : (k : ℕ) → k < n → ListIn s s (length j) k
-  pub columns : Below n j
-  pub slots : n ≤ room
+-- ---- marks
 
-pub record RowLent (n : ℕ) (s j : List ℕ) (i : ℕ) : Type 0 where
-  pub row : ListIn s s (length j) i
-  pub columns : Below n j
-
--- ---- stamps
-
--- no slot holds more than b
-unfoldable pub AtMost : List ℕ → ℕ → Type 0
-AtMost m b = (v : ℕ) → getD m v 0 ≤ b
-
--- a slot for each number below n, and none holds the stamp or more
-pub record Unstamped (n stamp : ℕ) (m : List ℕ) : Type 0 where
+-- a slot for each number below n, and all are 0
+pub record Unmarked (n : ℕ) (m : List ℕ) : Type 0 where
   pub slots : n ≤ length m
-  pub fresh : (v : ℕ) → getD m v 0 < stamp
+  pub fresh : (v : ℕ) → getD m v 0 ≡ 0
 
 -- 5 of one order, the index plus `from`
 unfoldable pub askOrder : List ℕ → ℕ → ℕ → Asked

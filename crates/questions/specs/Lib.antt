@@ -1,6 +1,6 @@
 pub mod Settled
 pub mod Lent
-pub mod StampLaws
+pub mod MarkingLaws
 pub mod ScatterLaws
 pub mod AskLaws
 pub mod SettledLaws

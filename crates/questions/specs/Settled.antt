@@ -1,4 +1,4 @@
--- What a matrix that passes questions 3 to 8 is known to be: every later pass starts from these records. Definitions only.
+-- What a matrix that passes questions 3 to 7 is known to be: every later pass starts from these records. Definitions only.
 use mathlib.Core.Path.{_≡_}
 use mathlib.Core.Bool.{true}
 use mathlib.Core.List.{List, map}
@@ -7,7 +7,7 @@ use lib.ListN.{length, getD}
 use lib.Ieee.{Float, nan}
 use lib.Ieee.Scale.{finite}
 use Rattle.base.specs.Lists.{rowOf}
-use Rattle.lent.specs.Reading.{ListIn, Below, Distinct}
+use Rattle.lent.specs.Reading.{ListIn, Below}
 use Rattle.matrix.specs.Input.{Input, ic}
 use Rattle.matrix.specs.Questions.{IsOrder}
 
@@ -28,13 +28,12 @@ pub record Readable (i : Input) : Type 0 where
   pub row-order : IsOrder (i .r) (i .n)
   pub column-order : IsOrder (i .c) (i .n)
 
--- 3, 4, 5, 7, 8
+-- 3, 4, 5, 7
 pub record Structured (i : Input) : Type 0 where
   pub readable : Readable i
   pub entered : (k : ℕ) → k < i .n → getD (i .starts) (getD (i .r) k 0) 0 < getD (i .starts) (getD (i .r) k 0 + 1) 0
-  pub distinct : (k : ℕ) → k < i .n → Distinct (columnsAt i k)
 
--- 3 to 8
+-- 3 to 7
 pub record Settled (i : Input) : Type 0 where
   pub structured : Structured i
   pub values : Finite (i .values)

@@ -8,25 +8,23 @@ use lib.ListN.{length, getD, length-map}
 use lib.Dec.{ltb, eqb}
 use lib.Ieee.{Float, nan}
 use lib.Ieee.Scale.{finite}
-use borrow.Author.Tests.{leb-false, ltb-false, eq-eqb, eqb-true, eqb-false, not-false}
-use Rattle.base.specs.Lists.{rowOf}
+use borrow.Author.Tests.{leb-false, ltb-false, eq-eqb, eqb-true, not-false}
 use Rattle.base.specs.Tests.{or-false}
 use Rattle.base.specs.TableLaws.{getD-map-lt}
 use Rattle.base.specs.First.{first}
-use Rattle.base.specs.FirstLaws.{first-none, isAt-none, absent-pass, both-pass}
-use Rattle.lent.specs.Reading.{ListIn, Below, Distinct}
+use Rattle.base.specs.FirstLaws.{first-none, absent-pass, both-pass}
+use Rattle.lent.specs.Reading.{ListIn, Below}
 use Rattle.lent.specs.ReadingLaws.{list-below}
 use Rattle.base.specs.Answers.{own, absent, andThen}
-use Rattle.base.specs.declared.OwnNumber.{OwnNumber}
 use Rattle.base.specs.declared.Found.the-variants.{Nothing}
-use Rattle.base.specs.declared.Refusal.the-variants.{Starts, Column, Order, NotFinite, EmptyRow, Repeated}
+use Rattle.base.specs.declared.Refusal.the-variants.{Starts, Column, Order, NotFinite, EmptyRow}
 use Rattle.base.specs.declared.Asked.{Asked}
 use Rattle.base.specs.declared.Asked.the-variants.{Pass}
-use Rattle.matrix.specs.Input.{Input, inputOf, isOf, ic}
-use Rattle.matrix.specs.Questions.{badStart, badColumn, badIndex, notFinite, noEntry, emptyRow, seenAt, repeats, repeatRow, IsOrder, ask3, ask4, ask5, ask6, askFloor, askNumbers, ask7, ask8, askFinite, askPattern, askRows, askStructure, askSolve, askRight}
-use Rattle.matrix.specs.OrderLaws.{order-below, place-hits}
+use Rattle.matrix.specs.Input.{Input, inputOf, ic}
+use Rattle.matrix.specs.Questions.{badStart, badColumn, badIndex, notFinite, noEntry, emptyRow, IsOrder, ask3, ask4, ask5, ask6, askFloor, askNumbers, ask7, askFinite, askPattern, askStructure, askSolve, askRight}
+use Rattle.matrix.specs.OrderLaws.{place-hits}
 use Rattle.questions.specs.Settled.{Finite, columnsAt, placesAt, Readable, Structured, Settled}
-use Rattle.questions.specs.Lent.{Lent, RowsLent, RowLent}
+use Rattle.questions.specs.Lent.{Lent, PlacesLent}
 
 -- ---- 3
 
@@ -74,20 +72,6 @@ settled7 : (n : ℕ) (s r : List ℕ) → ask7 n s r ≡ Pass → (k : ℕ) → 
 unfolding ask7 emptyRow noEntry
 settled7 n s r h k l = leb-false _ _ (first-none (emptyRow s r) n (absent-pass (first (emptyRow s r) n) (λ k. EmptyRow (own (getD r k 0))) h) k l)
 
--- a list in which no number repeats an earlier one
-distinct-of : (l : List ℕ) → repeats l ≡ false → Distinct l
-unfolding repeats seenAt isOf
-distinct-of l h = record {
-  apart = λ p q d b.
-      let a = first-none (seenAt l) (length l) (isAt-none (first (seenAt l) (length l)) h) q b in
-      eqb-false (getD l p 0) (getD l q 0) (first-none (isOf l (getD l q 0)) q (isAt-none (first (isOf l (getD l q 0)) q) a) p d);
-}
-
-settled8 : (n : ℕ) (s j r : List ℕ) → ask8 n s j r ≡ Pass → (k : ℕ) → k < n → Distinct (rowOf s j (getD r k 0))
-unfolding ask8 repeatRow
-settled8 n s j r h k l =
-    distinct-of (rowOf s j (getD r k 0)) (first-none (repeatRow s j r) n (absent-pass (first (repeatRow s j r) n) (λ k. Repeated (own (getD r k 0))) h) k l)
-
 -- ---- what the questions of a call settle
 
 pub readable : (i : Input) → askPattern i ≡ Pass → Readable i
@@ -98,21 +82,18 @@ readable i h =
     let o = settled5 (i .n) (i .r) (i .c) (b .1) in
     record { rows = settled3 (i .n) (length (i .columns)) (i .starts) (a .0); columns = settled4 (i .n) (i .columns) (b .0); row-order = o .0; column-order = o .1 }
 
-structured-of : (i : Input) → askPattern i ≡ Pass → askRows i ≡ Pass → Structured i
-unfolding askRows
-structured-of i p h =
-    let a = both-pass (ask7 (i .n) (i .starts) (i .r)) (ask8 (i .n) (i .starts) (i .columns) (i .r)) h in
-    record { readable = readable i p; entered = settled7 (i .n) (i .starts) (i .r) (a .0); distinct = settled8 (i .n) (i .starts) (i .columns) (i .r) (a .1) }
+structured-of : (i : Input) → askPattern i ≡ Pass → ask7 (i .n) (i .starts) (i .r) ≡ Pass → Structured i
+structured-of i p h = record { readable = readable i p; entered = settled7 (i .n) (i .starts) (i .r) h }
 
 pub structured : (i : Input) → askStructure i ≡ Pass → Structured i
 unfolding askStructure
-structured i h = let a = both-pass (askPattern i) (askRows i) h in structured-of i (a .0) (a .1)
+structured i h = let a = both-pass (askPattern i) (ask7 (i .n) (i .starts) (i .r)) h in structured-of i (a .0) (a .1)
 
 pub settled : (i : Input) → askSolve i ≡ Pass → Settled i
 unfolding askSolve askNumbers ask6
 settled i h =
-    let a = both-pass (askPattern i) (andThen (askNumbers (i .values) (i .b) (i .floor)) (askRows i)) h in
-    let b = both-pass (askNumbers (i .values) (i .b) (i .floor)) (askRows i) (a .1) in
+    let a = both-pass (askPattern i) (andThen (askNumbers (i .values) (i .b) (i .floor)) (ask7 (i .n) (i .starts) (i .r))) h in
+    let b = both-pass (askNumbers (i .values) (i .b) (i .floor)) (ask7 (i .n) (i .starts) (i .r)) (a .1) in
     let m = both-pass (ask6 (i .values) (i .b)) (askFloor (i .floor)) (b .0) in
     let d = both-pass (askFinite (i .values) 0) (askFinite (i .b) (length (i .values))) (m .0) in
     record { structured = structured-of i (a .0) (b .1); values = settledFinite (i .values) 0 (d .0); right = settledFinite (i .b) (length (i .values)) (d .1) }
@@ -144,19 +125,7 @@ module _ (i : Input) (g : Readable i) where
 -- ---- from the questions to the code that reads rows
 
 -- 3, 4 and 5 are passed: o is what they answered
-pub rows-lent : (n : ℕ) (s j r c : List ℕ) (v b : List Float) (room slots : ℕ) (o : Asked) → Lent n s j r c room → n ≤ slots
-    → o ≡ askPattern (inputOf n s j v r c b) → o ≡ Pass → RowsLent n s j r slots
-rows-lent n s j r c v b room slots o h l e p =
-    let g = readable (inputOf n s j v r c b) (sym e ∙ p) in
-    record {
-      places = record { few = h .orders .few; starts = h .starts; size = h .orders .row-order; order = g .row-order };
-      rows = g .rows (h .starts);
-      columns = g .columns;
-      slots = l;
-    }
-
--- the row at place k
-pub row-lent : (n : ℕ) (s j r : List ℕ) (room : ℕ) → RowsLent n s j r room → (k : ℕ) (i : OwnNumber) → k < n → i ≡ own (getD r k 0) → RowLent n s j (i .0)
-row-lent n s j r room h k i l e =
-    let b = order-below r n (h .places .order) k l in
-    rw e (record { row = h .rows (getD r k 0) b; columns = h .columns })
+pub places-lent : (n : ℕ) (s j r c : List ℕ) (v b : List Float) (room : ℕ) (o : Asked) → Lent n s j r c room
+    → o ≡ askPattern (inputOf n s j v r c b) → o ≡ Pass → PlacesLent n s r
+places-lent n s j r c v b room o h e p =
+    record { few = h .orders .few; starts = h .starts; size = h .orders .row-order; order = readable (inputOf n s j v r c b) (sym e ∙ p) .row-order }

@@ -1,14 +1,13 @@
-// Questions 3 to 8 and 19 on a lent matrix, its orders and its numbers, and what goes by an order: the inverse, the solution.
+// Questions 3 to 7 and 19 on a lent matrix, its orders and its numbers, and what goes by an order: the inverse, the solution.
 ghost use mathlib.Core.Path.{_≡_};
 ghost use mathlib.Core.List.{[]};
 ghost use Prim.Native.Nat.{_+_, _-_, _<_, _≤_};
 ghost use lib.ListN.{length, getD, set};
 ghost use lib.Dec.{eqb};
-ghost use Rattle.base.specs.First.{first, isAt};
-ghost use Rattle.base.specs.Lists.{rowOf};
+ghost use Rattle.base.specs.First.{first};
 ghost use Rattle.matrix.specs.Input.{inputOf, withFloor, ownOrder};
-ghost use Rattle.matrix.specs.Questions.{badStart, badIndex, noEntry, repeats, ask3, ask4, ask5, askFinite, ask6, askFloor, askNumbers, ask7, ask8, askPattern, askRows, askStructure, askSolve, askRight};
-ghost use Rattle.questions.specs.Lent.{Lent, SolveLent, RightLent, OrdersLent, OrderLent, PlacesLent, RowsLent, RowLent, Unstamped, AtMost, askOrder, InverseLent, SolutionLent, inverted, invertedAt};
+ghost use Rattle.matrix.specs.Questions.{badStart, badIndex, noEntry, ask3, ask4, ask5, askFinite, ask6, askFloor, askNumbers, ask7, askPattern, askStructure, askSolve, askRight};
+ghost use Rattle.questions.specs.Lent.{Lent, SolveLent, RightLent, OrdersLent, OrderLent, PlacesLent, Unmarked, askOrder, InverseLent, SolutionLent, inverted, invertedAt};
 use base::Asked;
 use base::Found;
 use base::Index;
@@ -52,22 +51,22 @@ pub fn write_solution(n: usize, c: &[Index], z: &[f64], x: &mut [f64])
     }
 }
 
-// ---- stamps: a slot for each number below n, which holds the stamp once its number was met
+// ---- marks: a slot for each number below n, which holds 1 once its number was met
 
-// Whether a slot holds the stamp; it does from now on.
-fn stamp_slot(j: usize, stamp: u32, marks: &mut [u32]) -> bool
+// Whether a slot is marked; it is from now on.
+fn mark_slot(j: usize, marks: &mut [u32]) -> bool
     requires { ⌜ j < length (now marks) ⌝ }
-    ensures { λ b. ⌜ (b ≡ eqb (getD (now (marks .entry)) j 0) stamp) × (now (marks .exit) ≡ set (now (marks .entry)) j stamp) ⌝ }
+    ensures { λ b. ⌜ (b ≡ eqb (getD (now (marks .entry)) j 0) 1) × (now (marks .exit) ≡ set (now (marks .entry)) j 1) ⌝ }
 {
-    let seen = marks[j] == stamp;
-    marks[j] = stamp;
+    let seen = marks[j] == 1;
+    marks[j] = 1;
     seen
 }
 
-// Gives the first index whose number is out of range or stands before it too. No slot holds the stamp yet.
-fn first_fault(n: usize, list: &[Index], stamp: u32, marks: &mut [u32]) -> Found
-    requires { ⌜ Unstamped n stamp (now marks) ⌝ }
-    ensures { λ f. ⌜ (f ≡ first (badIndex (now (list .entry)) n) (length (now (list .entry)))) × AtMost (now (marks .exit)) stamp ⌝ }
+// Gives the first index whose number is out of range or stands before it too. No slot is marked yet.
+fn first_fault(n: usize, list: &[Index], marks: &mut [u32]) -> Found
+    requires { ⌜ Unmarked n (now marks) ⌝ }
+    ensures { λ f. ⌜ f ≡ first (badIndex (now (list .entry)) n) (length (now (list .entry))) ⌝ }
 {
     let mut p = 0;
     while p < list.len() {
@@ -75,21 +74,12 @@ fn first_fault(n: usize, list: &[Index], stamp: u32, marks: &mut [u32]) -> Found
         if j >= n {
             return Found::At(p);
         }
-        if stamp_slot(j, stamp, marks) {
+        if mark_slot(j, marks) {
             return Found::At(p);
         }
         p += 1;
     }
     Found::Nothing
-}
-
-fn found(f: Found) -> bool
-    ensures { λ b. ⌜ b ≡ isAt f ⌝ }
-{
-    match f {
-        Found::At(_) => true,
-        Found::Nothing => false,
-    }
 }
 
 // ---- the questions
@@ -142,7 +132,7 @@ fn ask_order(n: usize, order: &[Index], from: usize, marks: &mut [u32]) -> Asked
     ensures { λ a. ⌜ a ≡ askOrder (now (order .entry)) n from ⌝ }
 {
     base::clear_u32(marks);
-    let f = first_fault(n, order, 1, marks);
+    let f = first_fault(n, order, marks);
     if let Found::At(k) = f {
         return Asked::Stop(Refusal::Order((k + from) as u32));
     }
@@ -238,40 +228,6 @@ fn ask_entries(n: usize, starts: &[u32], r: &[Index]) -> Asked
     Asked::Pass
 }
 
-// Whether own row i has a column twice.
-fn row_repeats(
-    n: usize,
-    starts: &[u32],
-    columns: &[Index],
-    i: OwnNumber,
-    stamp: u32,
-    marks: &mut [u32],
-) -> bool
-    requires { ⌜ RowLent n (now starts) (now columns) (i .0) × Unstamped n stamp (now marks) ⌝ }
-    ensures { λ b. ⌜ (b ≡ repeats (rowOf (now (starts .entry)) (now (columns .entry)) (i .0))) × AtMost (now (marks .exit)) stamp ⌝ }
-{
-    let row = lent::row_columns(starts, columns, i);
-    let f = first_fault(n, row, stamp, marks);
-    found(f)
-}
-
-// 8: is no column twice in a row?
-fn ask_repeats(n: usize, starts: &[u32], columns: &[Index], r: &[Index], marks: &mut [u32]) -> Asked
-    requires { ⌜ RowsLent n (now starts) (now columns) (now r) (length (now marks)) ⌝ }
-    ensures { λ a. ⌜ a ≡ ask8 n (now (starts .entry)) (now (columns .entry)) (now (r .entry)) ⌝ }
-{
-    base::clear_u32(marks);
-    let mut k = 0;
-    while k < n {
-        let i = lent::own_row(r, Place(k as u32));
-        if row_repeats(n, starts, columns, i, k as u32 + 1, marks) {
-            return Asked::Stop(Refusal::Repeated(i));
-        }
-        k += 1;
-    }
-    Asked::Pass
-}
-
 // ---- the questions of a call, one after another
 
 // Asks 3, 4 and 5.
@@ -297,19 +253,7 @@ fn ask_pattern(
     ask_orders(n, r, c, marks)
 }
 
-// Asks 7 and 8.
-fn ask_rows(n: usize, starts: &[u32], columns: &[Index], r: &[Index], marks: &mut [u32]) -> Asked
-    requires { ⌜ RowsLent n (now starts) (now columns) (now r) (length (now marks)) ⌝ }
-    ensures { λ a. ⌜ a ≡ askRows (inputOf n (now (starts .entry)) (now (columns .entry)) [] (now (r .entry)) [] []) ⌝ }
-{
-    let a = ask_entries(n, starts, r);
-    if let Asked::Stop(q) = a {
-        return Asked::Stop(q);
-    }
-    ask_repeats(n, starts, columns, r, marks)
-}
-
-// Asks a structure call's 3, 4, 5, 7 and 8, and overwrites the marks.
+// Asks a structure call's 3, 4, 5 and 7, and overwrites the marks.
 pub fn ask_structure(
     n: usize,
     starts: &[u32],
@@ -325,10 +269,10 @@ pub fn ask_structure(
     if let Asked::Stop(q) = a {
         return Asked::Stop(q);
     }
-    ask_rows(n, starts, columns, r, marks)
+    ask_entries(n, starts, r)
 }
 
-// Asks a solve's 3 to 8 and 19, and overwrites the marks.
+// Asks a solve's 3 to 6, 19 and 7, and overwrites the marks.
 pub fn ask_solve(
     n: usize,
     starts: &[u32],
@@ -351,7 +295,7 @@ pub fn ask_solve(
     if let Asked::Stop(q) = a6 {
         return Asked::Stop(q);
     }
-    ask_rows(n, starts, columns, r, marks)
+    ask_entries(n, starts, r)
 }
 
 // Asks another right side's 5, and 6 of b, and overwrites the marks.

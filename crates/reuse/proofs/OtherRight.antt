@@ -198,14 +198,14 @@ row-other S b F H ys k w A r h g f =
     (ap (λ (o : Out Work). o >>= finish (at k) k (S .floor) (S .upper k)) (h .same (b k)) ∙ row-then k (S .floor) (S .upper k) A r g (sumLess (at k) (b k) (pairs (S .lower k) (h .ms)) ys))
 
 -- the row from the end of step 1 on
-row-from : (S : System) (rows : List Row) (k : ℕ) (w : List Float) → load (at k) (S .entries k) (replicate (S .n) nought) ≡ ok w
+row-from : (S : System) (rows : List Row) (k : ℕ) (w : List Float) → load (at k) [] (S .entries k) (replicate (S .n) nought) ≡ ok w
     → row S rows k ≡ (steps (at k) (given S rows) (S .lower k) (worked [] w (S .rhs k)) >>= finish (at k) k (S .floor) (S .upper k))
 unfolding row start
 row-from S rows k w e = rw e
 
-row-loads : (S : System) (rows : List Row) (k : ℕ) (r : Row) → row S rows k ≡ ok r → (w : List Float) × (load (at k) (S .entries k) (replicate (S .n) nought) ≡ ok w)
+row-loads : (S : System) (rows : List Row) (k : ℕ) (r : Row) → row S rows k ≡ ok r → (w : List Float) × (load (at k) [] (S .entries k) (replicate (S .n) nought) ≡ ok w)
 unfolding row start
-row-loads S rows k r e = go (load (at k) (S .entries k) (replicate (S .n) nought)) e
+row-loads S rows k r e = go (load (at k) [] (S .entries k) (replicate (S .n) nought)) e
   where
     go : (o : Out (List Float)) → ((o >>= λ w. ok (worked [] w (S .rhs k))) >>= λ a. steps (at k) (given S rows) (S .lower k) a >>= finish (at k) k (S .floor) (S .upper k)) ≡ ok r → (w : List Float) × (o ≡ ok w)
     go (ok w) h = (w, refl)

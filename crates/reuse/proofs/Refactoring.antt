@@ -138,10 +138,10 @@ fault-late (zeroPivot k) = (omega arith, omega arith)
 fault-late (overflow k) = (omega arith, omega arith)
 
 -- of the questions before 9, 19 alone has a number from 9 on
-turn-late : (q : Refusal) → 9 ≤ numberOf q → (3 ≤ turnOf q) × (turnOf q ≤ 8) → numberOf q ≡ 19
+turn-late : (q : Refusal) → 9 ≤ numberOf q → (3 ≤ turnOf q) × (turnOf q ≤ 7) → numberOf q ≡ 19
 turn-late q l w = by-test (eqb (numberOf q) 19) (λ t. eqb-true (numberOf q) 19 t) (λ t. let v = rw t at w in absurd (omega (arith, l, v)))
 
-chain-alike : (f : Form) (j : Input) (t : Buffers) (a b c d : Asked) (o : Out Result) → Within 1 2 a → Within 3 8 b → c ≡ Pass → d ≡ Pass
+chain-alike : (f : Form) (j : Input) (t : Buffers) (a b c d : Asked) (o : Out Result) → Within 1 2 a → Within 3 7 b → c ≡ Pass → d ≡ Pass
     → ((r : Result) → refactored f j t (ok r) .buffers ≡ left f j (sizes t) r)
     → RefactorsAs t (stop ends.Refused a t (stop ends.Refused b (scratchCleared t) (stop ends.Refused c (scratchCleared t) (refactored f j t o))))
     (stop Refused a t (stop Refused b (scratchCleared t) (stop Refused d (cleared (sizes t) (t .x)) (concluded f j (sizes t) (t .x) o))))

@@ -32,7 +32,7 @@ use Rattle.base.specs.declared.Sizes.{Sizes}
 use Rattle.fill.specs.Fill.{Pattern, flip, lowerRow, upperRow}
 use Rattle.placement.specs.Placing.{firstAt}
 use Rattle.matrix.specs.Input.{Input, stored, rightAt, ownOrder}
-use Rattle.matrix.specs.Questions.{notFinite, ask3, ask4, ask5, ask6, askFinite, askFloor, askNumbers, askPattern, askRows, askSolve, askRight}
+use Rattle.matrix.specs.Questions.{ask7, notFinite, ask3, ask4, ask5, ask6, askFinite, askFloor, askNumbers, askPattern, askSolve, askRight}
 use Rattle.arithmetic.specs.Arith.{Fault, Out, ok, met, none, Result, Row}
 use Rattle.arithmetic.specs.Sticky.{ok-inj}
 use Rattle.arithmetic.specs.Stopping.{solved}
@@ -77,10 +77,10 @@ module _ (i : Input) (b : List Float) (g : FiniteRight (i .n) b) where
   matrix-tests e = let t = all-true (matrixTests i) e in rw (t 0, t 1, t 2, t 3, t 4, eq-eqb (length b) (i .n) (g .long))
 
   solve-asks : askSolve i ≡ Pass → askSolve (withRight i b) ≡ Pass
-  unfolding askSolve askPattern askRows askNumbers ask6
+  unfolding askSolve askPattern askNumbers ask6
   solve-asks e =
-      let p = both-pass (askPattern i) (andThen (askNumbers (i .values) (i .b) (i .floor)) (askRows i)) e in
-      let q = both-pass (askNumbers (i .values) (i .b) (i .floor)) (askRows i) (p .1) in
+      let p = both-pass (askPattern i) (andThen (askNumbers (i .values) (i .b) (i .floor)) (ask7 (i .n) (i .starts) (i .r))) e in
+      let q = both-pass (askNumbers (i .values) (i .b) (i .floor)) (ask7 (i .n) (i .starts) (i .r)) (p .1) in
       let n = both-pass (ask6 (i .values) (i .b)) (askFloor (i .floor)) (q .0) in
       let r = both-pass (askFinite (i .values) 0) (askFinite (i .b) (length (i .values))) (n .0) in
       rw (p .0, r .0, finite-pass (i .n) b (length (i .values)) g, n .1) (q .1)
@@ -88,7 +88,7 @@ module _ (i : Input) (b : List Float) (g : FiniteRight (i .n) b) where
   right-asks : askSolve i ≡ Pass → askRight (i .n) (i .r) (i .c) b ≡ Pass
   unfolding askSolve askPattern askRight
   right-asks e =
-      let p = both-pass (askPattern i) (andThen (askNumbers (i .values) (i .b) (i .floor)) (askRows i)) e in
+      let p = both-pass (askPattern i) (andThen (askNumbers (i .values) (i .b) (i .floor)) (ask7 (i .n) (i .starts) (i .r))) e in
       let q = both-pass (ask3 (i .n) (length (i .columns)) (i .starts)) (andThen (ask4 (i .n) (i .columns)) (ask5 (i .n) (i .r) (i .c))) (p .0) in
       let r = both-pass (ask4 (i .n) (i .columns)) (ask5 (i .n) (i .r) (i .c)) (q .1) in
       rw (r .1) (finite-pass (i .n) b 0 g)
@@ -215,8 +215,8 @@ resolving-on f v i s t c b g =
 own-finite : (i : Input) → all (matrixTests i) ≡ true → askSolve i ≡ Pass → FiniteRight (i .n) (i .b)
 unfolding askSolve askNumbers ask6 askFinite notFinite
 own-finite i e q =
-    let p = both-pass (askPattern i) (andThen (askNumbers (i .values) (i .b) (i .floor)) (askRows i)) q in
-    let r = both-pass (askNumbers (i .values) (i .b) (i .floor)) (askRows i) (p .1) in
+    let p = both-pass (askPattern i) (andThen (askNumbers (i .values) (i .b) (i .floor)) (ask7 (i .n) (i .starts) (i .r))) q in
+    let r = both-pass (askNumbers (i .values) (i .b) (i .floor)) (ask7 (i .n) (i .starts) (i .r)) (p .1) in
     let m = both-pass (ask6 (i .values) (i .b)) (askFloor (i .floor)) (r .0) in
     let w = both-pass (askFinite (i .values) 0) (askFinite (i .b) (length (i .values))) (m .0) in
     let n : length (i .b) ≡ i .n = eqb-true (length (i .b)) (i .n) (all-true (matrixTests i) e 5) in

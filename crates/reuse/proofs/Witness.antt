@@ -16,7 +16,7 @@ use Rattle.base.specs.declared.Answer.the-variants.{Done, Refused}
 use Rattle.base.specs.declared.Ended.the-variants as ends
 use Rattle.fill.specs.Fill.{reach, filled, upper, upperRow, lowerRow, lowerColumn, products}
 use Rattle.matrix.specs.Input.{Input, inputOf, isOf, ic, stored, entries, rightAt}
-use Rattle.matrix.specs.Questions.{badStart, badColumn, badIndex, notFinite, noEntry, emptyRow, seenAt, repeats, repeatRow, ask3, ask4, ask5, askFinite, ask6, askFloor, askNumbers, ask7, ask8, askPattern, askRows, askStructure, askSolve}
+use Rattle.matrix.specs.Questions.{badStart, badColumn, badIndex, notFinite, noEntry, emptyRow, ask3, ask4, ask5, askFinite, ask6, askFloor, askNumbers, ask7, askPattern, askStructure, askSolve}
 use Rattle.placement.specs.Placing.{countAbove, tails, bestFrom, firstAt, agree, appendAll, fresh, meets, overlap, tailOr, shared, plain, after, placed, startOf}
 use Rattle.arithmetic.specs.Arith.{judged, loadRun, step1, subtractRun, stepRun, step2, scaledRun, step3, rowRun, forwardRun, restRun, backRun, wholeRun}
 use Rattle.outcome.specs.Forms.{placedTo, indexNeed, valueNeed}
@@ -57,7 +57,7 @@ lent =
     (replicate 9 nan) (replicate 32 80)
 
 arrow-done : ended (Done (counted 3 3 5)) (sharedBuffers starts runs index (replicate 3 nought) starts runs index (replicate 3 nought) [] [] (replicate 9 nought) (replicate 32 0)) ≡ structure Shared arrow lent
-unfolding arrow lent structure askShape askStructure askPattern askRows ask3 ask4 ask5 ask7 ask8 first badStart badColumn badIndex isOf emptyRow noEntry repeatRow repeats seenAt listAt askPlaces askPlace filled reach stored ic has fits indexNeed valueNeed placedTo placed after shared appendAll fresh meets overlap tailOr tails bestFrom countAbove firstAt agree startOf upperRow lowerRow asc upper counts sum count lowerColumn products table structured sidePlaced padded
+unfolding arrow lent structure askShape askStructure askPattern ask3 ask4 ask5 ask7 first badStart badColumn badIndex isOf emptyRow noEntry listAt askPlaces askPlace filled reach stored ic has fits indexNeed valueNeed placedTo placed after shared appendAll fresh meets overlap tailOr tails bestFrom countAbove firstAt agree startOf upperRow lowerRow asc upper counts sum count lowerColumn products table structured sidePlaced padded
 arrow-done = refl
 
 -- the lists, and all else dirty
@@ -75,7 +75,7 @@ lent-plain = plainBuffers (replicate 4 77) (replicate 3 79) (replicate 3 nan) (r
 plain-done : ended (Done (counted 3 3 5))
     (plainBuffers (0 ∷ 0 ∷ 1 ∷ 3 ∷ []) (0 ∷ 0 ∷ 1 ∷ []) (replicate 3 nought) (0 ∷ 2 ∷ 3 ∷ 3 ∷ []) (1 ∷ 2 ∷ 2 ∷ 0 ∷ []) (replicate 3 nought) [] [] (replicate 9 nought) (replicate 32 0))
     ≡ structure Plain arrow lent-plain
-unfolding arrow lent-plain structure askShape askStructure askPattern askRows ask3 ask4 ask5 ask7 ask8 first badStart badColumn badIndex isOf emptyRow noEntry repeatRow repeats seenAt listAt askPlaces askPlace filled reach stored ic has fits indexNeed valueNeed placedTo placed after plain appendAll startOf upperRow lowerRow asc upper counts sum count lowerColumn products table structured sidePlaced padded
+unfolding arrow lent-plain structure askShape askStructure askPattern ask3 ask4 ask5 ask7 first badStart badColumn badIndex isOf emptyRow noEntry listAt askPlaces askPlace filled reach stored ic has fits indexNeed valueNeed placedTo placed after plain appendAll startOf upperRow lowerRow asc upper counts sum count lowerColumn products table structured sidePlaced padded
 plain-done = refl
 
 unfoldable pub dirty-plain : Buffers
@@ -97,7 +97,7 @@ abbrev ones : List Float
 ones = replicate 7 (ofBits binary64 0x3ff0000000000000)
 
 arrow-solves : (endOf (solve Shared (withNumbers arrow values right nought) dirty .answer) ≡ ends.Done) × (endOf (solve Shared (withNumbers arrow ones right nought) dirty .answer) ≡ ends.Refused (ZeroPivot (spot 1)))
-unfolding floats arrow dirty solve shape askShape askSolve askPattern askRows ask3 ask4 ask5 ask6 ask7 ask8 askFinite first badStart badColumn badIndex isOf notFinite emptyRow noEntry repeatRow repeats seenAt listAt pairs askPlaces askPlace filled reach stored has fits indexNeed valueNeed placedTo placed after shared appendAll fresh meets overlap tailOr tails bestFrom countAbove firstAt agree startOf upperRow lowerRow asc upper listed system entries rightAt ic judged wholeRun loadRun step1 subtractRun stepRun step2 scaledRun step3 rowRun forwardRun restRun backRun ofBits sub mul div askNumbers askFloor isFloor atMost lt eq le
+unfolding floats arrow dirty solve shape askShape askSolve askPattern ask3 ask4 ask5 ask6 ask7 askFinite first badStart badColumn badIndex isOf notFinite emptyRow noEntry listAt pairs askPlaces askPlace filled reach stored has fits indexNeed valueNeed placedTo placed after shared appendAll fresh meets overlap tailOr tails bestFrom countAbove firstAt agree startOf upperRow lowerRow asc upper listed system entries rightAt ic judged wholeRun loadRun step1 subtractRun stepRun step2 scaledRun step3 rowRun forwardRun restRun backRun ofBits sub mul div askNumbers askFloor isFloor atMost lt eq le
 arrow-solves = (refl, refl)
 
 pub arrow-refactored : refactor Shared (withNumbers arrow values right nought) dirty .answer ≡ ends.Done
@@ -131,7 +131,7 @@ abbrev huge : List Float
 huge = floats (0x7fefffffffffffff ∷ 0xffefffffffffffff ∷ [])
 
 two-solves : (solve Plain two given .answer ≡ Done (counted 1 1 1)) × (endOf (solve Plain (withRight two huge) given .answer) ≡ ends.Refused (Overflow (spot 1)))
-unfolding floats two given solve shape askShape askSolve askPattern askRows ask3 ask4 ask5 ask6 ask7 ask8 askFinite first badStart badColumn badIndex isOf notFinite emptyRow noEntry repeatRow repeats seenAt listAt pairs askPlaces askPlace filled reach stored has fits indexNeed valueNeed placedTo placed after plain appendAll startOf upperRow lowerRow asc upper listed system entries rightAt ic judged wholeRun loadRun step1 subtractRun stepRun step2 scaledRun step3 rowRun forwardRun restRun backRun counts sum count lowerColumn products ofBits sub mul div askNumbers askFloor isFloor atMost lt eq le
+unfolding floats two given solve shape askShape askSolve askPattern ask3 ask4 ask5 ask6 ask7 askFinite first badStart badColumn badIndex isOf notFinite emptyRow noEntry listAt pairs askPlaces askPlace filled reach stored has fits indexNeed valueNeed placedTo placed after plain appendAll startOf upperRow lowerRow asc upper listed system entries rightAt ic judged wholeRun loadRun step1 subtractRun stepRun step2 scaledRun step3 rowRun forwardRun restRun backRun counts sum count lowerColumn products ofBits sub mul div askNumbers askFloor isFloor atMost lt eq le
 two-solves = (refl, refl)
 
 pub two-factored : Factored Plain two given (solve Plain two given .buffers)

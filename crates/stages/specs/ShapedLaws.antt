@@ -166,7 +166,6 @@ pub pattern-structured : (i : Input) → Structured i → Structured (pattern i)
 pattern-structured i g = record {
   readable = record { rows = g .readable .rows; columns = g .readable .columns; row-order = g .readable .row-order; column-order = g .readable .column-order };
   entered = g .entered;
-  distinct = g .distinct;
 }
 
 -- ---- what the arithmetic asks for

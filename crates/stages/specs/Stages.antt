@@ -42,7 +42,7 @@ noCounts = record { lower = 0; upper = 0; products = 0 }
 abbrev pub blankIf : {A : Type 0} → Bool → A → List A → List A
 blankIf b v l = cond b (blank v l) l
 
--- ---- the structure call after questions 1 to 8
+-- ---- the structure call after questions 1 to 7
 
 unfoldable pub structurePlaced : Form → Input → Buffers → Outcome Answer
 structurePlaced f i s =

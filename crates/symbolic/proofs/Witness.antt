@@ -27,7 +27,6 @@ matrix =
       structured = record {
         readable = record { rows = q .readable .rows; columns = q .readable .columns; row-order = q .readable .row-order; column-order = q .readable .column-order };
         entered = q .entered;
-        distinct = q .distinct;
       };
       starts-size = refl;
       entries = omega arith;

@@ -52,7 +52,7 @@ pub record Apart (side : Side) (n : ℕ) (s₀ s : List ℕ) : Type 0 where
   pub order : (q : ℕ) → n ≤ q → q < blocksFrom n → getD s q 0 ≡ getD s₀ q 0
   pub foreign : (q : ℕ) → Foreign side n q → getD s q 0 ≡ getD s₀ q 0
 
--- what questions 1 to 8 and the inverse order settle for the whole pass
+-- what questions 1 to 7 and the inverse order settle for the whole pass
 pub record Begun (i : Input) (s : List ℕ) : Type 0 where
   pub few : i .n ≤ maxRows
   pub sound : Sound i

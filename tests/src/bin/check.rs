@@ -6,13 +6,14 @@ use lilacpliers_tests::checks::cases::Range;
 use lilacpliers_tests::checks::*;
 use std::process::ExitCode;
 
-const GROUPS: [&str; 14] = [
+const GROUPS: [&str; 15] = [
     "known",
     "consistency",
     "cases",
     "lookups",
     "forms",
     "floors",
+    "repeats",
     "reuse",
     "damaged",
     "files",
@@ -80,6 +81,10 @@ fn check_reference(options: &Options, tally: &mut Tally) {
         floors::limits(&Reference, options.seed, tally);
         floors::run(&Reference, options.range(options.cases / 40), tally);
     }
+    if options.wants("repeats") {
+        repeats::limits(&Reference, options.seed, tally);
+        repeats::run(&Reference, options.range(options.cases / 40), tally);
+    }
     if options.wants("sheets") {
         sheets::reading(tally);
     }
@@ -111,6 +116,11 @@ fn check_library(library: &dyn Solver, options: &Options, tally: &mut Tally) {
     if options.wants("floors") {
         floors::limits(library, options.seed, tally);
         floors::run(library, options.range(options.cases / 10), tally);
+    }
+    if options.wants("repeats") {
+        repeats::limits(library, options.seed, tally);
+        repeats::large(library, options.seed, tally);
+        repeats::run(library, options.range(options.cases / 10), tally);
     }
     if options.wants("reuse") {
         consistency::reuse(library, options.range(options.cases / 10), tally);

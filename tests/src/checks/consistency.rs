@@ -66,7 +66,7 @@ fn check_fill(input: &Input) -> Compared {
     compare::same("products", &fill.products(), &products_by_rows(&fill))
 }
 
-/// The numbers of a full square and its right side, by place, and the floor.
+/// The numbers of a full square, each the sum of what is stored there, its right side, by place, and the floor.
 struct Square {
     a: Vec<Vec<f64>>,
     y: Vec<f64>,
@@ -85,12 +85,16 @@ impl Square {
         let n = input.n;
         let mut a = vec![vec![0.0; n]; n];
         for (row, entries) in a.iter_mut().zip(entries_by_place(input)) {
-            entries.iter().for_each(|&(j, value)| row[j] = value);
+            for (j, slot) in row.iter_mut().enumerate() {
+                let values = entries.iter().filter(|entry| entry.0 == j).map(|entry| entry.1);
+                *slot = values.reduce(|sum, value| sum + value).unwrap_or(0.0);
+            }
         }
         Square { a, y: reference::arithmetic::right_by_place(&input.r, &input.b), floor: input.floor }
     }
 
-    /// Every operation of every position of row k. A number that is not finite stays so until the row's end.
+    /// Every operation of every position of row k. A number that is not finite, a sum of stored values among them,
+    /// stays so until the row's end.
     fn eliminate(&mut self, k: usize) -> Result<(), Stop> {
         let (above, rest) = self.a.split_at_mut(k);
         let row = &mut rest[0];
@@ -168,7 +172,7 @@ fn check_lists(input: &Input, form: Form) -> Compared {
 }
 
 /// Solving again from the factors gives the bits of the solve; refactoring gives its answer.
-fn check_reuse(solver: &dyn Solver, input: &Input, form: Form) -> Compared {
+pub fn check_reuse(solver: &dyn Solver, input: &Input, form: Form) -> Compared {
     let run = |call: Call, buffers: &mut Buffers| {
         let mut case = Case { call, input: input.clone(), buffers: std::mem::take(buffers), report: 4 };
         generate::only_lent(&mut case);

@@ -1,7 +1,8 @@
 //! Floors under pivots, in every call that factors: at, just below and just above the magnitude of each pivot, floors
 //! that are refused, and which refusal comes first. Beside the reference's answer stands one that is worked out from
 //! its pivots by the bits of their magnitudes.
-use super::cases::{compare_case, Range};
+use super::cases::{run_case, Range};
+use super::faults::{empty_last_row, no_slots, number_in, Fault};
 use super::{forms, Solver, Tally};
 use crate::compare::{self, Compared, Difference};
 use crate::generate::{self, beside, Case, BAD_FLOORS, FLOORS};
@@ -37,14 +38,12 @@ fn overflowing() -> Input {
 fn run_under(solver: &dyn Solver, case: &Case, floor: f64) -> Result<(Answer, Buffers), Difference> {
     let mut case = case.clone();
     case.input.floor = floor;
-    compare_case(solver, &case).1?;
-    let answer = solver.run(case.call, &case.input, &mut case.buffers, case.report)?;
-    Ok((answer, case.buffers))
+    run_case(solver, &case)
 }
 
 /// A call over noise, with stores as long as they can be needed.
 fn case_of(random: &mut Random, call: Call, input: &Input) -> Case {
-    generate::factoring(random, call, input, Slots::all(input.n * input.n))
+    generate::over_noise(random, call, input, Slots::all(input.n * input.n))
 }
 
 // ---- answers that are written out
@@ -193,18 +192,6 @@ fn every_pivot(solver: &dyn Solver, random: &mut Random, tally: &mut Tally) {
 
 // ---- which refusal comes first
 
-/// A fault of a case of the arrow: its name, what makes it, and its numbers under the floor 0 in a solve that keeps L,
-/// in the row form and in refactor.
-type Fault = (&'static str, fn(&mut Case), [u32; 3]);
-
-fn empty_last_row(case: &mut Case) {
-    let input = &mut case.input;
-    let end = input.starts[input.n - 1];
-    input.starts[input.n] = end;
-    input.columns.truncate(end as usize);
-    input.values.truncate(end as usize);
-}
-
 /// Takes the entry (0, 0) out, which no fill puts back.
 fn no_pivot(case: &mut Case) {
     case.input.columns.remove(0);
@@ -212,12 +199,13 @@ fn no_pivot(case: &mut Case) {
     case.input.starts[1..].iter_mut().for_each(|start| *start -= 1);
 }
 
-fn no_slots(store: &mut Store) {
-    store.index.clear();
-    store.values.clear();
+/// Makes (1, 1) a second entry at (1, 0); fill keeps the pivot, and the lists stay.
+fn sum_overflows(case: &mut Case) {
+    case.input.columns[4] = 0;
+    case.input.values[3..5].fill(f64::MAX);
 }
 
-/// The faults that come before 19.
+/// The faults of a case of the arrow that come before 19, with their numbers under the floor 0.
 const BEFORE: [Fault; 9] = [
     ("n = 0", |case| case.input.n = 0, [1; 3]),
     ("n = 4,097", |case| case.input.n = 4_097, [1; 3]),
@@ -233,7 +221,7 @@ const BEFORE: [Fault; 9] = [
 /// The faults that 19 comes before. The row form has no lower side, and solves write over list starts.
 const BEHIND: [Fault; 8] = [
     ("a row is empty", empty_last_row, [7; 3]),
-    ("a column twice", |case| case.input.columns[4] = 0, [8; 3]),
+    ("a sum that overflows", sum_overflows, [13; 3]),
     ("a null pivot", no_pivot, [9, 9, 14]),
     ("no lower slots", |case| no_slots(&mut case.buffers.lower), [10, 0, 14]),
     ("no upper slots", |case| no_slots(&mut case.buffers.upper), [11, 11, 14]),
@@ -244,11 +232,7 @@ const BEHIND: [Fault; 8] = [
 
 /// The fault's number under the floor 0, then its answer beside a refused floor: its own where it comes first, or 19.
 fn both(solver: &dyn Solver, case: &Case, numbers: [u32; 3], first: bool, floor: f64) -> Compared {
-    let number = match case.call {
-        Call::Refactor(_) => numbers[2],
-        Call::Solve(Form::Row) => numbers[1],
-        _ => numbers[0],
-    };
+    let number = number_in(case.call, numbers);
     let (alone, _) = run_under(solver, case, 0.0)?;
     compare::same("number of the fault alone", &alone.number, &number)?;
     let (answer, _) = run_under(solver, case, floor)?;

@@ -1,6 +1,7 @@
 //! The checks, and who is checked: the reference itself, or the library behind the C interface.
 pub mod cases;
 pub mod consistency;
+pub mod faults;
 pub mod files;
 pub mod floors;
 pub mod forms;
@@ -11,6 +12,7 @@ pub mod nulls;
 #[cfg(all(feature = "standin", not(feature = "library")))]
 pub mod planted;
 pub mod printed;
+pub mod repeats;
 pub mod sheets;
 pub mod signatures;
 

@@ -56,6 +56,18 @@ pub fn known_outputs(tally: &mut Tally) {
     tally.add(|| "output for a zero pivot".to_string(), expect(&matrix_file::file_of(&zero), "refused 12 0\n"));
     let wide = load::tridiagonal(65);
     tally.add(|| "output for n = 65".to_string(), expect(&matrix_file::file_of(&wide), "too large\n"));
+    let twice = matrix_file::file_of(&load::halved(&known::paper_matrix()));
+    tally.add(|| "output for the paper's file, each entry twice".to_string(), expect(&twice, paper));
+    let one = "n 1 lower 0 upper 0 products 0\nx 0 3FF0000000000000\n";
+    tally.add(
+        || "output for e = 1,024 in one row".to_string(),
+        expect(&matrix_file::file_of(&load::parts_of_one(1_024)), one),
+    );
+    let overflow = load::from_rows(&[vec![(0, f64::MAX), (0, f64::MAX), (0, f64::MIN)]], &[1.0]);
+    tally.add(
+        || "output for a sum that overflows".to_string(),
+        expect(&matrix_file::file_of(&overflow), "refused 13 0\n"),
+    );
 }
 
 /// A file with n and e of its own, otherwise zeros, in as many blocks as asked.
@@ -81,6 +93,10 @@ fn chosen_files() -> Vec<(String, Vec<u8>)> {
         ("Report 114's grid in its order".to_string(), matrix_file::file_of(&known::grid_ordered(&known::GRID_ORDER))),
         ("n = 64, e = 1,024".to_string(), matrix_file::file_of(&full(64, 1_024))),
         ("n = 64, the whole lower and upper side filled".to_string(), matrix_file::file_of(&bordered(64))),
+        ("the paper's file, each entry twice".to_string(), matrix_file::file_of(&load::halved(&known::paper_matrix()))),
+        ("n = 64, each entry twice".to_string(), matrix_file::file_of(&load::halved(&load::tridiagonal(64)))),
+        ("n = 1, e = 1,024".to_string(), matrix_file::file_of(&load::parts_of_one(1_024))),
+        ("n = 1, e = 2,048".to_string(), matrix_file::file_of(&load::parts_of_one(2_048))),
         ("n = 65".to_string(), matrix_file::file_of(&load::tridiagonal(65))),
         ("e = 1,025".to_string(), headed(33, 1_025, 22)),
         ("n = 5,000".to_string(), headed(5_000, 1, 1)),

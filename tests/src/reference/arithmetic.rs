@@ -27,8 +27,22 @@ fn minus_product(k: usize, from: f64, a: f64, b: f64) -> Result<f64, Refusal> {
     checked(k, from - product)
 }
 
-/// The rows of M' as lists of place and value.
+/// The rows of M' as lists of place and value, a place as often as it is stored.
 type Entries = [Vec<(usize, f64)>];
+
+/// Step 1 of place k: at each place the sum of its values in stored order, from the first of them. A single value is
+/// taken as it is, and a place without any has +0.
+fn working_row(k: usize, n: usize, entries: &[(usize, f64)]) -> Result<Vec<f64>, Refusal> {
+    let mut sums: Vec<Option<f64>> = vec![None; n];
+    for &(j, value) in entries {
+        let sum = match sums[j] {
+            Some(before) => checked(k, before + value)?,
+            None => value,
+        };
+        sums[j] = Some(sum);
+    }
+    Ok(sums.into_iter().map(|sum| sum.unwrap_or(0.0)).collect())
+}
 
 /// Eliminates places 0 to n - 1, then goes back. Question 12: is the magnitude of each pivot above the floor?
 pub fn solve(fill: &Fill, entries: &Entries, right: &[f64], floor: f64) -> Result<Solved, Refusal> {
@@ -51,10 +65,7 @@ fn factor(fill: &Fill, entries: &Entries, right: &[f64], floor: f64, solved: &mu
     let n = right.len();
     let mut y = Vec::with_capacity(n);
     for k in 0..n {
-        let mut w = vec![0.0f64; n];
-        for &(j, value) in &entries[k] {
-            w[j] = value;
-        }
+        let mut w = working_row(k, n, &entries[k])?;
         let s = eliminate(k, fill, solved, &mut w, right[k], &y)?;
         solved.pivots.push(w[k]);
         if w[k].abs() <= floor {

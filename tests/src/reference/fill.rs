@@ -4,7 +4,7 @@ use crate::model::Input;
 use std::cmp::Reverse;
 use std::collections::BinaryHeap;
 
-/// Row k of M': place and value of each entry, in stored order.
+/// Row k of M': place and value of each entry, in stored order; a place may stand there several times.
 pub fn entries_by_place(input: &Input) -> Vec<Vec<(usize, f64)>> {
     let mut inverse = vec![0usize; input.n];
     for (k, &j) in input.c.iter().enumerate() {

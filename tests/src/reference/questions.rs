@@ -1,4 +1,4 @@
-//! Questions 1 to 8 and 19, each by itself.
+//! Questions 1 to 7 and 19, each by itself. A column may stand several times in a row, so 8 is not asked.
 use crate::model::*;
 
 /// A question passed, or its refusal.
@@ -120,19 +120,7 @@ pub fn entries(input: &Input) -> Asked {
     Ok(())
 }
 
-/// Question 8: by k, is no column twice in a row?
-pub fn repeats(input: &Input) -> Asked {
-    for &row in &input.r {
-        let mut sorted = input.columns[row_range(input, row as usize)].to_vec();
-        sorted.sort_unstable();
-        if sorted.windows(2).any(|pair| pair[0] == pair[1]) {
-            return refuse(8, row as usize);
-        }
-    }
-    Ok(())
-}
-
-/// Puts questions 3 to 8 as the call does, 19 behind 6; the structure call skips these two.
+/// Puts questions 3 to 7 as the call does, 19 behind 6; the structure call skips these two.
 pub fn before_nine(call: Call, input: &Input) -> Asked {
     starts(input)?;
     columns(input)?;
@@ -142,6 +130,5 @@ pub fn before_nine(call: Call, input: &Input) -> Asked {
         finite(&input.b, input.values.len())?;
         floor(input.floor)?;
     }
-    entries(input)?;
-    repeats(input)
+    entries(input)
 }

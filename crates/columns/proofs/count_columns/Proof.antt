@@ -33,8 +33,7 @@ count-row-requires c κs =
     let t = l .loop .inv .1 in
     let o = order-kept (a .n) 0 (a .n) (t .kept) in
     let g = given-kept (t .kept .size) o (s .pre .0) in
-    let e = row-is (a .n) (l .loop .k) _ _ (a .r .now) _ _ _ (w .row-of .ensures) o in
-    (g .space, (g .order, (row-below (w .row-of .ensures) (g .below (l .loop .k) (omega arith)), tally-room (a .n) (l .loop .k) _ (omega arith) (s .pre .0 .few) e t)))
+    (g .space, (g .order, (row-below (w .row-of .ensures) (g .below (l .loop .k) (omega arith)), (omega arith, tally-room (a .n) (l .loop .k) _ t))))
 
 loop-again : tie.Need-loop-again Inv-loop μ-loop
 loop-again c =

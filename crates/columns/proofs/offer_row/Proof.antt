@@ -4,7 +4,8 @@ use Rattle.lent.specs.Reading.{orderOf, placed}
 use Rattle.columns.specs.Columns.{Offered}
 use lib.ListN.{length, take}
 use Prim.Native.Nat.{_-_, _≤_}
-use Rattle.columns.proofs.ListLaws.{row-start, row-more, row-room, row-end}
+use Rattle.columns.proofs.ListLaws.{row-room}
+use Rattle.columns.proofs.ColumnLaws.{row-start, row-more, row-end}
 use Rattle.columns.proofs.Keeps.{order-kept}
 use borrow.Author.Needs.{needs}
 use native.Mathlib.Omega.{arith}
@@ -18,13 +19,13 @@ abbrev μ-loop : tie.MeasureT-loop
 μ-loop s₀ n lo hi i cols used p₀ q₀ s p q = length cols - q
 
 loop-holds : tie.Need-loop-holds Inv-loop μ-loop
-loop-holds c = (omega arith, row-start _ _ _ _ _ _)
+loop-holds c = (omega arith, row-start)
 
 entry-place-requires : tie.Need-entry-place-requires Inv-loop μ-loop
 entry-place-requires c κs =
     let l = c .before .before in
     let s = l .before .before .before in
-    (omega arith, s .pre .1 .0 (l .loop .q) (omega arith), room-kept _ _ _ (l .loop .inv .1 .kept .size) (s .pre .0))
+    (omega arith, s .pre .1 .0 (l .loop .q) (omega arith), s .pre .0 .small, omega (arith, l .loop .inv .1 .kept .size, s .pre .0 .long))
 
 offer-requires : tie.Need-offer-requires Inv-loop μ-loop
 offer-requires c κs =

@@ -8,14 +8,14 @@ count-columns-requires : tie.Need-count-columns-requires
 count-columns-requires c κs =
     let h = c .before .before .before in
     let s = h .before .before .before .before .before .before in
-    let t = h .clear-heads .ensures in
-    (given-kept (t .kept .size) (order-kept _ 0 _ (t .kept)) (s .pre), t .counts)
+    let t = h .clear-counts .ensures in
+    (given-kept (t .kept .size) (order-kept _ 0 _ (t .kept)) (s .pre), t .counting)
 
 returns : tie.Need-returns
 returns c =
     let m = c .before .before in
     let h = m .before .before .before .before in
-    started _ _ _ _ (h .clear-heads .ensures) (m .count-columns .ensures)
+    started _ _ _ _ (h .clear-counts .ensures) (m .count-columns .ensures)
 
 pub start-columns-spec : {M : Type 1} → statement M
 start-columns-spec =

@@ -21,7 +21,7 @@ returns-2 c =
     let o = f .before .before .before .before in
     let s = o .before .before .before .before .before .before .before in
     let e = o .open-window .ensures in
-    window-made _ _ _ _ _ _ (rows-same _ _ _ _ _ _ (order-kept (s .args .n) _ _ (e .kept))) (s .pre .1 .1) (omega arith) (s .pre .0 .few) (s .pre .1 .0) e (f .fill-window .ensures)
+    window-made _ _ _ _ _ _ (rows-same _ _ _ _ _ _ (order-kept (s .args .n) _ _ (e .kept))) (s .pre .1 .1) (omega arith) (s .pre .1 .0) e (f .fill-window .ensures)
 
 pub window-at-spec : {M : Type 1} → statement M
 window-at-spec =

@@ -33,7 +33,7 @@ entry-place-requires : tie.Need-entry-place-requires Inv-loop μ-loop
 entry-place-requires c κs =
     let l = c .before .before in
     let s = l .before .before .before in
-    (omega arith, s .pre .0 (l .loop .q) (omega arith), room-kept _ (s .args .marks .now) _ (l .loop .inv .1 .kept .size) (s .pre .1 .0))
+    (omega arith, s .pre .0 (l .loop .q) (omega arith), s .pre .1 .0 .small, omega (arith, l .loop .inv .1 .kept .size, s .pre .1 .0 .long))
 
 mark-requires : tie.Need-mark-requires Inv-loop μ-loop
 mark-requires c κs =

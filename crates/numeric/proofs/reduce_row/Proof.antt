@@ -1,5 +1,6 @@
 use Rattle.numeric.specs.PassLaws.{reduced}
 use Rattle.numeric.specs.StoreLaws.{below-is, list-room}
+use Rattle.numeric.specs.LoadLaws.{loads}
 use Rattle.lent.specs.Reading.{orderOf, placed}
 use lib.ListN.{length}
 use lib.Seq.{length-take-le, length-front}
@@ -64,7 +65,8 @@ returns c =
     λ S rows H L C. reduced S rows (a .n) (a .k) (now (a .f)) (now (a .starts)) (now (a .runs)) (now (a .upper)) (now (a .u)) H (t .pre .place) (t .pre .scratch)
     (now (a .lower)) (placed (orderOf (a .n) (now (a .marks))) (now (a .columns))) (now (a .values)) (a .b) (a .floor) L C (t .pre .lists)
     (c .before .before .before .before .before .before .before .before .before .before .before .before .before .before .before .load-row .last .0) (c .before .before .before .before .before .before .before .before .before .before .eliminate .last .0) _ _ (c .before .before .before .before .before .before .before .before .before .before .eliminate .result) _ _ _ refl
-    (c .before .before .before .before .before .before .before .before .before .before .before .before .before .before .before .load-row .ensures) (c .before .before .before .before .before .before .before .before .before .before .before .before .before .before .before .load-row .kept .0) (c .before .before .before .before .before .before .before .before .before .before .eliminate .ensures) (c .before .before .before .before .before .before .before .list-at .ensures) (c .before .before .before .before .before .slot .ensures .0) (c .before .before .finish-row .ensures)
+    (loads (orderOf (a .n) (now (a .marks))) (now (a .columns)) (now (a .values)) _ _ (t .pre .row .paired) (λ p h. rw (length-take-le (a .n) (now (a .f)) (omega (arith, t .pre .scratch))) (t .pre .row .placeable .inside p h)) (L .fine)
+    (c .before .before .before .before .before .before .before .before .before .before .before .before .before .before .before .load-row .ensures)) (c .before .before .before .before .before .before .before .before .before .before .before .before .before .before .before .load-row .kept .0) (c .before .before .before .before .before .before .before .before .before .before .eliminate .ensures) (c .before .before .before .before .before .before .before .list-at .ensures) (c .before .before .before .before .before .slot .ensures .0) (c .before .before .finish-row .ensures)
 
 pub reduce-row-spec : {M : Type 1} → statement M
 reduce-row-spec =

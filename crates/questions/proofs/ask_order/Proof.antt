@@ -1,4 +1,4 @@
-use Rattle.questions.specs.StampLaws.{unstamped-next, at-most-blank}
+use Rattle.questions.specs.MarkingLaws.{unmarked-blank}
 use Rattle.questions.specs.AskLaws.{found-below, order-stop, order-pass}
 use native.Mathlib.Omega.{arith}
 use borrow.Author.Needs.{needs}
@@ -9,22 +9,22 @@ clear-u32-requires : tie.Need-clear-u32-requires
 clear-u32-requires c κs = search needs
 
 first-fault-requires : tie.Need-first-fault-requires
-first-fault-requires c κs = unstamped-next _ 0 _ (search needs) (at-most-blank _ _ (c .before .before .before .clear-u32 .ensures))
+first-fault-requires c κs = unmarked-blank _ _ _ (search needs) (c .before .before .before .clear-u32 .ensures)
 
 enum-known-f : tie.Need-enum-known-f
 enum-known-f c = search needs
 
 add-t12 : tie.Need-add-t12
-add-t12 c = omega (arith, found-below _ _ _ _ (c .before .before .before .before .before .first-fault .ensures .0) (c .before .f .given .1), c .before .before .before .before .before .before .before .before .before .before .before .before .before .pre)
+add-t12 c = omega (arith, found-below _ _ _ _ (c .before .before .before .before .before .first-fault .ensures) (c .before .f .given .1), c .before .before .before .before .before .before .before .before .before .before .before .before .before .pre)
 
 cast-t13 : tie.Need-cast-t13
-cast-t13 c = omega (arith, found-below _ _ _ _ (c .before .before .before .before .before .first-fault .ensures .0) (c .before .f .given .1), c .before .before .before .before .before .before .before .before .before .before .before .before .before .pre)
+cast-t13 c = omega (arith, found-below _ _ _ _ (c .before .before .before .before .before .first-fault .ensures) (c .before .f .given .1), c .before .before .before .before .before .before .before .before .before .before .before .before .before .pre)
 
 same-length : tie.Need-same-length
 same-length c = search needs
 
 returns : tie.Need-returns
-returns c = order-stop _ _ _ _ _ (c .before .before .before .before .before .before .before .before .before .before .before .before .before .pre .size) (c .before .before .before .before .before .first-fault .ensures .0) (c .before .f .given .1)
+returns c = order-stop _ _ _ _ _ (c .before .before .before .before .before .before .before .before .before .before .before .before .before .pre .size) (c .before .before .before .before .before .first-fault .ensures) (c .before .f .given .1)
 
 enum-told : tie.Need-enum-told
 enum-told c = search needs

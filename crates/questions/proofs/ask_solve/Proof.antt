@@ -1,7 +1,6 @@
-use Rattle.matrix.specs.Questions.{askPattern, askRows, askSolve}
-use Rattle.questions.specs.SettledLaws.{rows-lent}
+use Rattle.matrix.specs.Questions.{askPattern, askSolve}
+use Rattle.questions.specs.SettledLaws.{places-lent}
 use Rattle.questions.specs.AskLaws.{then-stop, then-pass}
-use native.Mathlib.Omega.{arith}
 use borrow.Author.Needs.{needs}
 use Rattle.questions.proofs.ask_solve.Statement.{statement}
 use Rattle.questions.proofs.ask_solve.Tie as tie
@@ -38,14 +37,14 @@ returns-2 c = search (then-stop, then-pass) depth 10
 enum-told-2 : tie.Need-enum-told-2
 enum-told-2 c = search needs
 
-ask-rows-requires : tie.Need-ask-rows-requires
-ask-rows-requires c κs = rows-lent _ _ _ _ _ _ _ _ _ _ (c .before .before .before .before .before .before .before .before .before .before .before .before .before .before .before .before .before .pre .lent) (omega (arith, c .before .before .before .before .before .before .before .before .before .before .before .before .before .before .before .before .before .pre .lent .orders .slots)) (c .before .before .before .before .before .before .before .before .ask-pattern .ensures) (c .before .before .before .before .enum-told .given .1)
+ask-entries-requires : tie.Need-ask-entries-requires
+ask-entries-requires c κs = places-lent _ _ _ _ _ _ _ _ _ (c .before .before .before .before .before .before .before .before .before .before .before .before .before .before .before .before .pre .lent) (c .before .before .before .before .before .before .before .ask-pattern .ensures) (c .before .before .before .enum-told .given .1)
 
 same-length-3 : tie.Need-same-length-3
 same-length-3 c = search needs
 
 returns-3 : tie.Need-returns-3
-unfolding askSolve askPattern askRows
+unfolding askSolve askPattern
 returns-3 c = search then-pass depth 10
 
 pub ask-solve-spec : {M : Type 1} → statement M
@@ -62,6 +61,6 @@ ask-solve-spec =
     same-length-2
     returns-2
     enum-told-2
-    ask-rows-requires
+    ask-entries-requires
     same-length-3
     returns-3)

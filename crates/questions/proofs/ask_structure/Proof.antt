@@ -1,7 +1,6 @@
-use Rattle.matrix.specs.Questions.{askRows, askStructure}
-use Rattle.questions.specs.SettledLaws.{rows-lent}
+use Rattle.matrix.specs.Questions.{askStructure}
+use Rattle.questions.specs.SettledLaws.{places-lent}
 use Rattle.questions.specs.AskLaws.{then-stop, then-pass}
-use native.Mathlib.Omega.{arith}
 use borrow.Author.Needs.{needs}
 use Rattle.questions.proofs.ask_structure.Statement.{statement}
 use Rattle.questions.proofs.ask_structure.Tie as tie
@@ -22,14 +21,14 @@ returns c = search then-stop depth 8
 enum-told : tie.Need-enum-told
 enum-told c = search needs
 
-ask-rows-requires : tie.Need-ask-rows-requires
-ask-rows-requires c κs = rows-lent _ _ _ _ _ _ _ _ _ _ (c .before .before .before .before .before .before .before .before .before .before .before .before .pre) (omega (arith, c .before .before .before .before .before .before .before .before .before .before .before .before .pre .orders .slots)) (c .before .before .before .before .before .ask-pattern .ensures) (c .before .enum-told .given .1)
+ask-entries-requires : tie.Need-ask-entries-requires
+ask-entries-requires c κs = places-lent _ _ _ _ _ _ _ _ _ (c .before .before .before .before .before .before .before .before .before .before .before .pre) (c .before .before .before .before .ask-pattern .ensures) (c .enum-told .given .1)
 
 same-length-2 : tie.Need-same-length-2
 same-length-2 c = search needs
 
 returns-2 : tie.Need-returns-2
-unfolding askStructure askRows
+unfolding askStructure
 returns-2 c = search then-pass depth 8
 
 pub ask-structure-spec : {M : Type 1} → statement M
@@ -41,6 +40,6 @@ ask-structure-spec =
     same-length
     returns
     enum-told
-    ask-rows-requires
+    ask-entries-requires
     same-length-2
     returns-2)

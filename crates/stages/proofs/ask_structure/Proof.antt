@@ -15,7 +15,7 @@ given s = let a = s .args in inputOf (a .n) (a .starts .now) (a .columns .now) [
 abbrev Begin : tie.After-shape-structure → tie.Start
 Begin s = s .before .before .before .before .before .before .before
 
--- 3 to 8, once 1 and 2 are passed
+-- 3 to 7, once 1 and 2 are passed
 abbrev Goes : tie.After-ask-structure → tie.Else1
 Goes s = s .before .before
 
