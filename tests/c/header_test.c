@@ -637,6 +637,7 @@ static void nulls(void)
 enum {
     FLAGS = 0x003F,
     DENORMALS_ARE_ZERO = 0x0040,
+    INVALID_MASKED = 0x0080,
     ZERO_DIVISION_MASKED = 0x0200,
     OVERFLOW_MASKED = 0x0400,
     DEFAULT = 0x1F80,
@@ -698,6 +699,7 @@ static void environments(void)
     expect(traps(DEFAULT & ~OVERFLOW_MASKED, 0x1p-1024), "with a trap for overflow 2^-1024 ends in a signal");
     expect(!traps(DEFAULT & ~ZERO_DIVISION_MASKED, 0x1p-1024) && !traps(DEFAULT & ~ZERO_DIVISION_MASKED, 0.0),
            "nothing is divided by zero");
+    expect(!traps(DEFAULT & ~INVALID_MASKED, 3.0), "a solve that is done has no invalid operation");
 }
 
 int main(void)

@@ -113,7 +113,7 @@ unfoldable pub loadRun : ℕ → List ℕ → List (ℕ × Float) → List Float
 loadRun k seen [] w = give w
 loadRun k seen (e ∷ es) w = enterRun k (has seen (e .0)) (getD w (e .0) nan) (e .1) ▸ λ v. loadRun k (e .0 ∷ seen) es (set w (e .0) v)
 
--- "1. w = +0 at each filled position of row k, then the entries of M'. s = b(r(k))."
+-- "1. w = +0 at each filled position of row k, then the entries of M'. s = b(r(k))." The additions "belong to step 1 of place k and count among the listed operations"
 unfoldable pub step1 : System → ℕ → Run Work
 unfolding loadRun
 step1 S k = loadRun k [] (S .entries k) (replicate (S .n) nought) ▸ λ w. give (record { l = []; w = w; s = S .rhs k })

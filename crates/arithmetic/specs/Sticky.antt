@@ -1,5 +1,5 @@
--- Not finite is sticky: an operand that is not finite makes a product and a difference not finite. So one test at a row's end answers as a test of
--- each result does.
+-- Not finite is sticky: an operand that is not finite makes a sum, a product and a difference not finite. So one test at a row's end answers as a
+-- test of each result does.
 use mathlib.Core.Path.{_≡_, refl, sym, _∙_, ap, subst}
 use mathlib.Core.Logic.{_⊎_, inl, inr, ⊎-elim}
 use mathlib.Core.Bool.{Bool, true, false, true≢false, cond, _&&_, Bool·beq, and-false}
@@ -33,7 +33,7 @@ mul-left f (inf s) (inf t) h = refl
 mul-left f (inf s) (fin t n d) h = cond-not (eqb n 0) _ _ refl refl
 mul-left f (fin s m e) b h = let z : true ≡ false = h in absurd (subst T z tt)
 
-pub add-left : (f : Format) (a b : Float) → finite a ≡ false → finite (add f a b) ≡ false
+add-left : (f : Format) (a b : Float) → finite a ≡ false → finite (add f a b) ≡ false
 unfolding add
 add-left f nan b h = refl
 add-left f (inf s) nan h = refl

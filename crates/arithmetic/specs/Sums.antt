@@ -1,22 +1,22 @@
 -- Step 1 column by column: what the entries of a row leave at a place is the sum of its own values alone, and 13 is told exactly where one of these sums is not finite.
--- So neither the row nor the answer depends on the order among columns in which `loadRun` adds.
+-- So neither the row nor the answer depends on the order among columns in which `loadRun` adds (sums-alike).
 use mathlib.Core.Path.{_≡_, refl, sym, ap, _∙_}
-use mathlib.Core.Bool.{Bool, true, false, cond}
+use mathlib.Core.Bool.{Bool, true, false, true≢false, cond}
 use mathlib.Core.Logic.{_⊎_, inl, inr, ⊎-elim}
 use mathlib.Core.List.{List, [], _∷_, List·Memᴰ}
 use Prim.Native.Nat.{ℕ, _<_}
 use native.Mathlib.Decide.{ℕ-discrete}
 use lib.ListN.{length, getD, set, length-set}
-use lib.Seq.{getD-set-same, getD-set-other}
+use lib.Seq.{getD-set-same, getD-set-other, ext-getD}
 use lib.Dec.{eqb}
 use lib.Ieee.{Float, nan, binary64, add}
 use lib.Ieee.Scale.{finite}
 use borrow.Author.Tests.{eq-eqb, ne-eqb}
 use Rattle.base.specs.Lists.{has, pairs}
 use Rattle.arithmetic.specs.Arith.{_▸_, judged, ok, met, overflow, enterRun, loadRun}
-use Rattle.arithmetic.specs.Stopping.{_>>=_, any, at, enter, load}
+use Rattle.arithmetic.specs.Stopping.{_>>=_, any, enter, load}
 use Rattle.arithmetic.specs.StoppingLaws.{load-judged}
-use Rattle.arithmetic.specs.Sticky.{ok-inj, entered, load-more, load-at}
+use Rattle.arithmetic.specs.Sticky.{ok-inj, entered, load-more, load-keeps, load-at}
 
 -- the values at place j, in stored order
 unfoldable pub valuesAt : List ℕ → List Float → ℕ → List Float
@@ -78,6 +78,9 @@ module _ (k : ℕ) (js : List ℕ) (vs w : List Float) where
   unfolding has
   sum-at j l = place-sum [] js vs w (loadRun k [] (pairs js vs) w .value) (load-value k [] (pairs js vs) w) j l
 
+  pub sums-long : length (loadRun k [] (pairs js vs) w .value) ≡ length w
+  sums-long = load-keeps [] js vs w _ (load-value k [] (pairs js vs) w) .1
+
   -- of finite values: either no sum makes a finite row not finite, or one is not finite and the answer is 13 at k, under every floor
   pub sums-told : (floor : Float) → ((j : ℕ) → List·Memᴰ j js → j < length w) → ((p : ℕ) → p < length vs → finite (getD vs p nan) ≡ true)
       → ((judged floor (loadRun k [] (pairs js vs) w) ≡ ok (loadRun k [] (pairs js vs) w .value)) × ((j : ℕ) → j < length w → finite (getD w j nan) ≡ true → finite (summed (getD w j nan) (valuesAt js vs j)) ≡ true))
@@ -87,3 +90,23 @@ module _ (k : ℕ) (js : List ℕ) (vs w : List Float) where
       ⊎-elim (λ p. inl (e ∙ p .0, λ j l f. ap finite (sym (sum-at j l)) ∙ p .1 j f))
       (λ p. inr (e ∙ p .0, (p .1 .0, p .1 .1, ap finite (sym (sum-at (p .1 .0) (range (p .1 .0) (p .1 .1)))) ∙ p .1 .2)))
       (load-at k [] js vs w (loadRun k [] (pairs js vs) w .value) (load-value k [] (pairs js vs) w) range fine)
+
+unequal : (s : Float) (vs us : List Float) → vs ≡ us → finite (summed s vs) ≡ true → finite (summed s us) ≡ false → ⊥
+unequal s vs us e t f = true≢false (sym t ∙ ap (λ l. finite (summed s l)) e ∙ f)
+
+-- two rows that have the same values at each place, in whatever order among places, are judged alike over a finite row
+module _ (k : ℕ) (js is : List ℕ) (vs us w : List Float) (same : (j : ℕ) → valuesAt js vs j ≡ valuesAt is us j) where
+  value-alike : loadRun k [] (pairs js vs) w .value ≡ loadRun k [] (pairs is us) w .value
+  value-alike =
+      ext-getD nan _ _ (sums-long k js vs w ∙ sym (sums-long k is us w))
+      (λ j h. let g = rw (sums-long k js vs w) at h in sum-at k js vs w j g ∙ ap (summed (getD w j nan)) (same j) ∙ sym (sum-at k is us w j g))
+
+  pub sums-alike : (floor : Float) → ((j : ℕ) → List·Memᴰ j js → j < length w) → ((j : ℕ) → List·Memᴰ j is → j < length w)
+      → ((p : ℕ) → p < length vs → finite (getD vs p nan) ≡ true) → ((p : ℕ) → p < length us → finite (getD us p nan) ≡ true)
+      → ((j : ℕ) → j < length w → finite (getD w j nan) ≡ true) → judged floor (loadRun k [] (pairs js vs) w) ≡ judged floor (loadRun k [] (pairs is us) w)
+  sums-alike floor rj ri fv fu fw =
+      ⊎-elim (λ p. ⊎-elim (λ q. p .0 ∙ ap ok value-alike ∙ sym (q .0))
+      (λ q. let j = q .1 .0 in let l = ri j (q .1 .1) in absurd (unequal _ _ _ (same j) (p .1 j l (fw j l)) (q .1 .2))) (sums-told k is us w floor ri fu))
+      (λ p. ⊎-elim (λ q. let j = p .1 .0 in let l = rj j (p .1 .1) in absurd (unequal _ _ _ (sym (same j)) (q .1 j l (fw j l)) (p .1 .2)))
+      (λ q. p .0 ∙ sym (q .0)) (sums-told k is us w floor ri fu))
+      (sums-told k js vs w floor rj fv)

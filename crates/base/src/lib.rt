@@ -111,6 +111,7 @@ pub enum Refusal {
     Order(u32),
     NotFinite(u32),
     EmptyRow(OwnNumber),
+    // 8 is reserved: a row may have a column several times.
     NullPivot(Place),
     LowerSlots(Place),
     UpperSlots(Place),

@@ -21,11 +21,11 @@ use Rattle.outcome.specs.Forms.{placedTo, indexNeed, valueNeed}
 use Rattle.outcome.specs.Buffers.{askShape, scratchCleared, sideCleared, cleared}
 use Rattle.outcome.specs.Structure.{fits, askPlace, askPlaces, counts, sidePlaced}
 use Rattle.outcome.specs.Solve.{system, listed, valuesKept, pivotsKept, kept, shape, solve}
-use Rattle.cases.specs.Table.{seen, Case, outcomeOf, floats, graph, two, single, under, several, cancelled, behind, swapped, cornerless, ones, arrow, boundary}
+use Rattle.cases.specs.Table.{seen, Case, outcomeOf, floats, graph, two, single, under, several, cancelled, aside, behind, swapped, cornerless, ones, arrow, boundary}
 
 -- one computed test of the whole table
 pub holds : map outcomeOf boundary ≡ map (λ (c : Case). c .expected) boundary
-unfolding outcomeOf boundary seen floats graph two single under several cancelled behind swapped cornerless ones arrow solve shape askShape askSolve askPattern ask3 ask4 ask5 ask6 ask7 askFinite first badStart badColumn badIndex isOf notFinite emptyRow noEntry listAt pairs askPlaces askPlace filled reach stored has fits indexNeed valueNeed placedTo placed after plain shared appendAll fresh meets overlap tailOr tails bestFrom countAbove firstAt agree startOf upperRow lowerRow asc upper listed system entries rightAt ic judged wholeRun loadRun step1 subtractRun stepRun step2 scaledRun step3 rowRun forwardRun restRun backRun counts sum count lowerColumn products ownOrder table kept sidePlaced valuesKept pivotsKept padded joined cleared sideCleared scratchCleared ofBits toBits add sub mul div askNumbers askFloor isFloor atMost lt eq le
+unfolding outcomeOf boundary seen floats graph two single under several cancelled aside behind swapped cornerless ones arrow solve shape askShape askSolve askPattern ask3 ask4 ask5 ask6 ask7 askFinite first badStart badColumn badIndex isOf notFinite emptyRow noEntry listAt pairs askPlaces askPlace filled reach stored has fits indexNeed valueNeed placedTo placed after plain shared appendAll fresh meets overlap tailOr tails bestFrom countAbove firstAt agree startOf upperRow lowerRow asc upper listed system entries rightAt ic judged wholeRun loadRun step1 subtractRun stepRun step2 scaledRun step3 rowRun forwardRun restRun backRun counts sum count lowerColumn products ownOrder table kept sidePlaced valuesKept pivotsKept padded joined cleared sideCleared scratchCleared ofBits toBits add sub mul div askNumbers askFloor isFloor atMost lt eq le
 holds = refl
 
 -- the file's matrix is the table's first

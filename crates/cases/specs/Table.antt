@@ -130,6 +130,12 @@ cancelled =
     graph 2 (0 ∷ 3 ∷ 5 ∷ []) (1 ∷ 0 ∷ 1 ∷ 0 ∷ 1 ∷ []) (0x3ff0000000000000 ∷ 0x3ff0000000000000 ∷ 0xbff0000000000000 ∷ 0x3ff0000000000000 ∷ 0x3ff0000000000000 ∷ [])
     (0 ∷ 1 ∷ []) (0 ∷ 1 ∷ []) (0x3ff0000000000000 ∷ 0x4008000000000000 ∷ [])
 
+-- a diagonal of ones with these values at (0, 1), b = (−0, 1): x(0) is +0 where they come to −0, and −0 where they come to +0
+unfoldable pub aside : List ℕ → Input
+aside v =
+    graph 2 (0 ∷ (length v + 1) ∷ (length v + 2) ∷ []) (0 ∷ (replicate (length v) 1 ++ (1 ∷ []))) (0x3ff0000000000000 ∷ (v ++ (0x3ff0000000000000 ∷ [])))
+    (0 ∷ 1 ∷ []) (0 ∷ 1 ∷ []) (0x8000000000000000 ∷ 0x3ff0000000000000 ∷ [])
+
 -- (0, 0) = v; the two values at (1, 1) add up to infinity
 unfoldable pub behind : ℕ → Input
 behind v = graph 2 (0 ∷ 1 ∷ 3 ∷ []) (0 ∷ 1 ∷ 1 ∷ []) (v ∷ 0x7fefffffffffffff ∷ 0x7fefffffffffffff ∷ []) (0 ∷ 1 ∷ []) (0 ∷ 1 ∷ []) (0x3ff0000000000000 ∷ 0x3ff0000000000000 ∷ [])
@@ -200,7 +206,7 @@ boundary =
     -- the arrow's second pivot, 3/2 after step 2, under the floor 3/2
     ++ refusals (withFloor (ofBits binary64 0x3ff8000000000000) arrow) (slots 3 3 3 3) 12 1
     -- a column several times in a row: 1 + 1; 1 + 2^−53 + 2^−53, and from the other end; 1 − 1 and −0 − 0, which keep their position;
-    -- the greatest number twice, then taken off; a position whose sum is zero; a sum that is not finite behind another refusal, and by itself
+    -- the greatest number twice, then taken off; a position whose sum is zero; −0 alone, which stays, and +0 − 0; a sum that is not finite behind another refusal, and by itself
     ++ solutions (several (0x3ff0000000000000 ∷ 0x3ff0000000000000 ∷ [])) (slots 0 0 0 0) (0 ∷ 0 ∷ 0 ∷ []) (0x3fe0000000000000 ∷ []) (0x3fe0000000000000 ∷ []) [] [] []
     ++ solutions (several (0x3ff0000000000000 ∷ 0x3ca0000000000000 ∷ 0x3ca0000000000000 ∷ [])) (slots 0 0 0 0) (0 ∷ 0 ∷ 0 ∷ []) (0x3ff0000000000000 ∷ []) (0x3ff0000000000000 ∷ []) [] [] []
     ++ solutions (several (0x3ca0000000000000 ∷ 0x3ca0000000000000 ∷ 0x3ff0000000000000 ∷ [])) (slots 0 0 0 0) (0 ∷ 0 ∷ 0 ∷ []) (0x3feffffffffffffe ∷ []) (0x3feffffffffffffe ∷ []) [] [] []
@@ -208,5 +214,7 @@ boundary =
     ++ refusals (several (0x8000000000000000 ∷ 0x8000000000000000 ∷ [])) (slots 0 0 0 0) 12 0
     ++ refusals (several (0x7fefffffffffffff ∷ 0x7fefffffffffffff ∷ 0xffefffffffffffff ∷ [])) (slots 0 0 0 0) 13 0
     ++ solutions cancelled (slots 1 1 1 1) (1 ∷ 1 ∷ 1 ∷ []) (0x3ff0000000000000 ∷ 0x4000000000000000 ∷ []) (0x3ff0000000000000 ∷ 0x3ff0000000000000 ∷ []) (0 ∷ []) (1 ∷ []) (1 ∷ [])
+    ++ solutions (aside (0x8000000000000000 ∷ [])) (slots 0 0 1 1) (0 ∷ 1 ∷ 0 ∷ []) (0 ∷ 0x3ff0000000000000 ∷ []) (0x3ff0000000000000 ∷ 0x3ff0000000000000 ∷ []) [] [] (1 ∷ [])
+    ++ solutions (aside (0 ∷ 0x8000000000000000 ∷ [])) (slots 0 0 1 1) (0 ∷ 1 ∷ 0 ∷ []) (0x8000000000000000 ∷ 0x3ff0000000000000 ∷ []) (0x3ff0000000000000 ∷ 0x3ff0000000000000 ∷ []) [] [] (1 ∷ [])
     ++ refusals (behind 0) (slots 0 0 0 0) 12 0
     ++ refusals (behind 0x3ff0000000000000) (slots 0 0 0 0) 13 1

@@ -1,5 +1,5 @@
 -- The load passes questions 3 to 7, and 19 with every floor that is one, and its lists are what 1 and 2 ask for, with e its entry count. No claim is made on pivots.
-use Prim.Native.Nat.{ℕ, zero, suc, _+_, _-_, _<_, _≤_}
+use Prim.Native.Nat.{ℕ, zero, suc, _+_, _<_, _≤_}
 use mathlib.Core.Path.{_≡_, refl, sym, ap, _∙_}
 use mathlib.Core.Bool.{true, false, not, _&&_}
 use mathlib.Core.List.{List, [], _∷_, _++_, map}
@@ -9,7 +9,7 @@ use lib.Dec.{ltb, eqb}
 use lib.Ieee.{Float, nan}
 use lib.Ieee.Scale.{finite}
 use borrow.Author.Tests.{le-ltb, lt-leb, eqb-true, eq-eqb, ne-eqb}
-use Rattle.base.specs.Lists.{listAt, rowOf, table, joined, sum}
+use Rattle.base.specs.Lists.{table, joined, sum}
 use Rattle.base.specs.Limits.{maxRows, maxEntries}
 use Rattle.base.specs.Tests.{by-test}
 use Rattle.base.specs.FirstLaws.{first-all}

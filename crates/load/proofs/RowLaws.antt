@@ -1,16 +1,13 @@
--- The rows of the load: each has an entry, none a column twice, and all columns are below n.
+-- The rows of the load: each has an entry, none more than four, and all columns are below n.
 use Prim.Native.Nat.{ℕ, zero, suc, _+_, _*_, _<_, _≤_}
-use mathlib.Core.Path.{_≡_, refl, sym}
-use mathlib.Core.Bool.{false, true≢false}
-use mathlib.Core.List.{List, [], _∷_, _++_, append-nil, append-assoc}
+use mathlib.Core.Path.{_≡_, refl}
+use mathlib.Core.List.{List, [], _∷_, _++_}
 use native.Mathlib.Nat.{mod-lt}
 use native.Mathlib.Decide.{decLt}
 use native.Mathlib.Omega.{arith}
-use lib.ListN.{length, getD, take, drop, length-append, List·getD-append}
-use lib.Seq.{take-at, drop-at, getD-at}
-use lib.Dec.{eqb}
-use borrow.Author.Tests.{eq-eqb}
-use Rattle.base.specs.Lists.{has, joined, sum}
+use lib.ListN.{length, getD, length-append, List·getD-append}
+use lib.Seq.{getD-at}
+use Rattle.base.specs.Lists.{has, sum}
 use Rattle.base.specs.Tests.{by-test}
 use Rattle.load.specs.Load.{columnOf, added, Drawing, draw, seedAt, rowAt, entriesAt}
 
@@ -18,13 +15,6 @@ use Rattle.load.specs.Load.{columnOf, added, Drawing, draw, seedAt, rowA
 pub record Row (n : ℕ) (row : List ℕ) : Type 0 where
   pub some : 0 < length row
   pub below : (p : ℕ) → p < length row → getD row p 0 < n
-  pub apart : (p q : ℕ) → q < p → p < length row → getD row q 0 ≡ getD row p 0 → ⊥
-
-has-none : (l : List ℕ) (j q : ℕ) → has l j ≡ false → q < length l → getD l q 0 ≡ j → ⊥
-unfolding has
-has-none [] j q h l e = absurd (omega arith)
-has-none (x ∷ xs) j zero h l e = true≢false (rw (eq-eqb x j e) at h)
-has-none (x ∷ xs) j (suc q) h l e = by-test (eqb x j) (λ t. true≢false (rw t at h)) (λ t. has-none xs j q (rw t at h) (omega arith) e)
 
 module _ (n : ℕ) (row : List ℕ) (j : ℕ) (R : Row n row) (l : j < n) where
   last-is : getD (row ++ (j ∷ [])) (length row) 0 ≡ j
@@ -33,22 +23,18 @@ module _ (n : ℕ) (row : List ℕ) (j : ℕ) (R : Row n row) (l : j < n) where
   front-is : (p : ℕ) → p < length row → getD (row ++ (j ∷ [])) p 0 ≡ getD row p 0
   front-is p h = List·getD-append row (j ∷ []) 0 p h
 
-  row-longer : has row j ≡ false → Row n (row ++ (j ∷ []))
-  row-longer h = record {
+  row-longer : Row n (row ++ (j ∷ []))
+  row-longer = record {
     some = simp length-append (omega arith);
     below = λ p b. let c : p < length row + 1 = rw length-append at b in elim (decLt p (length row)) [
       | yes q ↦ rw (front-is p q) (R .below p q)
       | no q ↦ (let e : p ≡ length row = omega arith in rw (e, last-is) l)
     ];
-    apart = λ p q a b e. let c : p < length row + 1 = rw length-append at b in elim (decLt p (length row)) [
-      | yes r ↦ R .apart p q a r (rw (front-is p r, front-is q (omega arith)) at e)
-      | no r ↦ (let d : p ≡ length row = omega arith in has-none row j q h (omega arith) (rw (d, last-is, front-is q (omega arith)) at e))
-    ];
   }
 
   row-added : Row n (added row j)
   unfolding added
-  row-added = by-test (has row j) (λ t. rw t R) (λ t. rw t (row-longer t))
+  row-added = by-test (has row j) (λ t. rw t R) (λ t. rw t row-longer)
 
 row-drawn : (n : ℕ) (d : Drawing) → 0 < n → Row n (d .row) → Row n (draw n d .row)
 unfolding columnOf
@@ -61,7 +47,6 @@ row-at n s k h =
     row-drawn n _ z (row-drawn n _ z (row-drawn n (record { row = k ∷ []; seed = seedAt n s k }) z (record {
       some = omega arith;
       below = elim [ zero ↦ λ l. h | suc p ↦ λ l. absurd (omega arith) ];
-      apart = λ p q a l e. absurd (omega arith);
     })))
 
 -- ---- no row has more than four entries
@@ -78,18 +63,3 @@ pub entries-most : (n s k : ℕ) → entriesAt n s k ≤ 4 * k
 unfolding entriesAt sum
 entries-most n s zero = omega arith
 entries-most n s (suc k) = omega (arith, entries-most n s k, row-short n s k)
-
--- ---- a row in the stores
-
-split : {A : Type 0} (f : ℕ → List A) (i n : ℕ) → i < n → (rest : List A) × (joined f n ≡ joined f i ++ (f i ++ rest))
-unfolding joined
-split f i zero h = absurd (omega arith)
-split f i (suc m) h = elim (decLt i m) [
-  | yes q ↦ (let r = split f i m q in (r .0 ++ f m, rw (r .1, append-assoc, append-assoc)))
-  | no q ↦ (let e : i ≡ m = omega arith in ([], rw (e, append-nil)))
-]
-
-pub part-is : {A : Type 0} (f : ℕ → List A) (i n m : ℕ) → i < n → m ≡ length (joined f i) → take (length (f i)) (drop m (joined f n)) ≡ f i
-part-is f i n m h e =
-    let r = split f i n h in
-    rw (r .1, drop-at (joined f i) (f i ++ r .0) m (sym e)) (take-at (f i) (r .0) (length (f i)) refl)

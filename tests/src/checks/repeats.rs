@@ -218,8 +218,8 @@ fn overflowing() -> Input {
     ])
 }
 
-/// Faults beside the sum. Those of the questions come first; of the results, those of place 0. The row form has no lower side, and solves
-/// write over list starts.
+/// Faults beside the sum. Those of the questions come first; of the results, those of place 0. The row form has no lower
+/// side, and solves write over list starts.
 const BESIDE: [Fault; 16] = [
     ("nothing else", |_| (), [13; 3]),
     ("n = 0", |case| case.input.n = 0, [1; 3]),
