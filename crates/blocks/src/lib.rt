@@ -1,7 +1,7 @@
 // Blocks of 512 bytes: a payload of 504, the block's number and two checks. Questions 16 and 17, and the sealing of a file.
 ghost use mathlib.Core.Path.{_≡_};
 ghost use mathlib.Core.List.{_++_};
-ghost use Prim.Native.Nat.{ℕ, _+_, _*_, _/_, _^_, _≤_, _<_};
+ghost use Prim.Native.Nat.{_+_, _*_, _/_, _^_, _≤_, _<_};
 ghost use lib.ListN.{length, take, drop};
 ghost use lib.Seq.{sets};
 ghost use Rattle.fields.specs.Numbers.{le, bytes};

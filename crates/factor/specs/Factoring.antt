@@ -12,7 +12,7 @@ use Rattle.base.specs.declared.Form.{Form}
 use Rattle.base.specs.declared.Form.the-variants.{Plain, Shared, ByRow}
 use Rattle.base.specs.declared.Side.the-variants.{Lower, Upper}
 use Rattle.fill.specs.Fill.{Pattern, lowerRow}
-use Rattle.matrix.specs.Input.{Input, ic, stored}
+use Rattle.matrix.specs.Input.{Input, stored}
 use Rattle.arithmetic.specs.Arith.{Out, ok, met, zeroPivot, overflow, System, Row, none, Result}
 use Rattle.outcome.specs.Forms.{valueNeed}
 use Rattle.outcome.specs.Placed.{PlacedSide}

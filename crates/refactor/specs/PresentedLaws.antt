@@ -29,7 +29,7 @@ use Rattle.stages.specs.Stages.{isStop, endOf, blankIf, Concludes, Concluded}
 use Rattle.stages.specs.Shaped.{sideOf, sizesOf, pattern, SolveDue, FactorDue}
 use Rattle.stages.specs.ShapedLaws.{plain-lent, shared-lent, pattern-structured, starts-of, factor-due}
 use Rattle.stages.specs.Branches.{never}
-use Rattle.stages.specs.Asking.{Blanked, Asking, SolveAsking, asking-stopped, asking-more, stops-call, goes-on, as-was, blank-scratch}
+use Rattle.stages.specs.Asking.{Blanked, SolveAsking, asking-stopped, asking-more, stops-call, goes-on, as-was, blank-scratch}
 use Rattle.stages.specs.Ends.{blank-of, nothing-stored}
 use Rattle.refactor.specs.Presented.{PresentedAsking, RefactorsBy}
 

@@ -1,7 +1,7 @@
 // The placing of a side's lists in its index store, by writing and by comparing. The slices of a side: index holds the lists,
 // starts the list starts and runs the run starts. In the plain form the list starts are the run starts.
 ghost use mathlib.Core.Path.{_≡_};
-ghost use Prim.Native.Nat.{ℕ, _+_, _-_, _≤_, _<_, min};
+ghost use Prim.Native.Nat.{_+_, _-_, _≤_, _<_, min};
 ghost use mathlib.Core.Bool.{cond};
 ghost use mathlib.Core.List.{[]};
 ghost use lib.Dec.{ltb, eqb};

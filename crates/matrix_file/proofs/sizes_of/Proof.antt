@@ -41,7 +41,6 @@ use denote.Triple.Clauses.{ensured, lasts}
 use Rattle.fields.specs.Payload.{room, payload}
 use Rattle.fields.specs.Numbers.{le}
 use Rattle.fields.specs.declared.Reader.{Reader}
-use Rattle.matrix_file.specs.declared.Sizes.{Sizes}
 use Rattle.fields.proofs.Reader as T
 use Rattle.fields.proofs.Reader.Laws as T′
 use Rattle.matrix_file.proofs.Sizes as S
