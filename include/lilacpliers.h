@@ -40,7 +40,7 @@
  *
  * Scratch: scratch_f64 has 3n slots, scratch_u32 has 8n + 8. Its contents on entry do not matter. LP_STARTS_LEN,
  * LP_SCRATCH_F64, LP_SCRATCH_U32, LP_FILE_BYTES, LP_LOAD_SLOTS and LP_SHEET_BYTES, below, give the lengths that n and e
- * fix.
+ * fix, LP_FACTOR_BYTES that of a factor file.
  *
  * The answer: each call returns 0 for done or the number of the question answered with no (LP_..., below), and
  * fills `report` as far as report_len goes: report[0] is the place that the refusal names, 0 where it names none.
@@ -69,7 +69,7 @@ extern "C" {
 
 /* The version of this interface. It is raised whenever a function, a number or what a buffer holds changes, so that
  * a caller can refuse to be compiled against another one. */
-#define LP_VERSION 6
+#define LP_VERSION 7
 
 /* The limits of n, of e and of the slots of a store. */
 #define LP_MAX_ROWS 4096
@@ -78,11 +78,14 @@ extern "C" {
 
 /* Lengths that n and e fix, as size_t; an argument is evaluated once. LP_STARTS_LEN: slots of starts, lower_starts and
  * upper_starts. LP_SCRATCH_F64 and LP_SCRATCH_U32: slots of scratch. LP_FILE_BYTES: bytes of a matrix file.
+ * LP_FACTOR_BYTES: bytes of a factor file of so many lower and upper entries.
  * LP_LOAD_SLOTS: slots of columns and values of lp_test_load. LP_SHEET_BYTES: bytes of the sheet of lp_fill_sheet. */
 #define LP_STARTS_LEN(n) ((size_t)(n) + 1)
 #define LP_SCRATCH_F64(n) (3 * (size_t)(n))
 #define LP_SCRATCH_U32(n) (8 * (size_t)(n) + 8)
 #define LP_FILE_BYTES(n, e) (512 * ((12 + 16 * (size_t)(n) + 10 * (size_t)(e) + 503) / 504))
+#define LP_FACTOR_BYTES(n, lower, upper) \
+    (512 * ((28 + 20 * (size_t)(n) + 10 * (size_t)(lower) + 10 * (size_t)(upper) + 503) / 504))
 #define LP_LOAD_SLOTS(n) (4 * (size_t)(n))
 #define LP_SHEET_BYTES(n) (2050 * (((size_t)(n) + 48) / 49))
 
@@ -107,6 +110,8 @@ extern "C" {
 #define LP_BLOCK 17           /* a block's number or checks are wrong: its number */
 #define LP_FILE_SHAPE 18      /* e is over its limit, or blocks and closing zeros do not fit n and e */
 #define LP_FLOOR 19           /* the floor is negative, infinite or not a number; asked right after 6 */
+#define LP_FACTOR_SHAPE 20    /* blocks and closing zeros of a factor file do not fit n, lower and upper; before 2 */
+#define LP_PRODUCTS 21        /* products is not the sum over the lists; last */
 
 /* Sides of the diagonal, for lp_list_plain and lp_list_shared. Every number but LP_LOWER is the upper side. */
 #define LP_LOWER 0
@@ -397,6 +402,51 @@ uint32_t lp_write_matrix(
     const uint16_t *r, size_t r_len,
     const uint16_t *c, size_t c_len,
     const double *b, size_t b_len,
+    uint8_t *file, size_t file_len,
+    uint64_t *report, size_t report_len);
+
+/* Finds n, lower and upper of a factor file: report[1] to report[3], 0 after a refusal. lower and upper may be more
+ * than a store may have slots; such a file cannot be read.
+ * Asks 16, 17, 1 and 20. Writes nothing but the report. */
+uint32_t lp_factor_shape(
+    const uint8_t *file, size_t file_len,
+    uint64_t *report, size_t report_len);
+
+/* Reads a factor file: the plain form's factors and the orders that they were found by, as lp_resolve_plain takes them.
+ * Lengths: n for r, c and d, n + 1 for the starts, at least lower and upper slots for the stores; unused slots end zero.
+ * The report has the counts, as after lp_solve_plain. It needs 32 kB of the stack for the orders.
+ * Asks 16, 17, 1, 20, 2, 5, 15 (stores end at lower and upper; starts that end elsewhere are at n - 1) and 21.
+ * A refusal writes nothing but the report. */
+uint32_t lp_read_factors(
+    const uint8_t *file, size_t file_len,
+    uint16_t *r, size_t r_len,
+    uint16_t *c, size_t c_len,
+    uint32_t *lower_starts, size_t lower_starts_len,
+    uint16_t *lower_index, size_t lower_index_len,
+    double *lower_values, size_t lower_values_len,
+    uint32_t *upper_starts, size_t upper_starts_len,
+    uint16_t *upper_index, size_t upper_index_len,
+    double *upper_values, size_t upper_values_len,
+    double *d, size_t d_len,
+    uint64_t *report, size_t report_len);
+
+/* Writes factors of the plain form, with the counts that the solve gave and its orders. The file's length is
+ * LP_FACTOR_BYTES(n, lower, upper); the stores may be longer than the lists. It needs 16 kB of the stack.
+ * Asks 1, 2 (any length, the file's too), 5, 15 and 21, as lp_read_factors does. What lp_solve_plain or
+ * lp_refactor_plain left is never refused over buffers of these lengths.
+ * A refusal writes nothing but the report. report[0] is the place; there are no counts. */
+uint32_t lp_write_factors(
+    size_t n,
+    uint64_t lower, uint64_t upper, uint64_t products,
+    const uint16_t *r, size_t r_len,
+    const uint16_t *c, size_t c_len,
+    const uint32_t *lower_starts, size_t lower_starts_len,
+    const uint16_t *lower_index, size_t lower_index_len,
+    const double *lower_values, size_t lower_values_len,
+    const uint32_t *upper_starts, size_t upper_starts_len,
+    const uint16_t *upper_index, size_t upper_index_len,
+    const double *upper_values, size_t upper_values_len,
+    const double *d, size_t d_len,
     uint8_t *file, size_t file_len,
     uint64_t *report, size_t report_len);
 

@@ -9,6 +9,7 @@ pub enum Task {
     Help(Topic),
     Version,
     Solve(Solve),
+    Factor(Factor),
     Structure { file: PathBuf, orders: OrderFiles, numbers: bool },
     Convert(Convert),
     Picture { file: PathBuf, orders: OrderFiles, out: Option<PathBuf>, numbers: bool },
@@ -24,6 +25,16 @@ pub struct Solve {
     pub orders: OrderFiles,
     pub floor: f64,
     pub hex: bool,
+    pub numbers: bool,
+    pub out: Option<PathBuf>,
+}
+
+/// Factors to be kept in a file.
+#[derive(Debug, PartialEq)]
+pub struct Factor {
+    pub file: PathBuf,
+    pub orders: OrderFiles,
+    pub floor: f64,
     pub numbers: bool,
     pub out: Option<PathBuf>,
 }
@@ -72,6 +83,7 @@ pub enum FormName {
 pub enum Topic {
     All,
     Solve,
+    Factor,
     Structure,
     Convert,
     Picture,
@@ -79,7 +91,7 @@ pub enum Topic {
     Load,
 }
 
-const COMMANDS: &str = "solve, structure, convert, picture, sheet or load (lilac --help tells more)";
+const COMMANDS: &str = "solve, factor, structure, convert, picture, sheet or load (lilac --help tells more)";
 const HELP: [&str; 2] = ["--help", "-h"];
 
 /// The options of a command that take a word behind them.
@@ -87,6 +99,7 @@ fn valued(topic: Topic) -> &'static [&'static str] {
     match topic {
         Topic::All => &[],
         Topic::Solve => &["--form", "--right", "--order", "--rows", "--columns", "--floor", "--refusals", "--output"],
+        Topic::Factor => &["--order", "--rows", "--columns", "--floor", "--refusals", "--output"],
         Topic::Structure => &["--order", "--rows", "--columns", "--refusals"],
         Topic::Convert => &["--right", "--order", "--rows", "--columns", "--refusals"],
         Topic::Picture | Topic::Sheet => &["--order", "--rows", "--columns", "--refusals", "--output"],
@@ -123,6 +136,7 @@ pub fn parse(words: Vec<OsString>) -> Result<Task, String> {
 fn topic_of(name: &str) -> Option<Topic> {
     match name {
         "solve" => Some(Topic::Solve),
+        "factor" => Some(Topic::Factor),
         "structure" => Some(Topic::Structure),
         "convert" => Some(Topic::Convert),
         "picture" => Some(Topic::Picture),
@@ -136,6 +150,7 @@ fn name_of(topic: Topic) -> &'static str {
     match topic {
         Topic::All => "",
         Topic::Solve => "solve",
+        Topic::Factor => "factor",
         Topic::Structure => "structure",
         Topic::Convert => "convert",
         Topic::Picture => "picture",
@@ -180,6 +195,10 @@ fn command(topic: Topic, words: Vec<OsString>) -> Result<Task, String> {
     match topic {
         Topic::All => Ok(Task::Help(Topic::All)),
         Topic::Solve => solve(sorted, orders, numbers),
+        Topic::Factor => {
+            let (file, floor) = (sorted.only_file()?, sorted.floor()?);
+            Ok(Task::Factor(Factor { file, orders, floor, numbers, out: sorted.path("--output") }))
+        }
         Topic::Structure => Ok(Task::Structure { file: sorted.only_file()?, orders, numbers }),
         Topic::Picture => {
             Ok(Task::Picture { file: sorted.only_file()?, orders, out: sorted.path("--output"), numbers })

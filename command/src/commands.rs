@@ -1,5 +1,5 @@
-//! The commands solve, structure, picture, sheet and load.
-use crate::arguments::{FormName, Load, OrderFiles, Solve};
+//! The commands solve, factor, structure, picture, sheet and load.
+use crate::arguments::{Factor, FormName, Load, OrderFiles, Solve};
 use crate::convert::{kind, Kind};
 use crate::facts::{facts, table_text, Fact, Stored};
 use crate::fault::Fault;
@@ -7,12 +7,15 @@ use crate::input::{self, shown};
 use crate::output::{self, column, Place};
 use crate::picture::{draw, Subject};
 use crate::progress;
-use lilacpliers::{solve_above, Form, Matrix, Orders, Side, Structure, System};
+use lilacpliers::{solve_above, Factors, Form, Matrix, Orders, Side, Structure, System};
 use std::collections::BTreeSet;
 use std::path::Path;
 
 pub fn solve(asked: &Solve) -> Result<(), Fault> {
     output::apart(&[asked.out.as_deref()], &read_files(&asked.file, asked.right.as_deref(), &asked.orders))?;
+    if kind(&asked.file) == Some(Kind::FactorFile) {
+        return solve_kept(asked);
+    }
     let text = {
         let _sign = progress::during(format!("solving {}", shown(&asked.file)));
         let loaded = input::load(&asked.file, asked.right.as_deref(), &asked.orders)?;
@@ -21,6 +24,45 @@ pub fn solve(asked: &Solve) -> Result<(), Fault> {
         column(&found.map_err(|error| loaded.fault(error))?.x, asked.hex)
     };
     Ok(output::write(place(asked.out.as_deref()), text.as_bytes())?)
+}
+
+/// Solves with the factors of a file. Its name tells that it is one: its blocks are those of a matrix file.
+fn solve_kept(asked: &Solve) -> Result<(), Fault> {
+    let name = shown(&asked.file);
+    let Some(right) = asked.right.as_deref() else {
+        return Err(format!("{name} holds factors and no right side: give one with --right").into());
+    };
+    if asked.form != FormName::Plain || asked.floor != 0.0 || asked.orders != OrderFiles::default() {
+        return Err(format!("{name} holds factors: form, orders and floor are those that they were found by").into());
+    }
+    let text = {
+        let _sign = progress::during(format!("solving with {name}"));
+        let factors = Factors::load(&input::bytes(&asked.file)?).map_err(|error| Fault::about_factors(&name, error))?;
+        let right = input::right_side(right, factors.rows())?;
+        column(&factors.solve_again(&right).map_err(|error| Fault::about(&name, error))?, asked.hex)
+    };
+    Ok(output::write(place(asked.out.as_deref()), text.as_bytes())?)
+}
+
+/// Factors in the plain form, for a restart to solve with. The right side is zeros, under which only the factors can be
+/// refused: none was asked for.
+pub fn factor(asked: &Factor) -> Result<(), Fault> {
+    let out = place(asked.out.as_deref());
+    if let Place::File(path) = out {
+        if kind(path) != Some(Kind::FactorFile) {
+            return Err(format!("{}: the name of a factor file should end in .lf", shown(path)).into());
+        }
+    }
+    output::apart(&[asked.out.as_deref()], &read_files(&asked.file, None, &asked.orders))?;
+    let file = {
+        let _sign = progress::during(format!("factoring {}", shown(&asked.file)));
+        let loaded = input::load(&asked.file, None, &asked.orders)?;
+        let System { matrix, orders, .. } = &loaded.system;
+        let zeros = vec![0.0; matrix.rows()];
+        let found = Factors::solve_above(Form::Plain, matrix, orders, &zeros, asked.floor);
+        found.and_then(|(factors, _)| factors.save()).map_err(|error| loaded.fault(error))?
+    };
+    Ok(output::write_binary(out, "factor", &file)?)
 }
 
 fn read_files<'a>(file: &'a Path, right: Option<&'a Path>, orders: &'a OrderFiles) -> [Option<&'a Path>; 5] {
@@ -132,11 +174,17 @@ fn stored(matrix: &Matrix, orders: &Orders) -> Vec<Vec<usize>> {
 
 /// A Matrix Market file is taken to have the right side and the orders of a load, so nothing is left behind in one.
 pub fn load(asked: &Load) -> Result<(), Fault> {
+    let out = asked.out.as_deref();
+    let named = out.and_then(kind);
+    if let (Some(path), Some(Kind::FactorFile)) = (out, named) {
+        return Err(
+            format!("{}: a load is a matrix, and a name that ends in .lf is a factor file's", shown(path)).into()
+        );
+    }
     let fault = |error| Fault::about("load", error);
     let system = System::test_load(asked.rows, asked.seed).map_err(fault)?;
-    let out = asked.out.as_deref();
-    if out.and_then(kind) == Some(Kind::Market) {
+    if named == Some(Kind::Market) {
         return Ok(output::write(place(out), system.matrix.to_matrix_market().as_bytes())?);
     }
-    Ok(output::write_binary(place(out), &system.write().map_err(fault)?)?)
+    Ok(output::write_binary(place(out), "matrix", &system.write().map_err(fault)?)?)
 }

@@ -7,19 +7,28 @@ use crate::progress;
 use lilacpliers::{Matrix, Orders, System};
 use std::path::Path;
 
-/// The two kinds of files, by name.
+/// The kinds of files, by name.
 #[derive(Clone, Copy, PartialEq)]
 pub enum Kind {
     Market,
     MatrixFile,
+    FactorFile,
 }
+
+const ENDINGS: [(&[u8], Kind); 3] = [(b".mtx", Kind::Market), (b".lp", Kind::MatrixFile), (b".lf", Kind::FactorFile)];
 
 /// The kind that the end of a name tells; `.mtx` alone is a name, too.
 pub fn kind(path: &Path) -> Option<Kind> {
     let name = path.file_name()?.to_ascii_lowercase();
-    let name = name.as_encoded_bytes();
-    let market = name.ends_with(b".mtx").then_some(Kind::Market);
-    market.or(name.ends_with(b".lp").then_some(Kind::MatrixFile))
+    ENDINGS.iter().find(|(ending, _)| name.as_encoded_bytes().ends_with(ending)).map(|&(_, kind)| kind)
+}
+
+/// Refuses a name that is a factor file's where a matrix is due.
+pub fn matrix_due(path: &Path) -> Result<(), Fault> {
+    match kind(path) {
+        Some(Kind::FactorFile) => Err(format!("{} holds factors and no matrix", shown(path)).into()),
+        _ => Ok(()),
+    }
 }
 
 fn kind_due(path: &Path) -> Result<Kind, Fault> {
@@ -28,6 +37,7 @@ fn kind_due(path: &Path) -> Result<Kind, Fault> {
 
 pub fn convert(asked: &Convert) -> Result<(), Fault> {
     let _sign = progress::during(format!("converting {}", shown(&asked.from)));
+    matrix_due(&asked.from)?;
     match (kind_due(&asked.from)?, kind_due(&asked.to)?) {
         (Kind::Market, Kind::MatrixFile) => to_matrix_file(asked),
         (Kind::MatrixFile, Kind::Market) => to_market(asked),
@@ -146,7 +156,10 @@ mod tests {
         for name in ["a.lp", "a.Lp", ".lp"] {
             assert!(kind(Path::new(name)) == Some(Kind::MatrixFile), "{name}");
         }
-        for name in ["", "-", "mtx", "lp", "a.mtx.gz", "a.mtx ", "folder.mtx/a"] {
+        for name in ["a.lf", "a.LF", "folder/a.lp.lf", ".lf"] {
+            assert!(kind(Path::new(name)) == Some(Kind::FactorFile), "{name}");
+        }
+        for name in ["", "-", "mtx", "lp", "lf", "a.mtx.gz", "a.lf.txt", "a.mtx ", "folder.mtx/a", "folder.lf/a"] {
             assert!(kind(Path::new(name)).is_none(), "{name}");
         }
     }

@@ -4,13 +4,14 @@ use lilacpliers::{Error, Refusal};
 use std::ops::RangeInclusive;
 
 pub enum Fault {
-    /// The library refused; the name of the file it was about, and a hint for whoever reads it, which may be empty.
-    Refused { name: String, refusal: Refusal, hint: String },
+    /// The library refused; the name of the file it was about, whether that cannot be read, and a hint for whoever reads
+    /// it, which may be empty.
+    Refused { name: String, refusal: Refusal, unreadable: bool, hint: String },
     /// Anything else, as one line.
     Bad(String),
 }
 
-/// These refusals are about a file, which then cannot be read.
+/// These refusals are about a matrix file, which then cannot be read.
 const OF_FILES: RangeInclusive<u32> = 16..=18;
 const LONGEST_LINE: usize = 500;
 
@@ -24,12 +25,24 @@ impl Fault {
     /// What the library said about a file.
     pub fn about(name: &str, error: Error) -> Fault {
         match error {
-            Error::Refused(refusal) => Fault::Refused { name: name.to_string(), refusal, hint: String::new() },
+            Error::Refused(refusal) => {
+                let unreadable = OF_FILES.contains(&refusal.number());
+                Fault::Refused { name: name.to_string(), refusal, unreadable, hint: String::new() }
+            }
             other => Fault::Bad(format!("{name}: {other}")),
         }
     }
 
-    /// The same with a hint, where it is a refusal for which there is one.
+    /// What the library said about a factor file: whatever it is refused with, it cannot be read.
+    pub fn about_factors(name: &str, error: Error) -> Fault {
+        let mut fault = Fault::about(name, error);
+        if let Fault::Refused { unreadable, .. } = &mut fault {
+            *unreadable = true;
+        }
+        fault
+    }
+
+    /// A fault with a hint, where it is a refusal for which there is one.
     pub fn with_hint(mut self, find: impl Fn(&Refusal) -> Option<String>) -> Fault {
         if let Fault::Refused { refusal, hint, .. } = &mut self {
             *hint = find(refusal).unwrap_or_default();
@@ -39,7 +52,7 @@ impl Fault {
 
     pub fn status(&self) -> u8 {
         match self {
-            Fault::Refused { refusal, .. } if !OF_FILES.contains(&refusal.number()) => 1,
+            Fault::Refused { unreadable: false, .. } => 1,
             _ => 2,
         }
     }
@@ -50,7 +63,7 @@ impl Fault {
             Fault::Refused { refusal, .. } if numbers => {
                 say_bare(&format!("refused {} {}", refusal.number(), refusal.place()));
             }
-            Fault::Refused { name, refusal, hint } => say(&shortened(&format!("{name}: {refusal}{hint}"))),
+            Fault::Refused { name, refusal, hint, .. } => say(&shortened(&format!("{name}: {refusal}{hint}"))),
             Fault::Bad(line) => say(&shortened(line)),
         }
     }

@@ -5,6 +5,7 @@ pub fn text(topic: Topic) -> &'static str {
     match topic {
         Topic::All => ALL,
         Topic::Solve => SOLVE,
+        Topic::Factor => FACTOR,
         Topic::Structure => STRUCTURE,
         Topic::Convert => CONVERT,
         Topic::Picture => PICTURE,
@@ -17,19 +18,20 @@ const ALL: &str = "\
 lilac solves sparse systems M x = b with the proved library Lilacpliers.
 
   lilac solve FILE       print the solution
+  lilac factor FILE      keep the factors in a file, so that a restart need not eliminate again
   lilac structure FILE   print how much the elimination fills in, and the slots of each form
   lilac convert A B      turn a Matrix Market file (.mtx) into a matrix file (.lp), or back
   lilac picture FILE     draw the fill as an SVG picture
   lilac sheet FILE       print the fill place by place, on pages
   lilac load N SEED      make the test load of N rows, which is the same everywhere
 
-FILE is a matrix file or a Matrix Market file; its contents tell which. The name - is standard input, and standard
-output where something is written.
+FILE is a matrix file or a Matrix Market file; its contents tell which. FILE of solve may be a factor file too, which
+its name tells: it ends in .lf. The name - is standard input, and standard output where something is written.
 A matrix has up to 4096 rows and 65536 entries. A position may have several: their values are added in the order of
 FILE, each sum rounded. lilac COMMAND --help says more about a command.
 
 Exit status: 0 done; 1 the library refused the system, the floor, or the size of a load; 2 bad usage, or a file that
-cannot be read or written.
+cannot be read or written, such as a factor file that is refused.
 Places, rows and columns count from 0, but lines, rows and columns of a Matrix Market file from 1.
 Messages go to standard error, and so do signs of life when the work takes over a second.
 ";
@@ -38,6 +40,8 @@ const SOLVE: &str = "\
 lilac solve FILE [options]
 
 Solves M x = b and prints x, one number a line, by own column. A printed number reads back to the same bits.
+FILE may be a factor file, which `lilac factor` makes, if its name ends in .lf. Then --right is due, and form, orders
+and floor are those that it was made with.
 
   --form plain|shared|row     how the factors are stored (plain); the answer is the same, bit for bit
   --right FILE                b: n plain numbers, or a Matrix Market file of one column
@@ -52,7 +56,24 @@ Solves M x = b and prints x, one number a line, by own column. A printed number 
   --refusals words|numbers    say a refusal in plain words (the default) or as `refused NUMBER PLACE`
   -o FILE                     write to FILE instead of standard output
 
-A refusal has exit status 1 and prints no number.
+A refusal has exit status 1 and prints no number. A factor file that is refused has exit status 2.
+";
+
+const FACTOR: &str = "\
+lilac factor FILE -o F.lf [options]
+
+Factors M in the plain form and writes the factors, with the orders, as a factor file. `lilac solve F.lf --right B`
+then solves for B without eliminating again, to the same bits; a name that ends in .lf is a factor file's. A right side
+that FILE has is not looked at.
+
+  --order FILE                one order for rows and columns: the numbers 0 to n - 1, place by place
+                              (that of the matrix file; 0, 1, .. for a Matrix Market file)
+  --rows FILE                 the order of the rows alone, and
+  --columns FILE              the order of the columns alone, in place of --order
+  --floor F                   refuse a pivot whose magnitude is at most F, a decimal number, zero or greater
+                              (0, under which only a pivot of zero is refused)
+  --refusals words|numbers    say a refusal in plain words (the default) or as `refused NUMBER PLACE`
+  -o FILE                     write to FILE instead of standard output, which must be no terminal
 ";
 
 const STRUCTURE: &str = "\
@@ -135,7 +156,8 @@ and the right side is all ones. No claim is made on pivots: whether a load can b
 
   --refusals words|numbers    say a refusal in plain words (the default) or as `refused NUMBER PLACE`
   -o FILE                     write to FILE instead of standard output; a Matrix Market file where FILE ends in .mtx,
-                              which loses nothing, since right side and orders are those that it is taken to have
+                              which loses nothing, since right side and orders are those that it is taken to have;
+                              FILE may not end in .lf
 
 Standard output that is a terminal gets no matrix file.
 ";

@@ -1,5 +1,6 @@
-//! Files read, and told apart by their contents.
+//! Files read: matrices of both kinds, told apart by their contents, right sides and orders.
 use crate::arguments::OrderFiles;
+use crate::convert::matrix_due;
 use crate::fault::Fault;
 use lilacpliers::{order_from_text, vector_from_text, Error, Matrix, Orders, Refusal, System};
 use std::fs::File;
@@ -71,6 +72,7 @@ impl Loaded {
 
 /// The system of a file of either kind, with the right side and the orders that are given besides.
 pub fn load(path: &Path, right: Option<&Path>, orders: &OrderFiles) -> Result<Loaded, Fault> {
+    matrix_due(path)?;
     let bytes = bytes(path)?;
     let market = is_market(&bytes);
     let mut system = if market {
@@ -127,7 +129,7 @@ pub fn from_matrix_file(path: &Path, bytes: &[u8]) -> Result<System, Fault> {
     System::read(bytes).map_err(|error| Fault::about(&shown(path), error))
 }
 
-fn right_side(path: &Path, n: usize) -> Result<Vec<f64>, Fault> {
+pub fn right_side(path: &Path, n: usize) -> Result<Vec<f64>, Fault> {
     let name = shown(path);
     let right = vector_from_text(&text(path)?).map_err(|error| Fault::about(&name, error))?;
     due(&name, right.len(), n)?;

@@ -38,6 +38,7 @@ fn refusals_as_numbers(task: &Task) -> bool {
     match task {
         Task::Help(_) | Task::Version => false,
         Task::Solve(solve) => solve.numbers,
+        Task::Factor(factor) => factor.numbers,
         Task::Convert(convert) => convert.numbers,
         Task::Load(load) => load.numbers,
         Task::Structure { numbers, .. } | Task::Picture { numbers, .. } | Task::Sheet { numbers, .. } => *numbers,
@@ -52,6 +53,7 @@ fn run(task: Task) -> Result<(), Fault> {
             Ok(output::write(Place::Standard, line.as_bytes())?)
         }
         Task::Solve(solve) => commands::solve(&solve),
+        Task::Factor(factor) => commands::factor(&factor),
         Task::Structure { file, orders, .. } => commands::structure(&file, &orders),
         Task::Convert(convert) => convert::convert(&convert),
         Task::Picture { file, orders, out, .. } => commands::picture(&file, &orders, out.as_deref()),

@@ -56,10 +56,10 @@ pub fn write(place: Place, bytes: &[u8]) -> Result<(), String> {
     }
 }
 
-/// Writes bytes that are no text, which is why a terminal does not get them.
-pub fn write_binary(place: Place, bytes: &[u8]) -> Result<(), String> {
+/// Writes a file of this kind that is no text, which is why a terminal does not get it.
+pub fn write_binary(place: Place, kind: &str, bytes: &[u8]) -> Result<(), String> {
     if matches!(place, Place::Standard) && io::stdout().is_terminal() {
-        return Err("a matrix file is no text for a terminal: -o FILE writes it to a file".to_string());
+        return Err(format!("a {kind} file is no text for a terminal: -o FILE writes it to a file"));
     }
     write(place, bytes)
 }

@@ -31,10 +31,20 @@ fn a_file_and_standard_output_have_the_librarys_bytes() {
 }
 
 #[test]
-fn any_name_but_mtx_is_a_matrix_file() {
+fn any_other_name_is_a_matrix_file() {
     let due = read(&load("named.lp", "9", "1"));
-    for name in ["named", "named.load", "named.mtx.lp", "mtx"] {
+    for name in ["named", "named.load", "named.mtx.lp", "named.lf.lp", "mtx", "lf"] {
         assert!(read(&load(name, "9", "1")) == due, "{name}");
+    }
+}
+
+#[test]
+fn the_name_of_a_factor_file_is_refused() {
+    for name in ["load.lf", "load.LF", ".lf"] {
+        let path = own(name);
+        let line = failed(2, &["load", "9", "1", "-o", &path]);
+        assert!(line.contains("a load is a matrix, and a name that ends in .lf is a factor file's"), "{line}");
+        assert!(!std::path::Path::new(&path).exists(), "{name}");
     }
 }
 

@@ -1,7 +1,7 @@
 //! The buffers that the library is lent, and how long they are.
 use crate::ffi::Answer;
 use crate::form::Kept;
-use crate::{Matrix, MAX_ROWS, MAX_SLOTS};
+use crate::{Counts, Matrix, MAX_ROWS, MAX_SLOTS};
 
 /// The lists of one side: list starts, run starts (none in the plain form) and index store.
 #[derive(Debug, Clone, PartialEq)]
@@ -41,6 +41,13 @@ impl Scratch {
 /// The bytes of the fill sheet of n places: 49 places a page, each page 50 lines of 40 characters and a line end.
 pub(crate) fn sheet_bytes(n: usize) -> usize {
     n.div_ceil(49) * 50 * 41
+}
+
+/// The bytes of a factor file of n places: n, lower and upper of 4 bytes, products of 8, two lists of starts, 10 bytes an
+/// entry, d and the orders, in blocks that hold 504 of 512 bytes.
+pub(crate) fn factor_bytes(n: usize, counts: Counts) -> usize {
+    let entries = (counts.lower + counts.upper) as usize;
+    (20 + 8 * (n + 1) + 10 * entries + 12 * n).div_ceil(504) * 512
 }
 
 /// The rows that buffers are made for: a greater n is refused before any length is asked.

@@ -1,10 +1,10 @@
 //! Factors and solutions.
-use crate::buffers::{grow, rows_lent, Lists, Pair, Scratch, Values};
+use crate::buffers::{factor_bytes, grow, rows_lent, Lists, Pair, Scratch, Values};
 use crate::ffi::{self, Equations};
 use crate::form::Kept;
 use crate::refusal::Question;
 use crate::structure::counts;
-use crate::{Counts, Error, Form, Matrix, Orders, Side, Slots, Structure};
+use crate::{Counts, Error, Form, Matrix, Orders, Side, Slots, Structure, MAX_SLOTS};
 
 /// A solution and what it took.
 #[derive(Debug, Clone, PartialEq)]
@@ -128,6 +128,47 @@ impl Factors {
         Ok(x)
     }
 
+    /// Writes the factors and their orders as a factor file, so that a restart need not eliminate again. Only the
+    /// plain form can be kept.
+    ///
+    /// ```
+    /// use lilacpliers::{Factors, Form, Matrix, Orders};
+    /// let matrix = Matrix::from_triplets(2, &[(0, 0, 2.0), (0, 1, 4.0), (1, 0, 1.0), (1, 1, 4.0)])?;
+    /// let (factors, _) = Factors::solve(Form::Plain, &matrix, &Orders::natural(2), &[10.0, 9.0])?;
+    /// let kept = Factors::load(&factors.save()?)?;
+    /// assert_eq!(kept, factors);
+    /// assert_eq!(kept.solve_again(&[6.0, 5.0])?, [1.0, 1.0]);
+    /// # Ok::<(), lilacpliers::Error>(())
+    /// ```
+    pub fn save(&self) -> Result<Vec<u8>, Error> {
+        if self.structure.form() != Form::Plain {
+            return Err(Error::Shape("only factors of the plain form can be kept in a file".into()));
+        }
+        let (n, counts, lists) = (self.rows(), self.counts(), &self.structure.lists);
+        let mut file = vec![0; factor_bytes(n, counts)];
+        let answer = ffi::write_factors(n, counts, &self.orders, lists, &self.values, &mut file);
+        Question::keep(n, &self.orders).settle(&answer)?;
+        Ok(file)
+    }
+
+    /// Reads a factor file: factors of the plain form, as [`Factors::save`] wrote them. Orders, lists, values and counts
+    /// are judged, so that what is read can be solved with.
+    pub fn load(bytes: &[u8]) -> Result<Factors, Error> {
+        let shape = ffi::factor_shape(bytes);
+        Question::factors(bytes, None).settle(&shape)?;
+        let [_, n, lower, upper] = shape.report.map(|number| number as usize);
+        // A file may hold more entries than a store may have slots: it is refused with 2, so no room is made for it.
+        let (lower, upper) = (lower.min(MAX_SLOTS), upper.min(MAX_SLOTS));
+        let list = |slots: usize| Lists::new(Kept::Plain, n, slots);
+        let mut lists = Pair { lower: list(lower), upper: list(upper) };
+        let mut values = Values { lower: vec![0.0; lower], upper: vec![0.0; upper], d: vec![0.0; n] };
+        let (mut rows, mut columns) = (vec![0; n], vec![0; n]);
+        let answer = ffi::read_factors(bytes, &mut rows, &mut columns, &mut lists, &mut values);
+        Question::factors(bytes, Some(n)).settle(&answer)?;
+        let structure = Structure { form: Kept::Plain, lists, counts: counts(&answer) };
+        Ok(Factors { structure, values, orders: Orders::from_parts(rows, columns) })
+    }
+
     /// How much the elimination fills and multiplies.
     pub fn counts(&self) -> Counts {
         self.structure.counts()
@@ -148,7 +189,8 @@ impl Factors {
         &self.structure
     }
 
-    fn rows(&self) -> usize {
+    /// How many rows the matrix has.
+    pub fn rows(&self) -> usize {
         self.values.d.len()
     }
 }

@@ -4,7 +4,7 @@
 //! length says and no written buffer overlaps another. The library itself refuses lengths that do not fit.
 use crate::buffers::{Lists, Pair, Scratch, Values};
 use crate::form::Kept;
-use crate::{Matrix, Orders, Side};
+use crate::{Counts, Matrix, Orders, Side};
 
 /// The functions as the header declares them: `lent` and `out` stand for a pointer and a length.
 mod raw {
@@ -15,6 +15,9 @@ mod raw {
         };
         ($name:ident [$($done:tt)*] $arg:ident: number, $($rest:tt)*) => {
             declare! { $name [$($done)* $arg: u32,] $($rest)* }
+        };
+        ($name:ident [$($done:tt)*] $arg:ident: count, $($rest:tt)*) => {
+            declare! { $name [$($done)* $arg: u64,] $($rest)* }
         };
         ($name:ident [$($done:tt)*] $arg:ident: short, $($rest:tt)*) => {
             declare! { $name [$($done)* $arg: u16,] $($rest)* }
@@ -98,6 +101,18 @@ mod raw {
 
     declare! { lp_write_matrix [] n: size, starts: lent u32, columns: lent u16, values: lent f64,
     r: lent u16, c: lent u16, b: lent f64, file: out u8, report: out u64, }
+
+    declare! { lp_factor_shape [] file: lent u8, report: out u64, }
+
+    declare! { lp_read_factors [] file: lent u8, r: out u16, c: out u16,
+    lower_starts: out u32, lower_index: out u16, lower_values: out f64,
+    upper_starts: out u32, upper_index: out u16, upper_values: out f64,
+    d: out f64, report: out u64, }
+
+    declare! { lp_write_factors [] n: size, lower: count, upper: count, products: count, r: lent u16, c: lent u16,
+    lower_starts: lent u32, lower_index: lent u16, lower_values: lent f64,
+    upper_starts: lent u32, upper_index: lent u16, upper_values: lent f64,
+    d: lent f64, file: out u8, report: out u64, }
 
     declare! { lp_test_load [] n: size, seed: short, starts: out u32, columns: out u16, values: out f64,
     r: out u16, c: out u16, b: out f64, report: out u64, }
@@ -323,6 +338,30 @@ pub(crate) fn read_matrix(file: &[u8], p: &mut Parts) -> Answer {
 pub(crate) fn write_matrix(asked: Equations, file: &mut [u8]) -> Answer {
     let (m, o, b) = (asked.matrix, asked.orders, asked.right);
     call!(lp_write_matrix: [m.rows()] (m.starts()) (m.columns()) (m.values()) (o.rows()) (o.columns()) (b) {file})
+}
+
+/// n, lower and upper of a factor file.
+pub(crate) fn factor_shape(file: &[u8]) -> Answer {
+    call!(lp_factor_shape: (file))
+}
+
+/// Reads a factor file into orders, lists and values of the lengths that it holds; the answer has the counts.
+pub(crate) fn read_factors(
+    file: &[u8],
+    rows: &mut [u16],
+    columns: &mut [u16],
+    lists: &mut Pair,
+    v: &mut Values,
+) -> Answer {
+    let (l, u) = (&mut lists.lower, &mut lists.upper);
+    call!(lp_read_factors: (file) {rows} {columns} {l.starts} {l.index} {v.lower} {u.starts} {u.index} {v.upper} {v.d})
+}
+
+/// Writes a factor file.
+pub(crate) fn write_factors(n: usize, counts: Counts, o: &Orders, lists: &Pair, v: &Values, file: &mut [u8]) -> Answer {
+    let (l, u) = (&lists.lower, &lists.upper);
+    call!(lp_write_factors: [n] [counts.lower] [counts.upper] [counts.products] (o.rows()) (o.columns())
+        (l.starts) (l.index) (v.lower) (u.starts) (u.index) (v.upper) (v.d) {file})
 }
 
 /// Makes a test load in parts with room for 4n entries; report[1] is how many it has.

@@ -22,10 +22,11 @@
 //! ```
 //!
 //! [`solve`] keeps nothing but the solution; [`Factors`] serve more right sides and new values; [`solve_above`],
-//! [`Factors::solve_above`] and [`Factors::refactor_above`] refuse pivots near zero; [`Structure`] is the fill alone,
-//! and [`Structure::fill_sheet`] prints it on pages; [`System`] is what a matrix file holds, and [`System::test_load`]
-//! makes one that is the same everywhere. Nothing here panics, whatever it is given: what cannot be solved is an
-//! [`Error`], mostly a [`Refusal`] with the library's number and place.
+//! [`Factors::solve_above`] and [`Factors::refactor_above`] refuse pivots near zero, [`Factors::save`] and
+//! [`Factors::load`] keep factors in a file; [`Structure`] is the fill alone, and [`Structure::fill_sheet`] prints it on
+//! pages; [`System`] is what a matrix file holds, and [`System::test_load`] makes one that is the same everywhere.
+//! Nothing here panics, whatever it is given: what cannot be solved is an [`Error`], mostly a [`Refusal`] with the
+//! library's number and place.
 //!
 //! The library is for x86-64 and for the floating-point environment that every Rust program starts with.
 #![deny(missing_docs)]

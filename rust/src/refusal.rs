@@ -73,8 +73,10 @@ enum Call {
     Solve,
     /// Over factors of so many rows.
     Refactor(usize),
-    /// From a file of so many bytes.
+    /// From a matrix file of so many bytes.
     Read(usize),
+    /// From a factor file of so many bytes.
+    Factors(usize),
     /// Of a test load.
     Load,
 }
@@ -104,6 +106,15 @@ impl<'a> Question<'a> {
 
     pub fn read(file: &[u8]) -> Question<'a> {
         Question { call: Call::Read(file.len()), rows: None, matrix: None, orders: None, right: None, floor: None }
+    }
+
+    pub fn keep(n: usize, orders: &'a Orders) -> Question<'a> {
+        Question { right: None, ..Question::resolve(n, orders, &[]) }
+    }
+
+    /// Of a factor file; its rows are known once its shape is.
+    pub fn factors(file: &[u8], rows: Option<usize>) -> Question<'a> {
+        Question { call: Call::Factors(file.len()), rows, ..Question::read(file) }
     }
 
     pub fn load(n: usize) -> Question<'a> {
@@ -145,6 +156,8 @@ impl<'a> Question<'a> {
             9..=15 => self.place_words(number, place),
             16..=18 => self.file_words(number, place),
             19 => "the floor under pivots must be a finite number, zero or greater".into(),
+            20 => "the factor file is longer or shorter than its first numbers say, or does not end in zeros".into(),
+            21 => "the factor file's count of products is not that of its lists".into(),
             _ => format!("the library refuses it with {number} at {place}"),
         }
     }
@@ -159,10 +172,14 @@ impl<'a> Question<'a> {
 
     fn length_words(&self) -> String {
         let n = self.rows.unwrap_or(0);
-        if let Call::Refactor(factored) = self.call {
-            if factored != n {
+        match self.call {
+            Call::Refactor(factored) if factored != n => {
                 return format!("the matrix has {n} rows where the factors have {factored}: solve it anew");
             }
+            Call::Factors(_) => {
+                return format!("the factors have over {MAX_SLOTS} entries below or above the diagonal");
+            }
+            _ => {}
         }
         let parts = [
             ("row order", self.orders.map(|orders| orders.rows().len())),
@@ -184,17 +201,16 @@ impl<'a> Question<'a> {
 
     fn order_words(&self, place: usize) -> String {
         let n = self.rows.unwrap_or(0);
-        let (what, order, place) = match self.orders {
-            Some(orders) if place >= n => ("column", orders.columns(), place - n),
-            Some(orders) => ("row", orders.rows(), place),
-            None => ("row", &[][..], place),
+        let (what, order, place) = match place.checked_sub(n) {
+            Some(place) => ("column", self.orders.map(Orders::columns), place),
+            None => ("row", self.orders.map(Orders::rows), place),
         };
-        let number = number_at(order, place).unwrap_or(0);
-        let fault = if number >= n { "is out of range" } else { "stands there before" };
-        format!(
-            "the {what} order is wrong at place {place}: {number} {fault}; each of 0 to {} is due once",
-            self.last()
-        )
+        let fault = match order.and_then(|order| number_at(order, place)) {
+            Some(number) if number >= n => format!(": {number} is out of range"),
+            Some(number) => format!(": {number} stands there before"),
+            None => String::new(),
+        };
+        format!("the {what} order is wrong at place {place}{fault}; each of 0 to {} is due once", self.last())
     }
 
     fn finite_words(&self, index: usize) -> String {
@@ -225,12 +241,13 @@ impl<'a> Question<'a> {
     }
 
     fn file_words(&self, number: u32, place: usize) -> String {
-        let length = match self.call {
-            Call::Read(length) => length,
+        let (kind, length) = match self.call {
+            Call::Read(length) => ("matrix", length),
+            Call::Factors(length) => ("factor", length),
             _ => return entries_words(self.entries()),
         };
         match number {
-            16 => format!("{length} bytes are no matrix file, which has a positive multiple of 512"),
+            16 => format!("{length} bytes are no {kind} file, which has a positive multiple of 512"),
             17 => format!("block {place} of the file is damaged: its number or checks are wrong"),
             _ => format!("the file has over {MAX_ENTRIES} entries, or {length} bytes do not fit its rows and entries"),
         }
@@ -287,7 +304,7 @@ mod tests {
         let matrix = Matrix::from_triplets(1, &[(0, 0, 1.0)]).unwrap();
         let orders = Orders::natural(1);
         for question in [Question::structure(&matrix, &orders), Question::read(&[0; 512]), Question::load(1)] {
-            for number in [8, 20, u32::MAX] {
+            for number in [8, 22, u32::MAX] {
                 let refusal = question.settle(&Answer { number, report: [3, 0, 0, 0] }).unwrap_err();
                 assert_eq!((refusal.number(), refusal.place(), refusal.row()), (number, 3, None));
                 assert_eq!(refusal.to_string(), format!("the library refuses it with {number} at 3"));

@@ -1,6 +1,6 @@
-/* Solves the paper's 2 by 2 file through the C interface, tries floors under pivots and columns that stand several
- * times in a row, prints the fill, makes a test load, holds the length macros to the lengths that the calls take, tries
- * NULL for buffers of length 0, and shows what another floating-point environment changes.
+/* Solves the paper's 2 by 2 file through the C interface, keeps its factors, tries floors under pivots and columns that
+ * stand several times in a row, prints the fill, makes a test load, holds the length macros to the lengths that the
+ * calls take, tries NULL for buffers of length 0, and shows what another floating-point environment changes.
  * The exit status is 0 if every answer is as the header promises. */
 #include "lilacpliers.h"
 
@@ -12,8 +12,8 @@
 #include <string.h>
 #include <xmmintrin.h>
 
-#if LP_VERSION != 6
-#error "this test is written for version 6 of the interface"
+#if LP_VERSION != 7
+#error "this test is written for version 7 of the interface"
 #endif
 
 #define NONE NULL, 0
@@ -113,6 +113,76 @@ static void plain_again(void)
            == LP_OTHER_STRUCTURE && report[0] == 0 && upper.starts[1] == 7, "a list start of another structure");
 }
 
+/* Factors that were read; a file has them in the first slots, and zeros behind them. */
+struct kept {
+    uint16_t r[N], c[N];
+    struct side lower, upper;
+    double d[N];
+};
+
+static uint8_t factor_file[LP_FACTOR_BYTES(N, 1, 1)];
+
+static uint32_t write_factors(uint64_t products)
+{
+    return lp_write_factors(N, 1, 1, products, LENT(order), LENT(order),
+                            LENT(lower.starts), LENT(lower.index), LENT(lower.values),
+                            LENT(upper.starts), LENT(upper.index), LENT(upper.values), LENT(d),
+                            LENT(factor_file), LENT(report));
+}
+
+static uint32_t read_factors(struct kept *kept, size_t index_len)
+{
+    return lp_read_factors(LENT(factor_file), LENT(kept->r), LENT(kept->c),
+                           LENT(kept->lower.starts), kept->lower.index, index_len, LENT(kept->lower.values),
+                           LENT(kept->upper.starts), LENT(kept->upper.index), LENT(kept->upper.values),
+                           LENT(kept->d), LENT(report));
+}
+
+static void expect_side(const struct side *found, const struct side *due, const char *what)
+{
+    expect(memcmp(found->starts, due->starts, sizeof due->starts) == 0
+           && memcmp(found->index, due->index, sizeof due->index) == 0
+           && memcmp(found->values, due->values, sizeof due->values) == 0, what);
+}
+
+/* A file of blocks with another shape: a matrix whose first row start is read as upper. */
+static void other_shape(void)
+{
+    static const uint32_t far_starts[LP_STARTS_LEN(N)] = {1000, 2, 4};
+    expect(lp_write_matrix(N, LENT(far_starts), LENT(columns), LENT(values), LENT(order), LENT(order), LENT(right),
+                           LENT(factor_file), LENT(report)) == LP_DONE, "a matrix file of the same length");
+    memset(report, 0xA5, sizeof report);
+    expect(lp_factor_shape(LENT(factor_file), LENT(report)) == LP_FACTOR_SHAPE && report[0] == 0 && report[1] == 0
+           && report[2] == 0 && report[3] == 0, "the shape of no factors");
+}
+
+/* What a solve left is written, read into other buffers, and serves the same right side. */
+static void kept_factors(void)
+{
+    struct kept kept, noise;
+    memset(&kept, 0xA5, sizeof kept);
+    memset(&noise, 0xA5, sizeof noise);
+    expect(write_factors(2) == LP_PRODUCTS && report[0] == 0, "products that are not those of the lists");
+    expect(write_factors(1) == LP_DONE && report[0] == 0, "factors written");
+    expect(lp_factor_shape(LENT(factor_file), LENT(report)) == LP_DONE && report[0] == 0 && report[1] == N
+           && report[2] == 1 && report[3] == 1, "the shape of factors");
+    expect(read_factors(&kept, 0) == LP_LENGTHS && memcmp(&kept, &noise, sizeof kept) == 0, "a store too short");
+    expect(read_factors(&kept, SLOTS) == LP_DONE, "factors read");
+    expect_counts("counts of the factors read");
+    expect_side(&kept.lower, &lower, "the lower lists read");
+    expect_side(&kept.upper, &upper, "the upper lists read");
+    expect(memcmp(kept.d, d, sizeof d) == 0, "d read");
+    expect(lp_resolve_plain(N, LENT(kept.r), LENT(kept.c), LENT(right),
+                            LENT(kept.lower.starts), LENT(kept.lower.index), LENT(kept.lower.values),
+                            LENT(kept.upper.starts), LENT(kept.upper.index), LENT(kept.upper.values),
+                            LENT(kept.d), LENT(x), LENT(scratch_f64), LENT(scratch_u32), LENT(report)) == LP_DONE,
+           "a right side over the factors read");
+    expect_solution("x over the factors read");
+    factor_file[20] ^= 1;
+    expect(read_factors(&kept, SLOTS) == LP_BLOCK && report[0] == 0 && report[1] == 0, "a damaged factor file");
+    other_shape();
+}
+
 static void plain_form(void)
 {
     expect(lp_solve_plain(N, LENT(starts), LENT(columns), LENT(values), LENT(order), LENT(order), LENT(right), 0.0,
@@ -122,6 +192,7 @@ static void plain_form(void)
     expect_counts("counts of the plain form");
     expect_solution("x of the plain form");
     expect(lower.values[0] == 1.0 && upper.values[0] == 2.0 && d[0] == 0.5 && d[1] == 0.5, "factors");
+    kept_factors();
     expect(lp_list_plain(LP_LOWER, 1, N, LENT(lower.starts), LENT(lower.index), LENT(upper.starts), LENT(upper.index),
                          LENT(report)) == LP_DONE && report[0] == 0 && report[1] == 1, "lower row 1");
     expect(lp_list_plain(LP_LOWER, 0, N, LENT(lower.starts), LENT(lower.index), LENT(upper.starts), LENT(upper.index),
@@ -507,6 +578,40 @@ static uint32_t write_zeros(size_t n, size_t e, size_t file_len)
                            file, file_len, NONE);
 }
 
+/* Writes factors of zeros, with so many entries in the last lower row and in T(0), into so many bytes. */
+static uint32_t write_arrow(size_t n, uint32_t below, uint32_t above, size_t file_len)
+{
+    static uint32_t lower_starts[LP_STARTS_LEN(ROWS)], upper_starts[LP_STARTS_LEN(ROWS)];
+    static uint16_t natural[ROWS + 1];
+    static const double zeros[ROWS];
+    static uint8_t file[LP_FACTOR_BYTES(ROWS, ROWS, ROWS) + 512];
+    for (size_t i = 0; i <= n; i++) {
+        lower_starts[i] = i == n ? below : 0;
+        upper_starts[i] = i == 0 ? 0 : above;
+        natural[i] = (uint16_t)i;
+    }
+    return lp_write_factors(n, below, above, below == 0 ? 0 : above, natural, n, natural, n,
+                            lower_starts, LP_STARTS_LEN(n), natural, below, zeros, below,
+                            upper_starts, LP_STARTS_LEN(n), natural + 1, above, zeros, above, zeros, n,
+                            file, file_len, NONE);
+}
+
+static void factor_lengths(void)
+{
+    for (uint32_t n = 1; n <= ROWS; n++)
+        for (uint32_t below = 0; below < n; below++) {
+            uint32_t above = (7 * below) % n;
+            size_t bytes = LP_FACTOR_BYTES(n, below, above);
+            expect(write_arrow(n, below, above, bytes) == LP_DONE, "the bytes of a factor file");
+            expect(write_arrow(n, below, above, bytes + 1) == LP_LENGTHS, "one byte of a factor file more");
+            expect(write_arrow(n, below, above, bytes + 512) == LP_LENGTHS, "one block of a factor file more");
+        }
+    const uint32_t many = UINT32_MAX;
+    expect(LP_FACTOR_BYTES(many, 0, 0) == 87262828032 && LP_FACTOR_BYTES(1, many, 0) == 43631414272
+           && LP_FACTOR_BYTES(1, 0, many) == 43631414272, "bytes of factors beyond 32 bits");
+    expect(LP_FACTOR_BYTES(1 + 1, 40 + 3, 0) == 512 && LP_FACTOR_BYTES(1 + 1, 0, 40 + 4) == 1024, "sums of entries");
+}
+
 /* Makes a load of n rows, lent so many slots of columns and of values. */
 static uint32_t load_slots(size_t n, size_t columns_len, size_t values_len)
 {
@@ -553,6 +658,8 @@ static void evaluated_once(void)
     expect(LP_STARTS_LEN(n++) == 1 && LP_SCRATCH_F64(n++) == 3 && LP_SCRATCH_U32(n++) == 24, "once, starts, scratch");
     expect(LP_LOAD_SLOTS(n++) == 12 && LP_SHEET_BYTES(n++) == 2050 && n == 5, "once, load and sheet");
     expect(LP_FILE_BYTES(n++, e++) == 512 && n == 6 && e == 1, "once, file");
+    size_t below = 0, above = 0;
+    expect(LP_FACTOR_BYTES(n++, below++, above++) == 512 && n == 7 && below == 1 && above == 1, "once, factors");
 }
 
 /* What the length macros give is taken, and one more is refused. */
@@ -630,6 +737,11 @@ static void nulls(void)
     expect(lp_file_shape(NONE, NONE) == LP_FILE_LENGTH, "shape, all NULL");
     expect(lp_read_matrix(NONE, NONE, NONE, NONE, NONE, NONE, NONE, NONE) == LP_FILE_LENGTH, "read, all NULL");
     expect(lp_write_matrix(1, NONE, NONE, NONE, NONE, NONE, NONE, NONE, NONE) == LP_LENGTHS, "write, all NULL");
+    expect(lp_factor_shape(NONE, NONE) == LP_FILE_LENGTH, "shape of factors, all NULL");
+    expect(lp_read_factors(NONE, NONE, NONE, NONE, NONE, NONE, NONE, NONE, NONE, NONE, NONE) == LP_FILE_LENGTH,
+           "read factors, all NULL");
+    expect(lp_write_factors(1, 0, 0, 0, NONE, NONE, NONE, NONE, NONE, NONE, NONE, NONE, NONE, NONE,
+                            NONE) == LP_LENGTHS, "write factors, all NULL");
     expect(lp_test_load(1, 1, NONE, NONE, NONE, NONE, NONE, NONE, NONE) == LP_LENGTHS, "load, all NULL");
 }
 
@@ -713,6 +825,7 @@ int main(void)
     fill_sheet();
     test_load();
     lengths();
+    factor_lengths();
     sheet_lengths();
     evaluated_once();
     nulls();

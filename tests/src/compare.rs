@@ -89,6 +89,15 @@ pub fn buffers(found: &Buffers, expected: &Buffers) -> Compared {
     numbers("scratch u32", &found.scratch_u32, &expected.scratch_u32)
 }
 
+/// Compares every buffer of factors that are kept.
+pub fn kept(found: &Keeping, expected: &Keeping) -> Compared {
+    numbers("r", &found.r, &expected.r)?;
+    numbers("c", &found.c, &expected.c)?;
+    stores("lower", &found.lower, &expected.lower)?;
+    stores("upper", &found.upper, &expected.upper)?;
+    floats("d", &found.d, &expected.d)
+}
+
 /// Compares the parts of a matrix as a file holds them; with `one_nan`, one NaN is as good as another.
 pub fn matrices(found: &Input, expected: &Input, one_nan: bool) -> Compared {
     let compare = if one_nan { floats_one_nan } else { floats };

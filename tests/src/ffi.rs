@@ -5,7 +5,8 @@ use crate::model::*;
 use crate::reference::Lists;
 use std::cell::Cell;
 
-/// The functions as the header declares them: `lent` and `out` stand for a pointer and a length, `real` for a double.
+/// The functions as the header declares them: `lent` and `out` stand for a pointer and a length, `count` for a number of
+/// 64 bits, `real` for a double.
 pub mod raw {
     macro_rules! declare {
         ($name:ident [$($done:tt)*]) => { extern "C" { pub fn $name($($done)*) -> u32; } };
@@ -14,6 +15,9 @@ pub mod raw {
         };
         ($name:ident [$($done:tt)*] $arg:ident: number, $($rest:tt)*) => {
             declare! { $name [$($done)* $arg: u32,] $($rest)* }
+        };
+        ($name:ident [$($done:tt)*] $arg:ident: count, $($rest:tt)*) => {
+            declare! { $name [$($done)* $arg: u64,] $($rest)* }
         };
         ($name:ident [$($done:tt)*] $arg:ident: short, $($rest:tt)*) => {
             declare! { $name [$($done)* $arg: u16,] $($rest)* }
@@ -98,6 +102,18 @@ pub mod raw {
     declare! { lp_write_matrix [] n: size, starts: lent u32, columns: lent u16, values: lent f64,
     r: lent u16, c: lent u16, b: lent f64, file: out u8, report: out u64, }
 
+    declare! { lp_factor_shape [] file: lent u8, report: out u64, }
+
+    declare! { lp_read_factors [] file: lent u8, r: out u16, c: out u16,
+    lower_starts: out u32, lower_index: out u16, lower_values: out f64,
+    upper_starts: out u32, upper_index: out u16, upper_values: out f64,
+    d: out f64, report: out u64, }
+
+    declare! { lp_write_factors [] n: size, lower: count, upper: count, products: count, r: lent u16, c: lent u16,
+    lower_starts: lent u32, lower_index: lent u16, lower_values: lent f64,
+    upper_starts: lent u32, upper_index: lent u16, upper_values: lent f64,
+    d: lent f64, file: out u8, report: out u64, }
+
     declare! { lp_test_load [] n: size, seed: short, starts: out u32, columns: out u16, values: out f64,
     r: out u16, c: out u16, b: out f64, report: out u64, }
 }
@@ -150,6 +166,12 @@ impl<T: Copy + PartialEq> Guarded<T> {
 
     fn contents(&self) -> Vec<T> {
         self.cells[MARGIN..self.cells.len() - MARGIN].to_vec()
+    }
+
+    /// What the buffer holds now.
+    fn back(&self, name: &str) -> Result<Vec<T>, Difference> {
+        self.intact(name)?;
+        Ok(self.contents())
     }
 
     fn intact(&self, name: &str) -> Compared {
@@ -257,6 +279,42 @@ impl GuardedStore {
             runs: self.runs.contents(),
             index: self.index.contents(),
             values: self.values.contents(),
+        })
+    }
+}
+
+struct GuardedKeeping {
+    r: Guarded<u16>,
+    c: Guarded<u16>,
+    l: GuardedStore,
+    u: GuardedStore,
+    d: Guarded<f64>,
+}
+
+impl GuardedKeeping {
+    fn new(kept: &Keeping) -> GuardedKeeping {
+        GuardedKeeping {
+            r: guard_u16(&kept.r),
+            c: guard_u16(&kept.c),
+            l: GuardedStore::new(&kept.lower),
+            u: GuardedStore::new(&kept.upper),
+            d: guard_f64(&kept.d),
+        }
+    }
+
+    /// What the buffers hold now; n and the counts are those of what was lent.
+    fn back(&self, lent: &Keeping) -> Result<Keeping, Difference> {
+        self.r.intact("r")?;
+        self.c.intact("c")?;
+        self.d.intact("d")?;
+        Ok(Keeping {
+            n: lent.n,
+            counts: lent.counts,
+            r: self.r.contents(),
+            c: self.c.contents(),
+            lower: self.l.back("lower")?,
+            upper: self.u.back("upper")?,
+            d: self.d.contents(),
         })
     }
 }
@@ -473,12 +531,17 @@ pub fn lookup(lists: &Lists, side: Side, place: usize) -> Result<(usize, usize),
     Ok((offset as usize, length as usize))
 }
 
+/// A file that is only read must come back as it was.
+fn unchanged_file(lent: &Guarded<u8>, file: &[u8]) -> Compared {
+    compare::numbers("file", &lent.back("file")?, file)
+}
+
 /// Finds n and e of a matrix file, or its refusal.
 pub fn shape(file: &[u8]) -> Result<Result<(usize, usize), Refusal>, Difference> {
     let mut lent = guard_u8(file);
     let mut report = Report::new(4, 3);
     let number = call!(lp_file_shape: (lent) (report));
-    lent.intact("file")?;
+    unchanged_file(&lent, file)?;
     let [place, n, e, _] = report.read()?;
     if number == 0 {
         return Ok(Ok((n as usize, e as usize)));
@@ -493,7 +556,7 @@ pub fn read(file: &[u8], matrix: &mut Input) -> Result<Answer, Difference> {
     let mut m = GuardedInput::new(matrix);
     let mut report = Report::new(4, 1);
     let number = call!(lp_read_matrix: (lent) (m.starts) (m.columns) (m.values) (m.r) (m.c) (m.b) (report));
-    lent.intact("file")?;
+    unchanged_file(&lent, file)?;
     *matrix = m.back(matrix.n)?;
     answer(number, &report)
 }
@@ -505,9 +568,45 @@ pub fn write(matrix: &Input, file: &mut Vec<u8>) -> Result<Answer, Difference> {
     let mut report = Report::new(4, 1);
     let number = call!(lp_write_matrix: [matrix.n] (m.starts) (m.columns) (m.values) (m.r) (m.c) (m.b) (out) (report));
     m.unchanged(matrix)?;
-    out.intact("file")?;
-    *file = out.contents();
+    *file = out.back("file")?;
     answer(number, &report)
+}
+
+/// Finds n, lower and upper of a factor file; the report is a buffer like the others here.
+pub fn factor_shape(file: &[u8], report: &mut Vec<u64>) -> Result<u32, Difference> {
+    let mut lent = guard_u8(file);
+    let mut slots = guard_u64(report);
+    let number = call!(lp_factor_shape: (lent) (slots));
+    unchanged_file(&lent, file)?;
+    *report = slots.back("report")?;
+    Ok(number)
+}
+
+/// Reads a factor file into the lent buffers.
+pub fn read_factors(file: &[u8], kept: &mut Keeping, report: &mut Vec<u64>) -> Result<u32, Difference> {
+    let mut lent = guard_u8(file);
+    let mut k = GuardedKeeping::new(kept);
+    let mut slots = guard_u64(report);
+    let number = call!(lp_read_factors: (lent) (k.r) (k.c)
+        (k.l.starts) (k.l.index) (k.l.values) (k.u.starts) (k.u.index) (k.u.values) (k.d) (slots));
+    unchanged_file(&lent, file)?;
+    *kept = k.back(kept)?;
+    *report = slots.back("report")?;
+    Ok(number)
+}
+
+/// Writes a factor file into the lent bytes; what is only lent must come back as it was.
+pub fn write_factors(kept: &Keeping, file: &mut Vec<u8>, report: &mut Vec<u64>) -> Result<u32, Difference> {
+    let mut out = guard_u8(file);
+    let mut k = GuardedKeeping::new(kept);
+    let mut slots = guard_u64(report);
+    let Counts { lower, upper, products } = kept.counts;
+    let number = call!(lp_write_factors: [kept.n] [lower] [upper] [products] (k.r) (k.c)
+        (k.l.starts) (k.l.index) (k.l.values) (k.u.starts) (k.u.index) (k.u.values) (k.d) (out) (slots));
+    compare::kept(&k.back(kept)?, kept)?;
+    *file = out.back("file")?;
+    *report = slots.back("report")?;
+    Ok(number)
 }
 
 /// Makes a test load of `matrix.n` rows in the lent buffers; the report is a buffer like the others here.
@@ -516,8 +615,7 @@ pub fn load(seed: u16, matrix: &mut Input, report: &mut Vec<u64>) -> Result<u32,
     let mut slots = guard_u64(report);
     let number = call!(lp_test_load: [matrix.n] [seed] (m.starts) (m.columns) (m.values) (m.r) (m.c) (m.b) (slots));
     *matrix = m.back(matrix.n)?;
-    slots.intact("report")?;
-    *report = slots.contents();
+    *report = slots.back("report")?;
     Ok(number)
 }
 
@@ -532,9 +630,7 @@ pub fn sheet(lent: &mut Printing) -> Result<u32, Difference> {
         (g.sf) (g.su) (out) (slots));
     m.unchanged(&lent.input)?;
     lent.buffers = g.back()?;
-    out.intact("sheet")?;
-    lent.sheet = out.contents();
-    slots.intact("report")?;
-    lent.report = slots.contents();
+    lent.sheet = out.back("sheet")?;
+    lent.report = slots.back("report")?;
     Ok(number)
 }

@@ -912,6 +912,73 @@ pub fn dirty_report(random: &mut Random, length: usize) -> Vec<u64> {
     (0..length).map(|_| random.bits()).collect()
 }
 
+/// Buffers of anything for factors: r, c, lower starts, index and values, upper ones, and d have these lengths.
+pub fn dirty_keeping(random: &mut Random, lengths: [usize; 9]) -> Keeping {
+    let [r, c, ls, li, lv, us, ui, uv, d] = lengths;
+    let mut side = |starts: usize, index: usize, values: usize| Store {
+        starts: dirty_u32(random, starts),
+        runs: Vec::new(),
+        index: dirty_u16(random, index),
+        values: dirty_floats(random, values),
+    };
+    let (lower, upper) = (side(ls, li, lv), side(us, ui, uv));
+    let (r, c) = (dirty_u16(random, r), dirty_u16(random, c));
+    let d = dirty_floats(random, d);
+    Keeping { n: 0, counts: Counts::default(), r, c, lower, upper, d }
+}
+
+/// Factors of the plain form with their counts: those of a solve, or lists of no fill in particular. The stores may be
+/// longer than the lists.
+pub fn sound_keeping(random: &mut Random) -> Keeping {
+    let n = random.pick(&[1, 2, 3, 5, 8, 13, 21]);
+    let call = Call::Resolve(Form::Plain);
+    let input = sound_input(random, n);
+    let mut buffers = buffers_for(random, call, &input);
+    if random.per_mille(300) || !present_factors(call, &input, &mut buffers) {
+        present_any_lists(random, call, n, &mut buffers);
+    }
+    let Buffers { lower, upper, d, .. } = buffers;
+    let [r, c] = [(); 2].map(|()| random.permutation(n).iter().map(|&k| k as u16).collect());
+    Keeping { n, counts: reference::factor_file::counts(&lower, &upper), r, c, lower, upper, d }
+}
+
+/// Changes one slot of orders, lists, values or counts.
+pub fn change_keeping(random: &mut Random, kept: &mut Keeping) {
+    let n = kept.n;
+    match random.below(10) {
+        0 => break_order(random, n, &mut kept.r),
+        1 => break_order(random, n, &mut kept.c),
+        2 => kept.counts.products = random.pick(&[0, kept.counts.products + 1, 1 << 32, u64::MAX]),
+        3 => {
+            let starts = if random.per_mille(500) { &mut kept.lower.starts } else { &mut kept.upper.starts };
+            if let Some(end) = starts.last_mut() {
+                *end = change_number(random, *end, *end);
+            }
+        }
+        _ => {
+            let (lower, upper, d) = (kept.lower.clone(), kept.upper.clone(), kept.d.clone());
+            let mut buffers = Buffers { lower, upper, d, ..Buffers::default() };
+            change_presented(random, n, &mut buffers);
+            (kept.lower, kept.upper, kept.d) = (buffers.lower, buffers.upper, buffers.d);
+        }
+    }
+}
+
+/// Gives one buffer of factors another length.
+pub fn resize_keeping(random: &mut Random, kept: &mut Keeping) {
+    match random.below(9) {
+        0 => resize(random, &mut kept.r),
+        1 => resize(random, &mut kept.c),
+        2 => resize(random, &mut kept.d),
+        3 => resize(random, &mut kept.lower.starts),
+        4 => resize(random, &mut kept.upper.starts),
+        5 => resize(random, &mut kept.lower.index),
+        6 => resize(random, &mut kept.lower.values),
+        7 => resize(random, &mut kept.upper.index),
+        _ => resize(random, &mut kept.upper.values),
+    }
+}
+
 /// The fill sheet's call over noise, with stores, sheet and report of these lengths.
 pub fn printing(random: &mut Random, input: &Input, slots: Slots, sheet: usize, report: usize) -> Printing {
     let input = Input { values: Vec::new(), b: Vec::new(), ..input.clone() };

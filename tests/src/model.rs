@@ -123,6 +123,19 @@ pub struct Printing {
     pub report: Vec<u64>,
 }
 
+/// What the calls of the factor file are lent besides the file: orders, lists with their values and d of the plain form;
+/// run starts stay empty. n and the counts are the writer's, the reader is not given them.
+#[derive(Clone, Debug, Default)]
+pub struct Keeping {
+    pub n: usize,
+    pub counts: Counts,
+    pub r: Vec<u16>,
+    pub c: Vec<u16>,
+    pub lower: Store,
+    pub upper: Store,
+    pub d: Vec<f64>,
+}
+
 /// The filled positions below and above the diagonal, and the products.
 #[derive(Clone, Copy, PartialEq, Eq, Debug, Default)]
 pub struct Counts {
@@ -170,6 +183,14 @@ pub struct Slots {
     pub lower_values: usize,
     pub upper_index: usize,
     pub upper_values: usize,
+}
+
+impl Keeping {
+    /// Zeroed buffers of n places, with stores of these lengths.
+    pub fn blank(n: usize, slots: Slots) -> Keeping {
+        let Buffers { lower, upper, d, .. } = Buffers::for_call(Call::Solve(Form::Plain), n, slots);
+        Keeping { n, counts: Counts::default(), r: vec![0; n], c: vec![0; n], lower, upper, d }
+    }
 }
 
 impl Slots {

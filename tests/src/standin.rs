@@ -1,7 +1,7 @@
 //! The reference behind the C interface, with a fault planted that the comparison must find.
 use crate::load;
 use crate::model::*;
-use crate::reference::{self, matrix_file, test_load, Lists};
+use crate::reference::{self, factor_file, matrix_file, test_load, Lists};
 use std::cell::Cell;
 
 /// The faults that can be planted, each small and met by some inputs only.
@@ -139,10 +139,58 @@ pub enum Fault {
     SumLate,
     /// The 13 of a sum names the own row.
     SumPlace,
+    /// The shape gives lower for upper and upper for lower.
+    KeptSizes,
+    /// A read tells no products.
+    KeptCounts,
+    /// A refused read leaves the counts of the report as they were.
+    KeptReport,
+    /// A read leaves unused slots as they were.
+    KeptUnused,
+    /// A read refuses stores longer than the lists.
+    KeptExact,
+    /// A read refuses a store that is too short with 15.
+    KeptShort,
+    /// 20 is asked after 2.
+    KeptLate,
+    /// The closing zeros of a factor file are not asked.
+    KeptTail,
+    /// A read asks 15 before 5.
+    KeptOrders,
+    /// A read does not ask 21.
+    KeptSum,
+    /// A read asks 21 before 15.
+    KeptEarly,
+    /// 21 names the last place.
+    KeptPlace,
+    /// 15 of the last place names n.
+    KeptEnd,
+    /// A read takes a d that is no number.
+    KeptNan,
+    /// A read refuses a d of zero with 15.
+    KeptZero,
+    /// A read loses the sign of a zero in d.
+    KeptSign,
+    /// A read refused with 21 has written the orders.
+    KeptRefusal,
+    /// The writer asks the lengths before n.
+    KeptLengths,
+    /// The writer takes a file of one block more.
+    KeptLong,
+    /// The writer judges the slots behind the lists.
+    KeptBehind,
+    /// The writer does not ask 21.
+    KeptWritten,
+    /// The writer lays c before r.
+    KeptSwap,
+    /// A write refused with 15 clears the file.
+    KeptCleared,
+    /// A write fills four slots of the report.
+    KeptSlots,
 }
 
 /// Every fault.
-pub const FAULTS: [Fault; 66] = [
+pub const FAULTS: [Fault; 90] = [
     Fault::Scratch,
     Fault::Place,
     Fault::Products,
@@ -209,6 +257,30 @@ pub const FAULTS: [Fault; 66] = [
     Fault::SumFirst,
     Fault::SumLate,
     Fault::SumPlace,
+    Fault::KeptSizes,
+    Fault::KeptCounts,
+    Fault::KeptReport,
+    Fault::KeptUnused,
+    Fault::KeptExact,
+    Fault::KeptShort,
+    Fault::KeptLate,
+    Fault::KeptTail,
+    Fault::KeptOrders,
+    Fault::KeptSum,
+    Fault::KeptEarly,
+    Fault::KeptPlace,
+    Fault::KeptEnd,
+    Fault::KeptNan,
+    Fault::KeptZero,
+    Fault::KeptSign,
+    Fault::KeptRefusal,
+    Fault::KeptLengths,
+    Fault::KeptLong,
+    Fault::KeptBehind,
+    Fault::KeptWritten,
+    Fault::KeptSwap,
+    Fault::KeptCleared,
+    Fault::KeptSlots,
 ];
 
 thread_local! {
@@ -259,6 +331,9 @@ macro_rules! export {
     };
     (@ $name:ident [$($param:tt)*] [$($make:stmt;)*] $arg:ident: number, $($rest:tt)*) => {
         export! { @ $name [$($param)* $arg: u32,] [$($make;)*] $($rest)* }
+    };
+    (@ $name:ident [$($param:tt)*] [$($make:stmt;)*] $arg:ident: count, $($rest:tt)*) => {
+        export! { @ $name [$($param)* $arg: u64,] [$($make;)*] $($rest)* }
     };
     (@ $name:ident [$($param:tt)*] [$($make:stmt;)*] $arg:ident: short, $($rest:tt)*) => {
         export! { @ $name [$($param)* $arg: u16,] [$($make;)*] $($rest)* }
@@ -926,4 +1001,193 @@ sf: out f64, su: out u32, sheet: out u8, report: out u64,
     }
     print(number, r, &list_store(ls, lr, li), &list_store(us, ur, ui), su, sheet);
     number
+} }
+
+export! { lp_factor_shape: file: lent u8, report: out u64,
+=> {
+    let number = factor_file::shape(file, report);
+    if has(Fault::KeptSizes) && report.len() > 3 {
+        report.swap(2, 3);
+    }
+    number
+} }
+
+/// The file with other factors in it, where its blocks and sizes are right.
+fn with_factors(file: &[u8], change: impl Fn(&mut Keeping)) -> Vec<u8> {
+    let Ok((sizes, payload)) = factor_file::open(file) else { return file.to_vec() };
+    let mut kept = factor_file::held(sizes, &payload);
+    change(&mut kept);
+    factor_file::file_of(&kept)
+}
+
+/// The file with zeros behind its lists, where its blocks are right.
+fn with_zeros(file: &[u8]) -> Vec<u8> {
+    let Ok(payload) = matrix_file::payloads(file) else { return file.to_vec() };
+    let length = factor_file::payload_length(factor_file::sizes(&payload)).min(payload.len());
+    let mut other = vec![0; file.len()];
+    matrix_file::fill(&mut other, &payload[..length]);
+    other
+}
+
+/// The sum over the lists, whatever their shape.
+fn any_products(kept: &Keeping) -> u64 {
+    let length = |&j: &u16| match kept.upper.starts.get(j as usize..=j as usize + 1) {
+        Some(&[from, to]) => u64::from(to.saturating_sub(from)),
+        _ => 0,
+    };
+    kept.lower.index.iter().map(length).sum()
+}
+
+/// The file that a reader with the planted fault judges in the place of its own, by the number that its own is refused
+/// with.
+fn taken_file(number: u32, file: &[u8]) -> Option<Vec<u8>> {
+    match (PLANTED.get()?, number) {
+        (Fault::KeptTail, 20) => Some(with_zeros(file)),
+        (Fault::KeptNan, 15) => {
+            let finite = |v: &mut f64| *v = if v.is_nan() { 1.0 } else { *v };
+            Some(with_factors(file, |kept| kept.d.iter_mut().for_each(finite)))
+        }
+        (Fault::KeptSum, 21) => Some(with_factors(file, |kept| kept.counts.products = any_products(kept))),
+        _ => None,
+    }
+}
+
+/// The answer that comes before a refusal where the planted fault asks its question first.
+fn asked_first(number: u32, file: &[u8], lent: &Keeping) -> Option<u32> {
+    match (PLANTED.get()?, number) {
+        (Fault::KeptLate, 20) => {
+            let payload = matrix_file::payloads(file).ok()?;
+            factor_file::lengths(factor_file::sizes(&payload), lent).err().map(|q| q.number)
+        }
+        (Fault::KeptOrders, 5) => {
+            let natural = |kept: &mut Keeping| {
+                kept.r = (0..kept.n as u16).collect();
+                kept.c = kept.r.clone();
+            };
+            let other = factor_file::read(&with_factors(file, natural), &mut lent.clone(), &mut []);
+            (other == 15).then_some(15)
+        }
+        (Fault::KeptEarly, 15) => {
+            let (sizes, payload) = factor_file::open(file).ok()?;
+            let kept = factor_file::held(sizes, &payload);
+            (kept.counts.products != any_products(&kept)).then_some(21)
+        }
+        (Fault::KeptShort, 2) => Some(15),
+        _ => None,
+    }
+}
+
+/// The planted faults of a refused read.
+fn spoil_unread(number: u32, file: &[u8], kept: &mut Keeping, report: &mut [u64]) -> u32 {
+    if let Some(other) = taken_file(number, file) {
+        return factor_file::read(&other, kept, report);
+    }
+    if has(Fault::KeptRefusal) && number == 21 {
+        kept.r.fill(0);
+    }
+    let last = kept.d.len() as u64;
+    match report.first_mut() {
+        Some(place) if has(Fault::KeptPlace) && number == 21 => *place = last - 1,
+        Some(place) if has(Fault::KeptEnd) && number == 15 && *place + 1 == last => *place = last,
+        _ => {}
+    }
+    asked_first(number, file, kept).unwrap_or(number)
+}
+
+fn restore_unused(to: &mut Store, before: &Store) {
+    let used = to.starts.last().map_or(0, |&end| end as usize);
+    to.index[used..].copy_from_slice(&before.index[used..]);
+    to.values[used..].copy_from_slice(&before.values[used..]);
+}
+
+/// The planted faults of a read that ends well.
+fn spoil_read(before: &Keeping, kept: &mut Keeping, report: &mut [u64]) -> u32 {
+    let ends = |store: &Store| store.starts.last().is_some_and(|&end| end as usize == store.index.len());
+    let longer = !ends(&kept.lower) || !ends(&kept.upper);
+    if (has(Fault::KeptExact) && longer) || (has(Fault::KeptZero) && kept.d.contains(&0.0)) {
+        *kept = before.clone();
+        return if has(Fault::KeptExact) { 2 } else { 15 };
+    }
+    if has(Fault::KeptUnused) {
+        restore_unused(&mut kept.lower, &before.lower);
+        restore_unused(&mut kept.upper, &before.upper);
+    }
+    if has(Fault::KeptSign) {
+        kept.d.iter_mut().for_each(|v| *v += 0.0);
+    }
+    if has(Fault::KeptCounts) {
+        report.iter_mut().skip(3).take(1).for_each(|slot| *slot = 0);
+    }
+    0
+}
+
+export! { lp_read_factors: file: lent u8, r: out u16, c: out u16,
+ls: out u32, li: out u16, lv: out f64, us: out u32, ui: out u16, uv: out f64, d: out f64, report: out u64,
+=> {
+    let (mut lower, mut upper) = (side!(ls, &mut [], li, lv), side!(us, &mut [], ui, uv));
+    let mut kept = Keeping { r: r.to_vec(), c: c.to_vec(), lower: lower.copy(), upper: upper.copy(), d: d.to_vec(),
+        ..Keeping::default() };
+    let (before, told) = (kept.clone(), report.to_vec());
+    let number = factor_file::read(file, &mut kept, report);
+    if has(Fault::KeptReport) && number != 0 {
+        report.iter_mut().zip(&told).skip(1).for_each(|(slot, value)| *slot = *value);
+    }
+    let number = match number {
+        0 => spoil_read(&before, &mut kept, report),
+        _ => spoil_unread(number, file, &mut kept, report),
+    };
+    lower.put(&kept.lower);
+    upper.put(&kept.upper);
+    r.copy_from_slice(&kept.r);
+    c.copy_from_slice(&kept.c);
+    d.copy_from_slice(&kept.d);
+    number
+} }
+
+/// Whether something stands behind the lists that could not stand in them.
+fn behind(kept: &Keeping) -> bool {
+    let bad = |store: &Store, entries: u64| store.values[entries as usize..].iter().any(|v| !v.is_finite());
+    bad(&kept.lower, kept.counts.lower) || bad(&kept.upper, kept.counts.upper)
+}
+
+/// The planted faults of a refused write.
+fn spoil_unwritten(number: u32, kept: &Keeping, file: &mut [u8]) -> u32 {
+    if has(Fault::KeptLengths) && number == 1 && kept.r.len() != kept.n {
+        return 2;
+    }
+    if has(Fault::KeptWritten) && number == 21 {
+        file.copy_from_slice(&factor_file::file_of(&factor_file::cut(kept)));
+        return 0;
+    }
+    if has(Fault::KeptCleared) && number == 15 {
+        file.fill(0);
+    }
+    if let Some(end) = file.len().checked_sub(512).filter(|_| has(Fault::KeptLong) && number == 2) {
+        return factor_file::write(kept, &mut file[..end], &mut []);
+    }
+    number
+}
+
+export! { lp_write_factors: n: size, low: count, up: count, products: count, r: lent u16, c: lent u16,
+ls: lent u32, li: lent u16, lv: lent f64, us: lent u32, ui: lent u16, uv: lent f64,
+d: lent f64, file: out u8, report: out u64,
+=> {
+    let side = |starts, index, values: &[f64]| Store { values: values.to_vec(), ..list_store(starts, &NO_U32, index) };
+    let (r, c) = if has(Fault::KeptSwap) { (c, r) } else { (r, c) };
+    let counts = Counts { lower: low, upper: up, products };
+    let kept = Keeping { n, counts, r: r.to_vec(), c: c.to_vec(), lower: side(ls, li, lv), upper: side(us, ui, uv),
+        d: d.to_vec() };
+    let before = file.to_vec();
+    let number = factor_file::write(&kept, file, report);
+    if has(Fault::KeptSlots) {
+        put_report(report, &[0; 4]);
+    }
+    if number != 0 {
+        return spoil_unwritten(number, &kept, file);
+    }
+    if has(Fault::KeptBehind) && behind(&kept) {
+        file.copy_from_slice(&before);
+        return 15;
+    }
+    0
 } }

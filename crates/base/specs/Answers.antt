@@ -4,7 +4,7 @@ use Rattle.base.specs.declared.OwnNumber.{OwnNumber}
 use Rattle.base.specs.declared.Place.{Place}
 use Rattle.base.specs.declared.Counts.{Counts}
 use Rattle.base.specs.declared.Refusal.{Refusal}
-use Rattle.base.specs.declared.Refusal.the-variants.{Rows, Lengths, Starts, Column, Order, NotFinite, EmptyRow, NullPivot, LowerSlots, UpperSlots, ZeroPivot, Overflow, OtherStructure, BadFactors, FileLength, Block, FileShape, Floor}
+use Rattle.base.specs.declared.Refusal.the-variants.{Rows, Lengths, Starts, Column, Order, NotFinite, EmptyRow, NullPivot, LowerSlots, UpperSlots, ZeroPivot, Overflow, OtherStructure, BadFactors, FileLength, Block, FileShape, Floor, FactorShape, Products}
 use Rattle.base.specs.declared.Found.{Found}
 use Rattle.base.specs.declared.Found.the-variants.{At, Nothing}
 use Rattle.base.specs.declared.Asked.{Asked}
@@ -13,6 +13,9 @@ use Rattle.base.specs.declared.Answer.{Answer}
 use Rattle.base.specs.declared.Answer.the-variants.{Done, Refused}
 use Rattle.base.specs.declared.Ended.{Ended}
 use Rattle.base.specs.declared.Ended.the-variants as ends
+use Rattle.base.specs.declared.FactorSizes.{FactorSizes}
+use Rattle.base.specs.declared.Kept.{Kept}
+use Rattle.base.specs.declared.Kept.the-variants as keeps
 use Rattle.base.specs.declared.Made.{Made}
 use Rattle.base.specs.declared.Made.the-variants as makes
 use mathlib.Core.Bool.{Bool, true, false}
@@ -37,6 +40,8 @@ numberOf FileLength = 16
 numberOf (Block p) = 17
 numberOf FileShape = 18
 numberOf Floor = 19
+numberOf FactorShape = 20
+numberOf Products = 21
 
 -- "and a place (0 where none is named)"
 abbrev pub placeOf : Refusal → ℕ
@@ -58,6 +63,8 @@ placeOf FileLength = 0
 placeOf (Block p) = p
 placeOf FileShape = 0
 placeOf Floor = 0
+placeOf FactorShape = 0
+placeOf Products = 0
 
 -- 0 for done
 abbrev pub numberOfAnswer : Answer → ℕ
@@ -93,6 +100,19 @@ placeOfMade (makes.Refused q) = placeOf q
 abbrev pub entriesOf : Made → ℕ
 entriesOf (makes.Entries e) = e
 entriesOf (makes.Refused q) = 0
+
+abbrev pub numberOfKept : Kept → ℕ
+numberOfKept (keeps.Factors s) = 0
+numberOfKept (keeps.Refused q) = numberOf q
+
+abbrev pub placeOfKept : Kept → ℕ
+placeOfKept (keeps.Factors s) = 0
+placeOfKept (keeps.Refused q) = placeOf q
+
+-- n, lower and upper of factors: 0 after a refusal
+abbrev pub sizesOfKept : Kept → FactorSizes
+sizesOfKept (keeps.Factors s) = s
+sizesOfKept (keeps.Refused q) = record { n = 0; lower = 0; upper = 0 }
 
 -- an own number, and an elimination place
 abbrev pub own : ℕ → OwnNumber

@@ -5,7 +5,7 @@ ghost use lib.Ieee.Scale.{finite};
 ghost use Rattle.base.specs.Lists.{blank, nought};
 ghost use Rattle.base.specs.Magnitude.{atMost};
 ghost use Rattle.base.specs.Index.{indexBound};
-ghost use Rattle.base.specs.Answers.{numberOf, placeOf, numberOfAnswer, placeOfAnswer, countsOf, numberOfEnd, placeOfEnd, numberOfMade, placeOfMade, entriesOf};
+ghost use Rattle.base.specs.Answers.{numberOf, placeOf, numberOfAnswer, placeOfAnswer, countsOf, numberOfEnd, placeOfEnd, numberOfMade, placeOfMade, entriesOf, numberOfKept, placeOfKept, sizesOfKept};
 
 pub mod scratch;
 
@@ -123,6 +123,8 @@ pub enum Refusal {
     Block(u32),
     FileShape,
     Floor,
+    FactorShape,
+    Products,
 }
 
 // What a question, or a run of questions, answers.
@@ -140,6 +142,19 @@ pub enum Answer {
 // How a call without counts ends.
 pub enum Ended {
     Done,
+    Refused(Refusal),
+}
+
+// The rows of factors in the plain form, and the entries of their two sides.
+pub struct FactorSizes {
+    pub n: usize,
+    pub lower: usize,
+    pub upper: usize,
+}
+
+// What a factor file is found to hold: factors of these sizes, or none.
+pub enum Kept {
+    Factors(FactorSizes),
     Refused(Refusal),
 }
 
@@ -174,6 +189,8 @@ impl Refusal {
             Refusal::Block(_) => 17,
             Refusal::FileShape => 18,
             Refusal::Floor => 19,
+            Refusal::FactorShape => 20,
+            Refusal::Products => 21,
         }
     }
 
@@ -201,6 +218,8 @@ impl Refusal {
             Refusal::Block(p) => p,
             Refusal::FileShape => 0,
             Refusal::Floor => 0,
+            Refusal::FactorShape => 0,
+            Refusal::Products => 0,
         }
     }
 }
@@ -299,6 +318,45 @@ impl Made {
         match a {
             Made::Entries(e) => e,
             Made::Refused(_) => 0,
+        }
+    }
+}
+
+impl Kept {
+    // Gives 0 for factors, else the refusal's number.
+    pub fn number(self) -> u32
+        ensures { λ r. ⌜ r ≡ numberOfKept self ⌝ }
+    {
+        let a = self;
+        match a {
+            Kept::Factors(_) => 0,
+            Kept::Refused(q) => q.number(),
+        }
+    }
+
+    // Gives 0 for factors, else the refusal's place.
+    pub fn place(self) -> u32
+        ensures { λ r. ⌜ r ≡ placeOfKept self ⌝ }
+    {
+        let a = self;
+        match a {
+            Kept::Factors(_) => 0,
+            Kept::Refused(q) => q.place(),
+        }
+    }
+
+    // Gives the sizes, 0 after a refusal.
+    pub fn sizes(self) -> FactorSizes
+        ensures { λ r. ⌜ r ≡ sizesOfKept self ⌝ }
+    {
+        let a = self;
+        match a {
+            Kept::Factors(s) => s,
+            Kept::Refused(_) => FactorSizes {
+                n: 0,
+                lower: 0,
+                upper: 0,
+            },
         }
     }
 }

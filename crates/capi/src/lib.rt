@@ -3,7 +3,7 @@
 ghost use mathlib.Core.Path.{_≡_};
 ghost use mathlib.Core.List.{[]};
 ghost use lib.Seq.{sets};
-ghost use Rattle.base.specs.Answers.{numberOfAnswer};
+ghost use Rattle.base.specs.Answers.{numberOfKept};
 ghost use Rattle.base.specs.declared.Form.{Form};
 ghost use Rattle.matrix.specs.Input.{inputOf, withFloor};
 ghost use Rattle.outcome.specs.Buffers.{plainBuffers, sharedBuffers, rowBuffers};
@@ -16,7 +16,10 @@ ghost use Rattle.fill_sheet.specs.FillSheet.{sheetBuffers, sheetOutcome};
 ghost use Rattle.load.specs.Load.{loadOutcome};
 ghost use Rattle.matrix.specs.Lists.{matrixLists};
 ghost use Rattle.matrix_file.specs.MatrixFile.{opened, readOutcome, writeOutcome};
-ghost use Rattle.report.specs.Report.{Reported, Told, ToldEnd, ToldMade, asLeft, answerSlots, numberOfShape, shapeSlots, listSlots};
+ghost use Rattle.factor_contents.specs.FactorFile.{factorLists};
+ghost use Rattle.factor_contents.specs.FactorFile as factors;
+ghost use Rattle.report.specs.Report.{Told, ToldEnd, ToldMade, ToldRead, asLeft, keptSlots, numberOfShape, shapeSlots, listSlots};
+use base::Counts;
 use base::Index;
 
 // Finds the fill and its lists, lower rows and T(k) one after another.
@@ -177,7 +180,7 @@ pub extern "C" fn lp_fill_sheet(
     sheet: &mut [u8],
     report: &mut [u64],
 ) -> u32
-    ensures { λ q. ⌜ Reported numberOfAnswer answerSlots (sheetOutcome (inputOf n (now (starts .entry)) (now (columns .entry)) [] (now (r .entry)) (now (c .entry)) [])
+    ensures { λ q. ⌜ ToldRead (sheetOutcome (inputOf n (now (starts .entry)) (now (columns .entry)) [] (now (r .entry)) (now (c .entry)) [])
         (sheetBuffers (sharedBuffers (now («lower_starts» .entry)) (now («lower_runs» .entry)) (now («lower_index» .entry)) (now («lower_values» .entry)) (now («upper_starts» .entry)) (now («upper_runs» .entry)) (now («upper_index» .entry)) (now («upper_values» .entry)) [] [] (now («scratch_f64» .entry)) (now («scratch_u32» .entry))) (now (sheet .entry))))
         (now (report .entry)) (now (report .exit))
         (sheetBuffers (sharedBuffers (now («lower_starts» .exit)) (now («lower_runs» .exit)) (now («lower_index» .exit)) (now («lower_values» .exit)) (now («upper_starts» .exit)) (now («upper_runs» .exit)) (now («upper_index» .exit)) (now («upper_values» .exit)) [] [] (now («scratch_f64» .exit)) (now («scratch_u32» .exit))) (now (sheet .exit))) q ⌝ }
@@ -603,6 +606,93 @@ pub extern "C" fn lp_write_matrix(
         (now (report .entry)) (now (report .exit)) (now (file .exit)) q ⌝ }
 {
     report::write_matrix(n, starts, columns, values, r, c, b, file, report)
+}
+
+// Gives n, lower and upper of a factor file.
+#[no_mangle]
+pub extern "C" fn lp_factor_shape(file: &[u8], report: &mut [u64]) -> u32
+    ensures { λ q. ⌜ q ≡ numberOfKept (factors.opened (now (file .entry))) ⌝ }
+    ensures { λ _. ⌜ now (report .exit) ≡ sets (now (report .entry)) 0 (keptSlots (factors.opened (now (file .entry)))) ⌝ }
+{
+    let a = factor_reading::factor_file_shape(file);
+    report::put_kept(report, a)
+}
+
+// Reads a factor file into lent buffers.
+#[no_mangle]
+pub extern "C" fn lp_read_factors(
+    file: &[u8],
+    r: &mut [Index],
+    c: &mut [Index],
+    lower_starts: &mut [u32],
+    lower_index: &mut [Index],
+    lower_values: &mut [f64],
+    upper_starts: &mut [u32],
+    upper_index: &mut [Index],
+    upper_values: &mut [f64],
+    d: &mut [f64],
+    report: &mut [u64],
+) -> u32
+    ensures { λ q. ⌜ ToldRead (factors.readOutcome (now (file .entry)) (factorLists (now (r .entry)) (now (c .entry)) (now («lower_starts» .entry)) (now («lower_index» .entry)) (now («lower_values» .entry)) (now («upper_starts» .entry)) (now («upper_index» .entry)) (now («upper_values» .entry)) (now (d .entry))))
+        (now (report .entry)) (now (report .exit)) (factorLists (now (r .exit)) (now (c .exit)) (now («lower_starts» .exit)) (now («lower_index» .exit)) (now («lower_values» .exit)) (now («upper_starts» .exit)) (now («upper_index» .exit)) (now («upper_values» .exit)) (now (d .exit))) q ⌝ }
+{
+    let a = factor_reading::read_factors(
+        file,
+        r,
+        c,
+        lower_starts,
+        lower_index,
+        lower_values,
+        upper_starts,
+        upper_index,
+        upper_values,
+        d,
+    );
+    report::put_answer(report, a)
+}
+
+// Writes factors of the plain form as a file.
+#[no_mangle]
+pub extern "C" fn lp_write_factors(
+    n: usize,
+    lower: u64,
+    upper: u64,
+    products: u64,
+    r: &[Index],
+    c: &[Index],
+    lower_starts: &[u32],
+    lower_index: &[Index],
+    lower_values: &[f64],
+    upper_starts: &[u32],
+    upper_index: &[Index],
+    upper_values: &[f64],
+    d: &[f64],
+    file: &mut [u8],
+    report: &mut [u64],
+) -> u32
+    ensures { λ q. ⌜ ToldEnd (factors.writeOutcome n (record { lower = lower; upper = upper; products = products }) (factorLists (now (r .entry)) (now (c .entry)) (now («lower_starts» .entry)) (now («lower_index» .entry)) (now («lower_values» .entry)) (now («upper_starts» .entry)) (now («upper_index» .entry)) (now («upper_values» .entry)) (now (d .entry))) (now (file .entry)))
+        (now (report .entry)) (now (report .exit)) (now (file .exit)) q ⌝ }
+{
+    let counts = Counts {
+        lower,
+        upper,
+        products,
+    };
+    let a = factor_writing::write_factors(
+        n,
+        counts,
+        r,
+        c,
+        lower_starts,
+        lower_index,
+        lower_values,
+        upper_starts,
+        upper_index,
+        upper_values,
+        d,
+        file,
+    );
+    report::put_end(report, a)
 }
 
 // Makes the test load of n rows from a seed.

@@ -6,13 +6,14 @@ use Prim.Native.Nat.{ℕ, suc, _+_, _-_, _≤_, _<_}
 use lib.ListN.{length, getD}
 use Rattle.base.specs.Lists.{listAt}
 use Rattle.base.specs.Limits.{maxRows, maxEntries}
-use Rattle.base.specs.Answers.{numberOfAnswer, numberOfEnd, numberOfMade, left}
+use Rattle.base.specs.Answers.{numberOfAnswer, numberOfEnd, numberOfMade, numberOfKept, left}
 use Rattle.matrix.specs.Input.{Input}
 use Rattle.matrix.specs.Shape.{shapeOf}
 use Rattle.blocks.specs.Blocks.{askBlocks}
 use Rattle.matrix.specs.Lists.{MatrixLists}
 use Rattle.matrix_file.specs.MatrixFile.{nOf, opened, readOutcome, writeOutcome, matrixAt, written}
 use Rattle.matrix_file.specs.Example.{exampleFile}
+use Rattle.factor_contents.specs.FactorFile as factors
 use Rattle.lookup.specs.Lookup as lookup
 use Rattle.load.specs.Load.{loadOutcome}
 use Rattle.fill_sheet.specs.FillSheet.{SheetBuffers, sheetOutcome}
@@ -24,6 +25,7 @@ use Rattle.outcome.specs.Resolve.{resolve}
 use Rattle.cases.specs.Table.{Case, outcomeOf, two, boundary}
 use Rattle.matrix.specs.declared.Shaped.the-variants.{Shape, Unshaped}
 use Rattle.base.specs.declared.Form.{Form}
+use Rattle.base.specs.declared.Counts.{Counts}
 use Rattle.base.specs.declared.Side.{Side}
 use Rattle.base.specs.declared.Place.{Place}
 use Rattle.base.specs.declared.Refusal.the-variants.{Rows}
@@ -31,6 +33,7 @@ use Rattle.base.specs.declared.Asked.the-variants.{Pass}
 use Rattle.base.specs.declared.Answer.the-variants.{Refused}
 use Rattle.base.specs.declared.Ended.the-variants as ends
 use Rattle.base.specs.declared.Made.the-variants as mades
+use Rattle.base.specs.declared.Kept.the-variants as keeps
 
 -- every call refuses this n with 1 and writes nothing, whatever else it is lent
 pub record Refuses (n : ℕ) : Type 0 where
@@ -43,6 +46,9 @@ pub record Refuses (n : ℕ) : Type 0 where
   pub opens : (file : List ℕ) → askBlocks file ≡ Pass → nOf file ≡ n → opened file ≡ Unshaped Rows
   pub reads : (file : List ℕ) (l : MatrixLists) → askBlocks file ≡ Pass → nOf file ≡ n → readOutcome file l ≡ left (ends.Refused Rows) l
   pub writes : (i : Input) (file : List ℕ) → i .n ≡ n → writeOutcome i file ≡ left (ends.Refused Rows) file
+  pub finds-factors : (file : List ℕ) → askBlocks file ≡ Pass → factors.nOf file ≡ n → factors.opened file ≡ keeps.Refused Rows
+  pub reads-factors : (file : List ℕ) (l : factors.FactorLists) → askBlocks file ≡ Pass → factors.nOf file ≡ n → factors.readOutcome file l ≡ left (Refused Rows) l
+  pub writes-factors : (k : Counts) (l : factors.FactorLists) (file : List ℕ) → factors.writeOutcome n k l file ≡ left (ends.Refused Rows) file
   pub loads : (s : ℕ) (l : MatrixLists) → loadOutcome n s l ≡ left (mades.Refused Rows) l
   pub sheets : (i : Input) (s : SheetBuffers) → i .n ≡ n → sheetOutcome i s ≡ left (Refused Rows) s
   -- "the empty part at that store's start"
@@ -58,6 +64,9 @@ pub record Passes (n : ℕ) : Type 0 where
   pub opens : (file : List ℕ) → nOf file ≡ n → opened file ≡ Unshaped Rows → ⊥
   pub reads : (file : List ℕ) (l : MatrixLists) → nOf file ≡ n → numberOfEnd (readOutcome file l .answer) ≡ 1 → ⊥
   pub writes : (i : Input) (file : List ℕ) → i .n ≡ n → numberOfEnd (writeOutcome i file .answer) ≡ 1 → ⊥
+  pub finds-factors : (file : List ℕ) → factors.nOf file ≡ n → numberOfKept (factors.opened file) ≡ 1 → ⊥
+  pub reads-factors : (file : List ℕ) (l : factors.FactorLists) → factors.nOf file ≡ n → numberOfAnswer (factors.readOutcome file l .answer) ≡ 1 → ⊥
+  pub writes-factors : (k : Counts) (l : factors.FactorLists) (file : List ℕ) → numberOfEnd (factors.writeOutcome n k l file .answer) ≡ 1 → ⊥
   pub loads : (s : ℕ) (l : MatrixLists) → numberOfMade (loadOutcome n s l .answer) ≡ 1 → ⊥
   pub sheets : (i : Input) (s : SheetBuffers) → i .n ≡ n → numberOfAnswer (sheetOutcome i s .answer) ≡ 1 → ⊥
   -- with fitting lengths, a list within its store is handed back

@@ -3,3 +3,5 @@ pub mod FloatLaws
 pub mod PutLaws
 pub mod PartLaws
 pub mod ZeroLaws
+pub mod WindowLaws
+pub mod WordLaws

@@ -5,16 +5,11 @@ use mathlib.Core.Bool.{true}
 use mathlib.Core.List.{List, [], _∷_, map}
 use Prim.Native.Nat.{ℕ, zero, suc, _+_, _*_, _^_, _<_, _≤_}
 use native.Mathlib.Omega.{arith}
-use native.Mathlib.Nat.{not-suc-le-zero}
 use borrow.Author.Tests.{le-leb, eq-eqb}
-use lib.Dec.{T}
-use lib.ListN.{length, getD, drop, length-map}
-use lib.Ieee.{Float, binary64, ofBits, toBits, nanBits, fits}
-use lib.Ieee.Bits.{ofBits-toBits, toBits-lt, toBits-ofBits, nanBits-is, ofBits-fits}
+use lib.ListN.{length, getD, length-map}
+use lib.Ieee.{binary64, ofBits}
 use Rattle.base.specs.Answers.{left}
 use Rattle.base.specs.Lists.{table}
-use Rattle.base.specs.TableLaws.{getD-table}
-use Rattle.base.specs.Tests.{by-test}
 use Rattle.base.specs.declared.Asked.the-variants.{Pass}
 use Rattle.base.specs.declared.Ended.the-variants.{Done}
 use Rattle.base.specs.Limits.{maxRows, maxEntries}
@@ -22,8 +17,8 @@ use Rattle.matrix.specs.Input.{Input, inputOf}
 use Rattle.matrix.specs.declared.Matrix.{Matrix}
 use Rattle.matrix.specs.declared.Shaped.the-variants.{Shape}
 use Rattle.fields.specs.Numbers.{Part, stream, Span, span, spansOf, extent}
-use Rattle.fields.specs.Payload.{payload, fieldAt, fieldsAt, floatsAt, bitsOf, quiet, partsAt}
-use Rattle.fields.proofs.FloatLaws.{nan-from, toBits-nan}
+use Rattle.fields.specs.Payload.{payload, fieldsAt, floatsAt, partsAt}
+use Rattle.fields.proofs.WordLaws.{Binary64, Bytes, QuietAt, of-bits, bits-small, floats-fit, numbersOf, quiet-words, words-quiet}
 use Rattle.fields.proofs.PartLaws.{Fits, parts-back, stream-of-parts, length-stream, length-fieldsAt, fields-fit}
 use Rattle.blocks.specs.Blocks.{blocksFor, fileOf}
 use Rattle.blocks.proofs.FileLaws.{payload-fileOf, fileOf-asked, fileOf-ends, asked-whole, file-back}
@@ -33,11 +28,6 @@ use Rattle.matrix_file.proofs.CallLaws.{n-range, e-most, written-long, 
 
 -- ---- the words of the theorems
 
--- every float of a list is a binary64 number, or the NaN
-abbrev pub Binary64 : List Float → Type 0
-Binary64 [] = Unit {0}
-Binary64 (x ∷ xs) = T (fits binary64 x) × Binary64 xs
-
 -- the numbers of a matrix as its lists' types hold them: starts of 32 bits, columns and orders of 16, binary64 values
 pub record Widths (i : Input) : Type 0 where
   pub starts-fit : Fits 4 (i .starts)
@@ -46,14 +36,6 @@ pub record Widths (i : Input) : Type 0 where
   pub r-fit : Fits 2 (i .r)
   pub c-fit : Fits 2 (i .c)
   pub b-fit : Binary64 (i .b)
-
--- the numbers of a file are bytes
-abbrev pub Bytes : List ℕ → Type 0
-Bytes file = (i : ℕ) → getD file i 0 < 256
-
--- every NaN among n words of 8 bytes from at on has the pattern that a NaN is written as
-abbrev pub QuietAt : List ℕ → ℕ → ℕ → Type 0
-QuietAt file at n = (k : ℕ) → k < n → nanBits binary64 (fieldAt 8 file at k) ≡ true → fieldAt 8 file at k ≡ quiet
 
 -- where values and b stand
 abbrev valuesAt : ℕ → ℕ → ℕ
@@ -69,34 +51,6 @@ pub record QuietNaNs (file : List ℕ) : Type 0 where
 abbrev pub shapeOf : Input → Matrix
 shapeOf i = record { rows = i .n; entries = length (i .columns) }
 
--- ---- floats and their bits
-
-of-bits : (xs : List Float) → Binary64 xs → map (ofBits binary64) (bitsOf xs) ≡ xs
-of-bits [] a = refl
-of-bits (x ∷ xs) a = rw (ofBits-toBits binary64 x (a .0), of-bits xs (a .1))
-
-bits-small : (xs : List Float) → Binary64 xs → (k : ℕ) → getD (bitsOf xs) k 0 < 256 ^ 8
-bits-small [] a k = omega arith
-bits-small (x ∷ xs) a zero = omega (arith, toBits-lt binary64 x (a .0))
-bits-small (x ∷ xs) a (suc k) = bits-small xs (a .1) k
-
-floats-fit : (ws : List ℕ) → Binary64 (map (ofBits binary64) ws)
-floats-fit [] = tt
-floats-fit (w ∷ ws) = (ofBits-fits binary64 w, floats-fit ws)
-
--- a word comes back exactly if it is no NaN's or the quiet one
-abbrev Exact : ℕ → Type 0
-Exact w = toBits binary64 (ofBits binary64 w) ≡ w
-
-exact-from : (w : ℕ) → w < 256 ^ 8 → (nanBits binary64 w ≡ true → w ≡ quiet) → Exact w
-exact-from w l q =
-    by-test (nanBits binary64 w)
-    (λ t. ap (toBits binary64) (nan-from (ofBits binary64 w) (sym (nanBits-is binary64 w) ∙ t)) ∙ (toBits-nan ∙ sym (q t)))
-    (λ f. toBits-ofBits binary64 w (omega arith) (rw (sym (nanBits-is binary64 w) ∙ f) tt))
-
-quiet-from : (w : ℕ) → Exact w → nanBits binary64 w ≡ true → w ≡ quiet
-quiet-from w x t = sym x ∙ (ap (toBits binary64) (nan-from (ofBits binary64 w) (sym (nanBits-is binary64 w) ∙ t)) ∙ toBits-nan)
-
 -- ---- the layout: parts one after another from the first payload byte
 
 abbrev spans : ℕ → ℕ → List Span
@@ -105,12 +59,6 @@ spans n e = span 4 2 ∷ span 4 (n + 1) ∷ span 2 e ∷ span 8 e ∷ span 2 n �
 extent-spans : (n e : ℕ) → extent (spans n e) ≡ sizeOf n e
 unfolding extent
 extent-spans n e = omega arith
-
--- the numbers of part k
-numbersOf : List Part → ℕ → List ℕ
-numbersOf [] k = []
-numbersOf (p ∷ ps) zero = p .numbers
-numbersOf (p ∷ ps) (suc k) = numbersOf ps k
 
 -- ---- a matrix that is written
 
@@ -183,32 +131,7 @@ module _ (i : Input) (w : Widths i) (len : ℕ) (p : askWrite i len ≡ Pass) wh
 
 -- ---- a matrix that is read
 
--- words that come back from floats, and when they do
-exact-list : (ws : List ℕ) → ((k : ℕ) → k < length ws → Exact (getD ws k 0)) → bitsOf (map (ofBits binary64) ws) ≡ ws
-exact-list [] h = refl
-exact-list (w ∷ ws) h = ap₂ (λ (x : ℕ) (xs : List ℕ). x ∷ xs) (h 0 (omega arith)) (exact-list ws (λ k l. h (suc k) (omega arith)))
-
-exact-each : (ws : List ℕ) → bitsOf (map (ofBits binary64) ws) ≡ ws → (k : ℕ) → k < length ws → Exact (getD ws k 0)
-exact-each [] e k l = absurd (not-suc-le-zero l)
-exact-each (w ∷ ws) e zero l = ap (λ (xs : List ℕ). getD xs 0 0) e
-exact-each (w ∷ ws) e (suc k) l = exact-each ws (ap (drop 1) e) k (omega arith)
-
-field-is : (file : List ℕ) (at c k : ℕ) → k < c → getD (fieldsAt 8 file at c) k 0 ≡ fieldAt 8 file at k
-unfolding fieldsAt
-field-is file at c k l = getD-table (fieldAt 8 file at) c 0 k l
-
 module _ (file : List ℕ) (small : Bytes file) where
-  quiet-words : (at c : ℕ) → QuietAt file at c → bitsOf (floatsAt file at c) ≡ fieldsAt 8 file at c
-  unfolding floatsAt
-  quiet-words at c q = exact-list (fieldsAt 8 file at c) (λ k l.
-      let l′ : k < c = rw length-fieldsAt at l in
-      exact-from (getD (fieldsAt 8 file at c) k 0) (fields-fit file small 8 at c k l) (rw (field-is file at c k l′) (q k l′)))
-
-  words-quiet : (at c : ℕ) → bitsOf (floatsAt file at c) ≡ fieldsAt 8 file at c → QuietAt file at c
-  unfolding floatsAt
-  words-quiet at c e k l t =
-      rw (field-is file at c k l) at (quiet-from (getD (fieldsAt 8 file at c) k 0) (exact-each (fieldsAt 8 file at c) e k (rw length-fieldsAt l)) (rw (field-is file at c k l) t))
-
   module _ (a : askFile file ≡ Pass) where
     abbrev held : Input
     held = matrixAt file
@@ -258,8 +181,8 @@ module _ (file : List ℕ) (small : Bytes file) where
         rw (
           length-fieldsAt 2 file (8 + 4 * (nOf file + 1)) (eOf file),
           head-is,
-          quiet-words (valuesAt (nOf file) (eOf file)) (eOf file) (q .values-quiet),
-          quiet-words (bAt (nOf file) (eOf file)) (nOf file) (q .b-quiet),
+          quiet-words file small (valuesAt (nOf file) (eOf file)) (eOf file) (q .values-quiet),
+          quiet-words file small (bAt (nOf file) (eOf file)) (nOf file) (q .b-quiet),
         )
 
     held-written : QuietNaNs file → written held ≡ file
@@ -279,8 +202,8 @@ module _ (file : List ℕ) (small : Bytes file) where
       quiet-held : QuietNaNs file
       unfolding matrixAt listsAt partsAt numbersOf
       quiet-held = record {
-        values-quiet = words-quiet (valuesAt (nOf file) (eOf file)) (eOf file) (sym (part-held 3));
-        b-quiet = words-quiet (bAt (nOf file) (eOf file)) (nOf file) (sym (part-held 6));
+        values-quiet = words-quiet file small (valuesAt (nOf file) (eOf file)) (eOf file) (sym (part-held 3));
+        b-quiet = words-quiet file small (bAt (nOf file) (eOf file)) (nOf file) (sym (part-held 6));
       }
 
 -- ---- the theorems

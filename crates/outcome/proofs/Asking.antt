@@ -15,7 +15,7 @@ use Rattle.base.specs.Tests.{by-test}
 use Rattle.base.specs.declared.Found.{Found}
 use Rattle.base.specs.declared.Found.the-variants.{At, Nothing}
 use Rattle.base.specs.declared.Refusal.{Refusal}
-use Rattle.base.specs.declared.Refusal.the-variants.{Rows, Lengths, Starts, Column, Order, NotFinite, EmptyRow, NullPivot, LowerSlots, UpperSlots, ZeroPivot, Overflow, OtherStructure, BadFactors, FileLength, Block, FileShape, Floor}
+use Rattle.base.specs.declared.Refusal.the-variants.{Rows, Lengths, Starts, Column, Order, NotFinite, EmptyRow, NullPivot, LowerSlots, UpperSlots, ZeroPivot, Overflow, OtherStructure, BadFactors, FileLength, Block, FileShape, Floor, FactorShape, Products}
 use Rattle.base.specs.declared.Asked.{Asked}
 use Rattle.base.specs.declared.Asked.the-variants.{Pass, Stop}
 
@@ -42,6 +42,8 @@ unused-numbers FileLength = (λ e. omega arith, λ e. omega arith)
 unused-numbers (Block i) = (λ e. omega arith, λ e. omega arith)
 unused-numbers FileShape = (λ e. omega arith, λ e. omega arith)
 unused-numbers Floor = (λ e. omega arith, λ e. omega arith)
+unused-numbers FactorShape = (λ e. omega arith, λ e. omega arith)
+unused-numbers Products = (λ e. omega arith, λ e. omega arith)
 
 pub number-some : (q : Refusal) → numberOf q ≡ 0 → ⊥
 number-some q = unused-numbers q .0

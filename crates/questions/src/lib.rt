@@ -139,8 +139,8 @@ fn ask_order(n: usize, order: &[Index], from: usize, marks: &mut [u32]) -> Asked
     Asked::Pass
 }
 
-// 5: are r and then c orders?
-fn ask_orders(n: usize, r: &[Index], c: &[Index], marks: &mut [u32]) -> Asked
+// 5: are r and then c orders? Overwrites the marks.
+pub fn ask_orders(n: usize, r: &[Index], c: &[Index], marks: &mut [u32]) -> Asked
     requires { ⌜ OrdersLent n (now r) (now c) (length (now marks)) ⌝ }
     ensures { λ a. ⌜ a ≡ ask5 n (now (r .entry)) (now (c .entry)) ⌝ }
 {

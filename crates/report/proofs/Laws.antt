@@ -6,7 +6,7 @@ use native.Mathlib.Numerals.{add-one}
 use lib.ListN.{length, getD, set, drop, drop-of-length-le}
 use lib.Seq.{sets, drop-cons}
 use Rattle.base.specs.Limits.{maxRows}
-use Rattle.base.specs.Answers.{numberOf, placeOf, placeOfAnswer, countsOf, placeOfEnd, placeOfMade, entriesOf, spot, Left, left}
+use Rattle.base.specs.Answers.{numberOf, placeOf, placeOfAnswer, countsOf, placeOfEnd, placeOfMade, entriesOf, placeOfKept, sizesOfKept, spot, Left, left}
 use Rattle.base.specs.declared.Counts.{Counts}
 use Rattle.base.specs.declared.Form.{Form}
 use Rattle.base.specs.declared.Place.{Place}
@@ -18,13 +18,15 @@ use Rattle.lookup.specs.LookupLaws.{span-in}
 use borrow.Author.Tests.{eq-eqb, ne-eqb, lt-ltb, le-ltb}
 use Rattle.base.specs.declared.Answer.{Answer}
 use Rattle.base.specs.declared.Ended.{Ended}
+use Rattle.base.specs.declared.FactorSizes.{FactorSizes}
+use Rattle.base.specs.declared.Kept.{Kept}
 use Rattle.base.specs.declared.Made.{Made}
 use Rattle.base.specs.declared.Refusal.{Refusal}
 use Rattle.matrix.specs.declared.Matrix.{Matrix}
 use Rattle.matrix.specs.declared.Shaped.{Shaped}
 use Rattle.matrix.specs.declared.Shaped.the-variants.{Shape, Unshaped}
 use Rattle.outcome.specs.Buffers.{Buffers, Outcome, ended}
-use Rattle.report.specs.Report.{Reported, asLeft, answerSlots, endSlots, madeSlots, numberOfShape, shapeSlots, spanSlots, sideNumbered, placeIn}
+use Rattle.report.specs.Report.{Reported, asLeft, answerSlots, endSlots, madeSlots, keptSlots, numberOfShape, shapeSlots, spanSlots, sideNumbered, placeIn}
 
 pub slots-turn : (out : List ℕ) (values : List ℕ) (i : ℕ) → i < length values → sets (set out i (getD values i 0)) (i + 1) (drop (i + 1) values) ≡ sets out i (drop i values)
 slots-turn out values i h = rw (add-one i, drop-cons values i 0 h)
@@ -52,6 +54,11 @@ end-put a place report₀ report e h = h ∙ rw e
 pub made-put : (a : Made) (place e : ℕ) (report₀ report : List ℕ) → place ≡ placeOfMade a → e ≡ entriesOf a → report ≡ sets report₀ 0 (place ∷ e ∷ []) → report ≡ sets report₀ 0 (madeSlots a)
 unfolding madeSlots
 made-put a place e report₀ report p f h = h ∙ rw (p, f)
+
+pub kept-put : (a : Kept) (place : ℕ) (sizes : FactorSizes) (report₀ report : List ℕ) → place ≡ placeOfKept a → sizes ≡ sizesOfKept a
+    → report ≡ sets report₀ 0 (place ∷ sizes .n ∷ sizes .lower ∷ sizes .upper ∷ []) → report ≡ sets report₀ 0 (keptSlots a)
+unfolding keptSlots
+kept-put a place sizes report₀ report e f h = h ∙ rw (e, f)
 
 -- ---- the shape of a file
 

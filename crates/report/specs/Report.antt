@@ -5,11 +5,12 @@ use mathlib.Core.List.{List, [], _∷_}
 use Prim.Native.Nat.{ℕ, _-_}
 use lib.Dec.{eqb, ltb}
 use lib.Seq.{sets}
-use Rattle.base.specs.Answers.{numberOf, placeOf, numberOfAnswer, placeOfAnswer, countsOf, numberOfEnd, placeOfEnd, numberOfMade, placeOfMade, entriesOf, spot, Left, left}
+use Rattle.base.specs.Answers.{numberOf, placeOf, numberOfAnswer, placeOfAnswer, countsOf, numberOfEnd, placeOfEnd, numberOfMade, placeOfMade, entriesOf, placeOfKept, sizesOfKept, spot, Left, left}
 use Rattle.base.specs.Limits.{maxRows}
 use Rattle.base.specs.declared.Answer.{Answer}
 use Rattle.base.specs.declared.Ended.{Ended}
 use Rattle.base.specs.declared.Form.{Form}
+use Rattle.base.specs.declared.Kept.{Kept}
 use Rattle.base.specs.declared.Made.{Made}
 use Rattle.base.specs.declared.Place.{Place}
 use Rattle.base.specs.declared.Side.{Side}
@@ -34,9 +35,13 @@ asLeft o = left (o .answer) (o .buffers)
 unfoldable pub answerSlots : Answer → List ℕ
 answerSlots a = placeOfAnswer a ∷ countsOf a .lower ∷ countsOf a .upper ∷ countsOf a .products ∷ []
 
+-- a call with counts: the fill sheet, reading factors
+abbrev pub ToldRead : {A : Type 0} → Left Answer A → List ℕ → List ℕ → A → ℕ → Type 0
+ToldRead o = Reported numberOfAnswer answerSlots o
+
 -- a structure call or a solve
 abbrev pub Told : Outcome Answer → List ℕ → List ℕ → Buffers → ℕ → Type 0
-Told o = Reported numberOfAnswer answerSlots (asLeft o)
+Told o = ToldRead (asLeft o)
 
 -- the place alone
 abbrev pub endSlots : Ended → List ℕ
@@ -53,6 +58,10 @@ madeSlots a = placeOfMade a ∷ entriesOf a ∷ []
 -- a call that makes a matrix
 abbrev pub ToldMade : {A : Type 0} → Left Made A → List ℕ → List ℕ → A → ℕ → Type 0
 ToldMade o = Reported numberOfMade madeSlots o
+
+-- the sizes of a factor file: place, n, lower and upper
+unfoldable pub keptSlots : Kept → List ℕ
+keptSlots a = placeOfKept a ∷ sizesOfKept a .n ∷ sizesOfKept a .lower ∷ sizesOfKept a .upper ∷ []
 
 -- the shape of a file
 abbrev pub numberOfShape : Shaped → ℕ

@@ -3,17 +3,18 @@ ghost use mathlib.Core.Path.{_≡_};
 ghost use Prim.Native.Nat.{_≤_};
 ghost use lib.ListN.{set};
 ghost use lib.Seq.{sets};
-ghost use Rattle.base.specs.Answers.{numberOfAnswer, numberOfEnd, numberOfMade};
+ghost use Rattle.base.specs.Answers.{numberOfAnswer, numberOfEnd, numberOfMade, numberOfKept};
 ghost use Rattle.base.specs.declared.Form.{Form};
 ghost use Rattle.matrix.specs.Input.{inputOf};
 ghost use Rattle.lookup.specs.Lookup.{sideLists};
 ghost use Rattle.load.specs.Load.{loadOutcome};
 ghost use Rattle.matrix.specs.Lists.{matrixLists};
 ghost use Rattle.matrix_file.specs.MatrixFile.{opened, readOutcome, writeOutcome};
-ghost use Rattle.report.specs.Report.{answerSlots, endSlots, madeSlots, ToldEnd, ToldMade, numberOfShape, shapeSlots, spanSlots, sideNumbered, placeIn, listSlots};
+ghost use Rattle.report.specs.Report.{answerSlots, endSlots, madeSlots, keptSlots, ToldEnd, ToldMade, numberOfShape, shapeSlots, spanSlots, sideNumbered, placeIn, listSlots};
 use base::Answer;
 use base::Ended;
 use base::Index;
+use base::Kept;
 use base::Made;
 use base::Place;
 use base::Side;
@@ -76,6 +77,24 @@ fn put_made(report: &mut [u64], a: Made) -> u32
     ensures { λ _. ⌜ now (report .exit) ≡ sets (now (report .entry)) 0 (madeSlots a) ⌝ }
 {
     put_all(report, &[a.place() as u64, a.entries() as u64]);
+    a.number()
+}
+
+// Writes place and sizes of what a factor file holds, and returns the number.
+pub fn put_kept(report: &mut [u64], a: Kept) -> u32
+    ensures { λ r. ⌜ r ≡ numberOfKept a ⌝ }
+    ensures { λ _. ⌜ now (report .exit) ≡ sets (now (report .entry)) 0 (keptSlots a) ⌝ }
+{
+    let sizes = a.sizes();
+    put_all(
+        report,
+        &[
+            a.place() as u64,
+            sizes.n as u64,
+            sizes.lower as u64,
+            sizes.upper as u64,
+        ],
+    );
     a.number()
 }
 

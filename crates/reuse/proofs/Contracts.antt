@@ -91,7 +91,7 @@ resolved-right : (i : Input) (b : List Float) (s : Buffers) (o : Out (List Float
 resolved-right i b s (ok z) = refl
 resolved-right i b s (met q) = refl
 
-right-only : (f : Form) (i : Input) (b : List Float) (s : Buffers) → resolve f (rightOf i b) s ≡ resolve f (withRight i b) s
+pub right-only : (f : Form) (i : Input) (b : List Float) (s : Buffers) → resolve f (rightOf i b) s ≡ resolve f (withRight i b) s
 unfolding resolve factorsOf rightAt
 right-only f i b s =
     ap (λ (o : Outcome Ended). stop ends.Refused (askShape (i .n) (rightTests (rightOf i b) ++ bufferTests f (i .n) (sizes s))) s

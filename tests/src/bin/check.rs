@@ -6,7 +6,7 @@ use lilacpliers_tests::checks::cases::Range;
 use lilacpliers_tests::checks::*;
 use std::process::ExitCode;
 
-const GROUPS: [&str; 15] = [
+const GROUPS: [&str; 16] = [
     "known",
     "consistency",
     "cases",
@@ -17,6 +17,7 @@ const GROUPS: [&str; 15] = [
     "reuse",
     "damaged",
     "files",
+    "kept",
     "loads",
     "sheets",
     "nulls",
@@ -92,6 +93,10 @@ fn check_reference(options: &Options, tally: &mut Tally) {
         files::examples(tally);
         files::round_trips(&Reference, options.range(options.cases / 20), tally);
     }
+    if options.wants("kept") {
+        kept::limits(&Reference, options.seed, tally);
+        kept::run(&Reference, options.range(options.cases / 40), tally);
+    }
 }
 
 fn check_library(library: &dyn Solver, options: &Options, tally: &mut Tally) {
@@ -147,6 +152,12 @@ fn check_library_files(library: &dyn Solver, options: &Options, tally: &mut Tall
         files::too_many_entries(library, tally);
         files::round_trips(library, options.range(options.cases / 20), tally);
     }
+    if options.wants("kept") {
+        kept::limits(library, options.seed, tally);
+        kept::damage(library, options.seed, tally);
+        kept::large(library, options.seed, tally);
+        kept::run(library, options.range(options.cases / 10), tally);
+    }
 }
 
 fn check_nulls(options: &Options, tally: &mut Tally) {
@@ -155,6 +166,7 @@ fn check_nulls(options: &Options, tally: &mut Tally) {
     cases::run(&library, options.range(options.cases / 10), tally);
     cases::lookups(&library, options.range(options.cases / 20), tally);
     files::round_trips(&library, options.range(options.cases / 40), tally);
+    kept::run(&library, options.range(options.cases / 40), tally);
     sheets::run(&library, options.range(options.cases / 40), tally);
 }
 

@@ -6,6 +6,7 @@ pub mod files;
 pub mod floors;
 pub mod forms;
 pub mod header;
+pub mod kept;
 pub mod known;
 pub mod loads;
 pub mod nulls;
@@ -18,7 +19,7 @@ pub mod signatures;
 
 use crate::compare::{Compared, Difference};
 use crate::model::*;
-use crate::reference::{self, fill_sheet, matrix_file, test_load, Lists};
+use crate::reference::{self, factor_file, fill_sheet, matrix_file, test_load, Lists};
 use std::process::ExitCode;
 
 /// How many checks passed and failed. The first failures are printed as they come.
@@ -81,6 +82,12 @@ pub trait Solver {
     fn read(&self, file: &[u8], matrix: &mut Input) -> Result<Answer, Difference>;
     /// Writes a matrix file into the lent bytes.
     fn write(&self, matrix: &Input, file: &mut Vec<u8>) -> Result<Answer, Difference>;
+    /// Finds n, lower and upper of a factor file in the lent report, and returns the call's number.
+    fn factor_shape(&self, file: &[u8], report: &mut Vec<u64>) -> Result<u32, Difference>;
+    /// Reads a factor file into the lent buffers and report, and returns the call's number.
+    fn read_factors(&self, file: &[u8], kept: &mut Keeping, report: &mut Vec<u64>) -> Result<u32, Difference>;
+    /// Writes a factor file into the lent bytes, and returns the call's number.
+    fn write_factors(&self, kept: &Keeping, file: &mut Vec<u8>, report: &mut Vec<u64>) -> Result<u32, Difference>;
     /// Makes a test load of `matrix.n` rows in the lent buffers and report, and returns its number.
     fn load(&self, seed: u16, matrix: &mut Input, report: &mut Vec<u64>) -> Result<u32, Difference>;
     /// Finds the shared structure in the lent buffers, prints its fill, and returns the call's number.
@@ -117,6 +124,18 @@ impl Solver for Reference {
 
     fn write(&self, matrix: &Input, file: &mut Vec<u8>) -> Result<Answer, Difference> {
         Ok(matrix_file::write(matrix, file))
+    }
+
+    fn factor_shape(&self, file: &[u8], report: &mut Vec<u64>) -> Result<u32, Difference> {
+        Ok(factor_file::shape(file, report))
+    }
+
+    fn read_factors(&self, file: &[u8], kept: &mut Keeping, report: &mut Vec<u64>) -> Result<u32, Difference> {
+        Ok(factor_file::read(file, kept, report))
+    }
+
+    fn write_factors(&self, kept: &Keeping, file: &mut Vec<u8>, report: &mut Vec<u64>) -> Result<u32, Difference> {
+        Ok(factor_file::write(kept, file, report))
     }
 
     fn load(&self, seed: u16, matrix: &mut Input, report: &mut Vec<u64>) -> Result<u32, Difference> {
@@ -184,6 +203,21 @@ impl Solver for Library {
     fn write(&self, matrix: &Input, file: &mut Vec<u8>) -> Result<Answer, Difference> {
         crate::ffi::lend_nulls(self.nulls);
         crate::ffi::write(matrix, file)
+    }
+
+    fn factor_shape(&self, file: &[u8], report: &mut Vec<u64>) -> Result<u32, Difference> {
+        crate::ffi::lend_nulls(self.nulls);
+        crate::ffi::factor_shape(file, report)
+    }
+
+    fn read_factors(&self, file: &[u8], kept: &mut Keeping, report: &mut Vec<u64>) -> Result<u32, Difference> {
+        crate::ffi::lend_nulls(self.nulls);
+        crate::ffi::read_factors(file, kept, report)
+    }
+
+    fn write_factors(&self, kept: &Keeping, file: &mut Vec<u8>, report: &mut Vec<u64>) -> Result<u32, Difference> {
+        crate::ffi::lend_nulls(self.nulls);
+        crate::ffi::write_factors(kept, file, report)
     }
 
     fn load(&self, seed: u16, matrix: &mut Input, report: &mut Vec<u64>) -> Result<u32, Difference> {

@@ -1,6 +1,7 @@
 //! A buffer of length 0 may be NULL: each lent buffer in turn, and all at once, against the reference.
 use super::cases::compare_case;
 use super::files::{compare_file, compare_written};
+use super::kept::{self, compare_read, compare_write};
 use super::loads::compare_load;
 use super::sheets::compare_sheet;
 use super::{known, Solver, Tally};
@@ -8,7 +9,7 @@ use crate::compare::{self, Compared};
 use crate::generate::{self, Case};
 use crate::load;
 use crate::model::*;
-use crate::reference::{self, matrix_file, Lists};
+use crate::reference::{self, factor_file, matrix_file, Lists};
 
 /// Takes a buffer's slots away; false where the call is not lent it.
 type Taking = (&'static str, fn(&mut Case) -> bool);
@@ -166,6 +167,46 @@ fn files(solver: &dyn Solver, tally: &mut Tally) {
     tally.add(|| "NULL file read".to_string(), compare_file(solver, &[], &whole));
 }
 
+const FACTOR_TAKINGS: [fn(&mut Keeping) -> bool; 9] = [
+    |kept| take(&mut kept.r),
+    |kept| take(&mut kept.c),
+    |kept| take(&mut kept.lower.starts),
+    |kept| take(&mut kept.lower.index),
+    |kept| take(&mut kept.lower.values),
+    |kept| take(&mut kept.upper.starts),
+    |kept| take(&mut kept.upper.index),
+    |kept| take(&mut kept.upper.values),
+    |kept| take(&mut kept.d),
+];
+
+/// Writes the factors into as many bytes as the file has, then reads the file into their buffers.
+fn keep_number(solver: &dyn Solver, kept: &Keeping, file: &[u8], report: usize, number: u32) -> Compared {
+    let slots = vec![7; report];
+    let ((written, _), _) = compare_write(solver, kept, &vec![5; file.len()], &slots)?;
+    compare::same("number of write", &written, &number)?;
+    let (read, _) = compare_read(solver, file, kept, &slots)?;
+    compare::same("number of read", &read, &number)
+}
+
+fn factor_files(solver: &dyn Solver, tally: &mut Tally) {
+    let whole = kept::example();
+    let file = factor_file::file_of(&whole);
+    for (number, taking) in FACTOR_TAKINGS.iter().enumerate() {
+        let mut kept = whole.clone();
+        let result = compare::same("lent", &taking(&mut kept), &true);
+        let result = result.and_then(|()| keep_number(solver, &kept, &file, 4, 2));
+        tally.add(|| format!("factor file with NULL for buffer {number}"), result);
+    }
+    tally.add(|| "factor file with NULL report".to_string(), keep_number(solver, &whole, &file, 0, 0));
+    let one = Keeping { d: vec![0.5], ..Keeping::blank(1, Slots::all(0)) };
+    let file = factor_file::file_of(&one);
+    tally.add(|| "factor file with NULL stores".to_string(), keep_number(solver, &one, &file, 0, 0));
+    let none = compare_write(solver, &whole, &[], &[]).and_then(|((number, _), _)| among(number, &[2]));
+    tally.add(|| "NULL factor file written".to_string(), none);
+    let none = compare_read(solver, &[], &Keeping::default(), &[]).and_then(|(number, _)| among(number, &[16]));
+    tally.add(|| "NULL factor file read".to_string(), none);
+}
+
 /// Makes a load in what is left of the matrix, with a report of so many slots.
 fn load_number(solver: &dyn Solver, matrix: &Input, report: usize, number: u32) -> Compared {
     compare::same("number of load", &compare_load(solver, 1, matrix, &vec![7; report])?, &number)
@@ -220,6 +261,7 @@ pub fn run(solver: &dyn Solver, tally: &mut Tally) {
         lookups(solver, form, tally);
     }
     files(solver, tally);
+    factor_files(solver, tally);
     test_loads(solver, tally);
     sheets(solver, tally);
 }

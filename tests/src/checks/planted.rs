@@ -1,6 +1,6 @@
 //! The comparison is not trusted blindly: faults are planted in the stand-in, and it must find each of them.
 use super::cases::{self, Range};
-use super::{files, floors, loads, repeats, sheets, Library, Tally};
+use super::{files, floors, kept, loads, repeats, sheets, Library, Tally};
 use crate::compare;
 use crate::standin::{plant, Fault, FAULTS};
 
@@ -14,6 +14,7 @@ fn failures(fault: Option<Fault>) -> u64 {
     cases::lookups(&library, range(500), &mut tally);
     files::lengths(&library, 1, &mut tally);
     floors::limits(&library, 1, &mut tally);
+    kept::limits(&library, 1, &mut tally);
     loads::limits(&library, 1, &mut tally);
     repeats::limits(&library, 1, &mut tally);
     sheets::limits(&library, 1, &mut tally);

@@ -60,6 +60,7 @@ fn declared_kind(argument: &str) -> String {
     match argument.split_once(": ").map(|(_, kind)| kind) {
         Some("size") => "usize".to_string(),
         Some("number") => "u32".to_string(),
+        Some("count") => "u64".to_string(),
         Some("short") => "u16".to_string(),
         Some("real") => "f64".to_string(),
         Some(kind) => format!("slice of {}", kind.trim_start_matches("lent ").trim_start_matches("out ")),
@@ -125,10 +126,12 @@ fn exports(header: &str) -> Compared {
 }
 
 /// Changes of the header that the comparison must find, one of each kind of argument.
-const CHANGES: [(&str, &str); 8] = [
+const CHANGES: [(&str, &str); 10] = [
     ("uint16_t seed", "uint32_t seed"),
     ("uint32_t side, size_t place", "uint32_t side, uint32_t place"),
     ("uint8_t *file", "uint16_t *file"),
+    ("uint64_t lower, uint64_t upper", "uint64_t lower, uint32_t upper"),
+    ("uint64_t lower, uint64_t upper, uint64_t products", "uint64_t lower, uint64_t upper"),
     ("double floor", "uint64_t floor"),
     ("    double floor,\n", ""),
     ("b_len,\n    double floor,", "b_len, double *other, size_t other_len,\n    double floor,"),

@@ -1,4 +1,4 @@
-//! The matrix file: blocks of 512 bytes with a number and two checks.
+//! The matrix file: blocks of 512 bytes with a number and two checks, which the factor file shares.
 use crate::model::*;
 
 /// Bytes of a block.
@@ -52,29 +52,8 @@ fn joined(file: &[u8]) -> Vec<u8> {
     file.chunks(BLOCK).flat_map(|block| block[..PAYLOAD].to_vec()).collect()
 }
 
-/// Little-endian fields of a payload, one after another.
-struct Fields<'a> {
-    bytes: &'a [u8],
-}
-
-impl Fields<'_> {
-    fn take(&mut self, width: usize) -> u64 {
-        let (field, rest) = self.bytes.split_at(width);
-        self.bytes = rest;
-        field.iter().rev().fold(0, |sum, &byte| sum * 256 + byte as u64)
-    }
-
-    fn numbers(&mut self, to: &mut [u16]) {
-        to.iter_mut().for_each(|slot| *slot = self.take(2) as u16);
-    }
-
-    fn floats(&mut self, to: &mut [f64]) {
-        to.iter_mut().for_each(|slot| *slot = f64::from_bits(self.take(8)));
-    }
-}
-
-/// Puts questions 16, 17, 1 and 18, and finds n and e.
-pub fn shape(file: &[u8]) -> Result<(usize, usize), Refusal> {
+/// Puts questions 16 and 17, and finds the joined payloads.
+pub fn payloads(file: &[u8]) -> Result<Vec<u8>, Refusal> {
     if file.is_empty() || !file.len().is_multiple_of(BLOCK) || file.len() as u64 > 1 << 41 {
         return refuse(16, 0);
     }
@@ -83,7 +62,50 @@ pub fn shape(file: &[u8]) -> Result<(usize, usize), Refusal> {
             return refuse(17, number);
         }
     }
-    let payload = joined(file);
+    Ok(joined(file))
+}
+
+/// Writes the payload, then zeros, and seals the blocks.
+pub fn fill(file: &mut [u8], payload: &[u8]) {
+    file.fill(0);
+    for (part, block) in payload.chunks(PAYLOAD).zip(file.chunks_mut(BLOCK)) {
+        block[..part.len()].copy_from_slice(part);
+    }
+    seal(file);
+}
+
+/// Little-endian fields of a payload, one after another.
+pub struct Fields<'a> {
+    pub bytes: &'a [u8],
+}
+
+impl Fields<'_> {
+    /// The next field of so many bytes.
+    pub fn take(&mut self, width: usize) -> u64 {
+        let (field, rest) = self.bytes.split_at(width);
+        self.bytes = rest;
+        field.iter().rev().fold(0, |sum, &byte| sum * 256 + byte as u64)
+    }
+
+    /// Fills the list with the next fields of 4 bytes.
+    pub fn starts(&mut self, to: &mut [u32]) {
+        to.iter_mut().for_each(|slot| *slot = self.take(4) as u32);
+    }
+
+    /// Fills the list with the next fields of 2 bytes.
+    pub fn numbers(&mut self, to: &mut [u16]) {
+        to.iter_mut().for_each(|slot| *slot = self.take(2) as u16);
+    }
+
+    /// Fills the list with the next fields of 8 bytes.
+    pub fn floats(&mut self, to: &mut [f64]) {
+        to.iter_mut().for_each(|slot| *slot = f64::from_bits(self.take(8)));
+    }
+}
+
+/// Puts questions 16, 17, 1 and 18, and finds n and e.
+pub fn shape(file: &[u8]) -> Result<(usize, usize), Refusal> {
+    let payload = payloads(file)?;
     let mut fields = Fields { bytes: &payload };
     let n = fields.take(4) as usize;
     let e = fields.take(4) as usize;
@@ -113,9 +135,7 @@ pub fn read(file: &[u8], matrix: &mut Input) -> Answer {
     }
     let payload = joined(file);
     let mut fields = Fields { bytes: &payload[8..] };
-    for slot in matrix.starts.iter_mut() {
-        *slot = fields.take(4) as u32;
-    }
+    fields.starts(&mut matrix.starts);
     fields.numbers(&mut matrix.columns);
     fields.floats(&mut matrix.values);
     fields.numbers(&mut matrix.r);
@@ -124,7 +144,8 @@ pub fn read(file: &[u8], matrix: &mut Input) -> Answer {
     Answer::default()
 }
 
-fn float_bytes(v: f64) -> [u8; 8] {
+/// A number as a file holds it.
+pub fn float_bytes(v: f64) -> [u8; 8] {
     let bits = if v.is_nan() { NAN_BITS } else { v.to_bits() };
     bits.to_le_bytes()
 }
@@ -153,12 +174,7 @@ pub fn write(matrix: &Input, file: &mut [u8]) -> Answer {
     if !lengths_match(n, e, matrix) || file.len() != file_length(n, e) {
         return Refusal { number: 2, place: 0 }.into();
     }
-    file.fill(0);
-    let payload = payload_of(matrix);
-    for (part, block) in payload.chunks(PAYLOAD).zip(file.chunks_mut(BLOCK)) {
-        block[..part.len()].copy_from_slice(part);
-    }
-    seal(file);
+    fill(file, &payload_of(matrix));
     Answer::default()
 }
 

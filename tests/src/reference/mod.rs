@@ -2,6 +2,7 @@
 //! rows, every rounded operation tested by itself. It is slow on purpose and shares nothing with the library.
 pub mod arithmetic;
 pub mod calls;
+pub mod factor_file;
 pub mod factors;
 pub mod fill;
 pub mod fill_sheet;

@@ -1,0 +1,4 @@
+pub mod ExampleFile
+pub mod LengthLaws
+pub mod JudgingLaws
+pub mod CallLaws

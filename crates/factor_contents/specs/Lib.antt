@@ -1,0 +1,3 @@
+pub mod FactorFile
+pub mod Example
+pub mod Judging

@@ -1,0 +1,7 @@
+pub mod Values
+pub mod Spans
+pub mod WrittenRead
+pub mod ReadWritten
+pub mod OtherRight
+pub mod Products
+pub mod Witness
