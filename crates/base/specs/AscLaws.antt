@@ -159,7 +159,8 @@ unfolding asc
 asc-drop p m zero l = let e : m ≡ zero = omega arith in rw (e, count-zero p)
 asc-drop p m (suc n) l = elim (dec_lt n m) [
   | yes q ↦ (let e : m ≡ suc n = omega arith in
-      rw e (drop_of_length-le (asc p (suc n)) {i = count p (suc n)} (rw length-asc (omega arith)) ∙ sym (asc-none (λ j. leb (suc n) j && p j) (suc n) (λ j k. rw (lt-leb (suc n) j k)))))
+      subst (λ (k : ℕ). drop (count p k) (asc p (suc n)) ≡ asc (λ j. leb k j && p j) (suc n)) (sym e)
+      (drop_of_length-le (asc p (suc n)) {i = count p (suc n)} (rw length-asc (omega arith)) ∙ sym (asc-none (λ j. leb (suc n) j && p j) (suc n) (λ j k. rw (lt-leb (suc n) j k)))))
   | no q ↦
       drop-append-le (count p m) (asc p n) (keep (p n) n) (rw length-asc (count-mono p m n (omega arith)))
       ∙ ap₂ (λ r b. r ++ keep (b && p n) n) (asc-drop p m n (omega arith)) (sym (le-leb m n (omega arith)))

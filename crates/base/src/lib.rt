@@ -1,4 +1,6 @@
 // The words in which every call answers, index numbers and lengths, and the clearing of lent buffers.
+#![tactic(auto)]
+
 ghost use Rattle.std.specs.Prelude.{◌≡◌, ◌<◌};
 ghost use Rattle.std.specs.Float.Ieee.Scale.{finite};
 ghost use Rattle.base.specs.Lists.{blank, nought};
@@ -45,22 +47,22 @@ pub fn slot(x: u32) -> usize
 // ---- answers
 
 // The first index at which a test holds, or none.
-#[derive(Drop)]
+#[derive(Clone, Copy)]
 pub enum Found {
     At(usize),
     Nothing,
 }
 
 // A row or a column by its own number in the matrix.
-#[derive(Drop)]
+#[derive(Clone, Copy)]
 pub struct OwnNumber(pub u32);
 
 // A place in the elimination's order.
-#[derive(Drop)]
+#[derive(Clone, Copy)]
 pub struct Place(pub u32);
 
 // Filled positions below and above the diagonal, and products.
-#[derive(Drop)]
+#[derive(Clone, Copy)]
 pub struct Counts {
     pub lower: u64,
     pub upper: u64,
@@ -68,14 +70,14 @@ pub struct Counts {
 }
 
 // The two sides of the diagonal.
-#[derive(Drop)]
+#[derive(Clone, Copy)]
 pub enum Side {
     Lower,
     Upper,
 }
 
 // The three ways to store structure and factors.
-#[derive(Drop)]
+#[derive(Clone, Copy)]
 pub enum Form {
     Plain,
     Shared,
@@ -83,7 +85,7 @@ pub enum Form {
 }
 
 // The lengths of what a side is lent, 0 for what it is not.
-#[derive(Drop)]
+#[derive(Clone, Copy)]
 pub struct SideSizes {
     pub starts: usize,
     pub runs: usize,
@@ -92,7 +94,7 @@ pub struct SideSizes {
 }
 
 // The lengths of all that a call writes.
-#[derive(Drop)]
+#[derive(Clone, Copy)]
 pub struct Sizes {
     pub lower: SideSizes,
     pub upper: SideSizes,
@@ -103,7 +105,7 @@ pub struct Sizes {
 }
 
 // Row k's sum, reciprocal pivot and y, which go from step to step of its elimination.
-#[derive(Drop)]
+#[derive(Clone, Copy)]
 pub struct RowSums {
     pub sum: f64,
     pub reciprocal: f64,
@@ -111,7 +113,7 @@ pub struct RowSums {
 }
 
 // A question answered with no, in the order of the numbers, and where.
-#[derive(Drop)]
+#[derive(Clone, Copy)]
 pub enum Refusal {
     Rows,
     Lengths,
@@ -137,28 +139,28 @@ pub enum Refusal {
 }
 
 // What a question, or a run of questions, answers.
-#[derive(Drop)]
+#[derive(Clone, Copy)]
 pub enum Asked {
     Pass,
     Stop(Refusal),
 }
 
 // How a structure call or a solve ends.
-#[derive(Drop)]
+#[derive(Clone, Copy)]
 pub enum Answer {
     Done(Counts),
     Refused(Refusal),
 }
 
 // How a call without counts ends.
-#[derive(Drop)]
+#[derive(Clone, Copy)]
 pub enum Ended {
     Done,
     Refused(Refusal),
 }
 
 // The rows of factors in the plain form, and the entries of their two sides.
-#[derive(Drop)]
+#[derive(Clone, Copy)]
 pub struct FactorSizes {
     pub n: usize,
     pub lower: usize,
@@ -166,14 +168,14 @@ pub struct FactorSizes {
 }
 
 // What a factor file is found to hold: factors of these sizes, or none.
-#[derive(Drop)]
+#[derive(Clone, Copy)]
 pub enum Kept {
     Factors(FactorSizes),
     Refused(Refusal),
 }
 
 // How a call that makes a matrix ends: with so many entries, or not.
-#[derive(Drop)]
+#[derive(Clone, Copy)]
 pub enum Made {
     Entries(usize),
     Refused(Refusal),

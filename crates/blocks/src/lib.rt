@@ -1,4 +1,6 @@
 // Blocks of 512 bytes: a payload of 504, the block's number and two checks. Questions 16 and 17, and the sealing of a file.
+#![tactic(auto)]
+
 ghost use Rattle.std.specs.Prelude.{◌≡◌, ◌++◌, ◌+◌, ◌*◌, ◌/◌, ◌^◌, ◌≤◌, ◌<◌, length, take, drop};
 ghost use Rattle.std.proofs.lemmas.List.Edits.{sets};
 ghost use Rattle.fields.specs.Numbers.{le, bytes};
@@ -8,7 +10,7 @@ ghost use Rattle.blocks.specs.Blocks.{byte_from, check_a, check_b, right_block, 
 use base::{Asked, Found, Refusal};
 
 // Check A and check B of a block.
-#[derive(Drop)]
+#[derive(Clone, Copy)]
 pub struct Checks {
     pub a: u32,
     pub b: u32,

@@ -1,5 +1,7 @@
 // The C interface. Slices pass as pointer and length; a call answers its number and fills the report as far as it goes.
 // Each function passes on to the call that it names.
+#![tactic(auto)]
+
 ghost use Rattle.std.specs.Prelude.{◌≡◌, []};
 ghost use Rattle.std.proofs.lemmas.List.Edits.{sets};
 ghost use Rattle.base.specs.Answers.{number_of_kept, own};

@@ -1,5 +1,7 @@
 // The columns of M', which is lent by rows, handed out for k = 0, 1, .. in turn as stamps.
 // A window of columns is a set of linked lists in scratch, made by one scan of the rows; the next window begins where it ends.
+#![tactic(auto)]
+
 ghost use Rattle.std.specs.Prelude.{◌≡◌, List, [], ◌∷◌, ℕ, ◌+◌, ◌*◌, ◌≤◌, ◌<◌, length, get_or};
 ghost use Rattle.base.specs.Lists.{row_of};
 ghost use Rattle.lent.specs.Reading.{ListIn, Below, order_of, placed};

@@ -1,5 +1,7 @@
 // Question 14: the structure is found again within the lent scratch, and compared place by place with the one that is presented.
 // Nothing but scratch is written, and no presented number is followed before it is known to be the one that is placed.
+#![tactic(auto)]
+
 ghost use Rattle.std.specs.Prelude.{◌≡◌, List, [], ◌&&◌, ℕ, ◌<◌, length, get_or, eqb};
 ghost use Rattle.matrix.specs.Input.{input_of};
 ghost use Rattle.fill.specs.Fill.{Pattern};
@@ -13,14 +15,14 @@ use storing::{Extent, Match, Way};
 use symbolic::{OpenRow, Opened, SidePlace};
 
 // How one side of a place ends: its list is another than the one presented, or the same.
-#[derive(Drop)]
+#[derive(Clone, Copy)]
 pub enum SideMatch {
     Other,
     Same(SidePlace),
 }
 
 // How far the comparison is: how much stands on each side, and the end of the window of columns.
-#[derive(Drop)]
+#[derive(Clone, Copy)]
 pub struct Reached {
     pub lower: Extent,
     pub upper: Extent,
@@ -28,7 +30,7 @@ pub struct Reached {
 }
 
 // How a place ends: it differs, or the next one follows.
-#[derive(Drop)]
+#[derive(Clone, Copy)]
 pub enum PlaceMatch {
     Other,
     Next(Reached),

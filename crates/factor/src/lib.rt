@@ -1,6 +1,8 @@
 // The arithmetic of a solve over lists that stand in their stores: the factors row by row, then the back steps.
 // Scratch of 32-bit slots has marks, the inverse column order from slot n on, block stamps from 2n, cuts from 3n, the cursors of L from 4n
 // and lower row k from 5n.
+#![tactic(auto)]
+
 ghost use Rattle.std.specs.Prelude.{◌≡◌, List, ℕ, ◌+◌, ◌*◌, ◌-◌, ◌<◌, ◌≤◌, length, get_or, take, drop};
 ghost use Rattle.std.proofs.lemmas.List.Edits.{sets};
 ghost use Rattle.base.specs.Lists.{nought, blank, list_at, row_of};
@@ -21,7 +23,7 @@ use base::{Form, Index, Place, RowSums, scratch};
 use numeric::{Back, Pivot};
 
 // Every row is done and z is found, or what the arithmetic meets first.
-#[derive(Drop)]
+#[derive(Clone, Copy)]
 pub enum Factored {
     Solved,
     Zero(Place),
@@ -282,7 +284,7 @@ fn keep_at(
 // ---- the rows
 
 // How long lower row k is, and what the row comes to.
-#[derive(Drop)]
+#[derive(Clone, Copy)]
 struct RowReduced {
     below: usize,
     pivot: Pivot,

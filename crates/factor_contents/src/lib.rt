@@ -1,4 +1,6 @@
 // The contents of factors in the plain form: where they stand in a file, question 2 of the lengths of buffers for them, and questions 5, 15 and 21 of what a file holds, judged where it stands, and of lent lists.
+#![tactic(auto)]
+
 ghost use Rattle.std.specs.Prelude.{◌≡◌, not, [], ◌+◌, ◌*◌, ◌≤◌, ◌<◌, length, replicate};
 ghost use Rattle.base.specs.declared.Form.TheVariants.{Plain};
 ghost use Rattle.base.specs.Limits.{max_rows, max_slots};
@@ -17,7 +19,7 @@ use matrix::Matrix;
 // ---- where the parts stand
 
 // The payload bytes at which the upper starts, the lower and upper indices, L, d, u, r and c begin.
-#[derive(Drop)]
+#[derive(Clone, Copy)]
 pub struct Offsets {
     pub starts: usize,
     pub lower: usize,

@@ -1,4 +1,6 @@
 // The factor file of the plain form: its shape, and its reading.
+#![tactic(auto)]
+
 ghost use Rattle.std.specs.Prelude.{◌≡◌, ◌+◌, ◌*◌, ◌≤◌, ◌<◌, length};
 ghost use Rattle.base.specs.Answers.{left};
 ghost use Rattle.base.specs.Lists.{padded, nought};

@@ -1,4 +1,6 @@
 // The factor file of the plain form: its writing.
+#![tactic(auto)]
+
 ghost use Rattle.std.specs.Prelude.{◌≡◌, ◌++◌, ◌+◌, ◌*◌, ◌≤◌, length, eqb};
 ghost use Rattle.base.specs.Answers.{left, or_untouched};
 ghost use Rattle.base.specs.Limits.{max_rows, max_slots};

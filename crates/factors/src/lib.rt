@@ -1,4 +1,6 @@
 // Question 15: are presented lists well shaped, and presented factors finite? The plain form passes its list starts as run starts.
+#![tactic(auto)]
+
 ghost use Rattle.std.specs.Prelude.{◌≡◌, not, ◌+◌, ◌<◌, length};
 ghost use Rattle.arithmetic.specs.RowEnd.{finite_all};
 ghost use Rattle.base.specs.Limits.{max_rows};

@@ -1,4 +1,6 @@
 // Numbers of any width in the joined payloads of a file of blocks: read one by one and in lists, and written.
+#![tactic(auto)]
+
 ghost use Rattle.std.specs.Prelude.{◌≡◌, ◌++◌, ◌+◌, ◌-◌, ◌*◌, ◌^◌, ◌≤◌, ◌<◌, length};
 ghost use Rattle.std.specs.Float.{binary64};
 ghost use Rattle.std.specs.Float.Ieee.{of_bits, to_bits};
@@ -9,7 +11,7 @@ ghost use Rattle.fields.specs.Payload.{room, payload, payloads, fields_at, float
 use base::Index;
 
 // "A reader over the lent file holds its bytes and the next payload byte."
-#[derive(Drop)]
+#[derive(Clone, Copy)]
 pub struct Reader<'a> {
     pub bytes: &'a [u8],
     pub at: usize,

@@ -1,5 +1,7 @@
 // Writes the file of a matrix of 8 rows and 40 entries, reads it back and writes it again, and prints a digest of each file.
 // The two are the same. Then a byte of the second block is damaged. data/expected.py works out by itself what is to be printed.
+#![tactic(auto)]
+
 ghost use Rattle.std.specs.Prelude.{◌≡◌, ◌<◌};
 
 use base::{Ended, Index};

@@ -1,4 +1,6 @@
 // The fill sheet: the shared structure call, and its structure printed.
+#![tactic(auto)]
+
 ghost use Rattle.std.specs.Prelude.{◌≡◌, not, ◌&&◌, [], eqb};
 ghost use Rattle.base.specs.Answers.{left};
 ghost use Rattle.base.specs.Limits.{rows_within};

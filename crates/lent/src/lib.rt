@@ -1,4 +1,6 @@
 // What is lent and only read. Lists are read by their starts and runs; own numbers and places are turned into each other by the orders.
+#![tactic(auto)]
+
 ghost use Rattle.std.specs.Prelude.{◌≡◌, ◌+◌, ◌<◌, ◌≤◌, length, get_or};
 ghost use Rattle.std.specs.Float.{nan};
 ghost use Rattle.base.specs.Lists.{list_at, row_of};

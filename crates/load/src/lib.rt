@@ -1,4 +1,6 @@
 // The test load that every office can make: a matrix, orders and a right side from n and a 16-bit seed.
+#![tactic(auto)]
+
 ghost use Rattle.std.specs.Prelude.{◌≡◌, ℕ, ◌<◌, ◌≤◌, length};
 ghost use Rattle.base.specs.Lists.{has, table};
 ghost use Rattle.load.specs.Load.{drawn, column_of, four, minus_one, one, load_outcome};
@@ -55,7 +57,7 @@ fn share() -> f64
 }
 
 // A row in the stores: where it ends, and the seed after it.
-#[derive(Drop)]
+#[derive(Clone, Copy)]
 pub struct Drawn {
     pub end: usize,
     pub seed: u32,

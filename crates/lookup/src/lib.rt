@@ -1,4 +1,6 @@
 // A stored list by side and place, handed back as a part of the index store that holds it.
+#![tactic(auto)]
+
 ghost use Rattle.std.specs.Prelude.{◌≡◌, ◌<◌, ◌≤◌, length};
 ghost use Rattle.base.specs.Limits.{max_rows};
 ghost use Rattle.base.specs.declared.Form as forms;
@@ -8,7 +10,7 @@ use base::{Form, Index, Place, Side, slot};
 use matrix::Matrix;
 
 // The slots of a store from one to before another.
-#[derive(Drop)]
+#[derive(Clone, Copy)]
 pub struct Span {
     pub from: usize,
     pub to: usize,

@@ -1,4 +1,6 @@
 // One place of one side of the symbolic elimination: its working set, kept as marks with block stamps, and the cuts of the lists it merges.
+#![tactic(auto)]
+
 ghost use Rattle.std.specs.Prelude.{◌≡◌, map, ℕ, ◌+◌, ◌-◌, ◌*◌, ◌/◌, ◌≤◌, ◌<◌, length, get_or, take, drop, set};
 ghost use Rattle.std.proofs.lemmas.List.Edits.{sets};
 ghost use Rattle.base.specs.Lists.{list_at, row_of, total};

@@ -1,4 +1,6 @@
 // The matrix type: its limits, the shape of a matrix within them, and the lengths of its lists.
+#![tactic(auto)]
+
 ghost use Rattle.std.specs.Prelude.{◌≡◌, ◌≤◌};
 ghost use Rattle.base.specs.Limits.{max_rows, max_entries, max_slots, rows_within};
 ghost use Rattle.matrix.specs.Lists.{lengths_right};
@@ -7,21 +9,21 @@ ghost use Rattle.matrix.specs.Shape.{shape_of};
 use base::Refusal;
 
 // The shape of a matrix: its rows and its entries.
-#[derive(Drop)]
+#[derive(Clone, Copy)]
 pub struct Matrix {
     pub rows: usize,
     pub entries: usize,
 }
 
 // A shape within the limits, or why not.
-#[derive(Drop)]
+#[derive(Clone, Copy)]
 pub enum Shaped {
     Shape(Matrix),
     Unshaped(Refusal),
 }
 
 // The greatest n, e and number of slots of a store.
-#[derive(Drop)]
+#[derive(Clone, Copy)]
 pub struct Limits(pub usize, pub usize, pub usize);
 
 impl Matrix {

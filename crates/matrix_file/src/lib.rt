@@ -1,4 +1,6 @@
 // The matrix file: its shape, its reading and its writing.
+#![tactic(auto)]
+
 ghost use Rattle.std.specs.Prelude.{◌≡◌, ◌++◌, ◌+◌, ◌*◌, ◌≤◌, ◌<◌, length};
 ghost use Rattle.base.specs.Answers.{left};
 ghost use Rattle.base.specs.declared.Asked.TheVariants.{Pass};
@@ -13,7 +15,7 @@ use base::{Asked, Ended, Index, Refusal};
 use matrix::{Matrix, Shaped};
 
 // The two numbers that a matrix file begins with.
-#[derive(Drop)]
+#[derive(Clone, Copy)]
 pub struct Sizes {
     pub n: u64,
     pub e: u64,

@@ -1,6 +1,8 @@
 // The arithmetic of the elimination, row by row, and the back steps. The scratch f has the working row w in its first n slots, y in the next n
 // and z in the last n. T(i) is list i of an upper store (list starts, run starts, index), its u stand in a value store from list start i on.
 // Lower row k is lent, so that no step knows where it is kept.
+#![tactic(auto)]
+
 ghost use Rattle.std.specs.Prelude.{◌≡◌, true, ◌&&◌, List, ◌∷◌, ℕ, ◌+◌, ◌-◌, ◌*◌, ◌<◌, ◌≤◌, length, get_or, take, drop};
 ghost use Rattle.std.proofs.lemmas.List.Edits.{sets};
 ghost use Rattle.std.specs.Float.{nan};
@@ -188,7 +190,7 @@ fn scale(w: &[f64], columns: &[Index], u: &mut [f64], from: usize, d: f64) -> bo
 }
 
 // What a row comes to: its sums where the pivot is above the floor and every result is finite; Zero is 12, a pivot of at most the floor.
-#[derive(Drop)]
+#[derive(Clone, Copy)]
 pub enum Pivot {
     Usable(RowSums),
     Zero,
@@ -363,7 +365,7 @@ fn back_at(
 }
 
 // What the back steps find: every z, or the place at which a result is not finite.
-#[derive(Drop)]
+#[derive(Clone, Copy)]
 pub enum Back {
     Complete,
     Stopped(usize),

@@ -1,4 +1,6 @@
 // Numbers, texts and the program's lines, written into a lent buffer as far as it goes. Each function answers the place after what it wrote.
+#![tactic(auto)]
+
 ghost use Rattle.std.specs.Prelude.{◌≡◌, ◌+◌, ◌≤◌, ◌<◌, length, replicate, set};
 ghost use Rattle.printing.specs.Print.{digit, digits, width_in, decimal, column, labelled, bits_end, counts_line, value_line, refused_line, too_large_line};
 ghost use Rattle.printing.specs.Written.{Written, farthest};

@@ -1,4 +1,6 @@
 // The program's answer to a matrix file: the lines that it prints, written into a lent buffer.
+#![tactic(auto)]
+
 ghost use Rattle.std.specs.Prelude.{◌≡◌, ◌+◌, ◌*◌, ◌≤◌, length};
 ghost use Rattle.base.specs.declared.Form.TheVariants.{Plain};
 ghost use Rattle.matrix.specs.Input.{input_of};

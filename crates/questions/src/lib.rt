@@ -1,4 +1,6 @@
 // Questions 3 to 7 and 19 on a lent matrix, its orders and its numbers, and what goes by an order: the inverse, the solution.
+#![tactic(auto)]
+
 ghost use Rattle.std.specs.Prelude.{◌≡◌, [], ◌+◌, ◌-◌, ◌<◌, ◌≤◌, length, get_or, set, eqb};
 ghost use Rattle.base.specs.First.{first};
 ghost use Rattle.matrix.specs.Input.{input_of, with_floor, own_order};

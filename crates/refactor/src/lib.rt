@@ -1,5 +1,7 @@
 // Refactor: new values over a structure found before, in the plain and the shared form. The questions before 9 and 14 come first and write nothing but
 // scratch; then 12 and 13, and x. The two forms are one code path over the way of placing: the plain form lends its list starts as run starts.
+#![tactic(auto)]
+
 ghost use Rattle.std.specs.Prelude.{◌≡◌, length};
 ghost use Rattle.matrix.specs.Input.{input_of, with_floor};
 ghost use Rattle.outcome.specs.Again.{RefactorsPlain, RefactorsShared};

@@ -1,4 +1,6 @@
 // What the C interface adds to a call: the report's slots filled as far as they go, and numbers that stand for a side and a place.
+#![tactic(auto)]
+
 ghost use Rattle.std.specs.Prelude.{◌≡◌, ◌≤◌, set, []};
 ghost use Rattle.std.proofs.lemmas.List.Edits.{sets};
 ghost use Rattle.base.specs.Answers.{number_of_answer, number_of_end, number_of_made, number_of_kept, own};

@@ -1,4 +1,6 @@
 // How far off a score is: for one own row, the residual of its equation at x, and a width that the exact residual keeps within.
+#![tactic(auto)]
+
 ghost use Rattle.std.specs.Prelude.{◌≡◌, [], ◌+◌, ◌≤◌};
 ghost use Rattle.base.specs.Lists.{pairs};
 ghost use Rattle.matrix.specs.Input.{input_of};
@@ -11,7 +13,7 @@ use base::{Asked, Index, OwnNumber, Refusal};
 use matrix::{Matrix, Shaped};
 
 // The residual and the width, or the number and place of a refusal.
-#[derive(Drop)]
+#[derive(Clone, Copy)]
 pub enum Checked {
     Pair(f64, f64),
     Refused(u32, u32),
@@ -66,7 +68,7 @@ impl Checked {
 // ---- one row
 
 // The residual and T, as far as they have come.
-#[derive(Drop)]
+#[derive(Clone, Copy)]
 pub struct Sums {
     pub residual: f64,
     pub total: f64,

@@ -1,4 +1,6 @@
 // The calls of another right side, in the plain and the shared form: questions 1, 2, 5 and 6, then 15 and 13. They write x and scratch only.
+#![tactic(auto)]
+
 ghost use Rattle.std.specs.Prelude.{◌≡◌, [], length};
 ghost use Rattle.base.specs.All.{all};
 ghost use Rattle.matrix.specs.Input.{input_of};

@@ -1,4 +1,6 @@
 // The solve in the row form. Its stages are in stages/specs: Asking for the questions before 9, Stages and Ends for what is left of a call after them.
+#![tactic(auto)]
+
 ghost use Rattle.base.specs.declared.Form.TheVariants.{ByRow};
 ghost use Rattle.matrix.specs.Input.{input_of, with_floor};
 ghost use Rattle.outcome.specs.Buffers.{row_buffers, sizes};

@@ -1,4 +1,6 @@
 // The calls of the shared form. Their stages are in stages/specs: Asking for the questions before 9, Stages and Ends for what is left of a call after them.
+#![tactic(auto)]
+
 ghost use Rattle.std.specs.Prelude.{[]};
 ghost use Rattle.base.specs.declared.Form.TheVariants.{Shared};
 ghost use Rattle.matrix.specs.Input.{input_of, with_floor};

@@ -1,4 +1,6 @@
 // Reads a matrix file from standard input and prints its solution, or why there is none.
+#![tactic(auto)]
+
 use libc::{STDIN_FILENO, STDOUT_FILENO};
 
 fn main() {

@@ -1,4 +1,6 @@
 // What the calls share: the questions before 9 (19 among a solve's), zeros, 12 and 13, and the solution. The stages of a call, and what its questions settle for them, are in specs/.
+#![tactic(auto)]
+
 ghost use Rattle.std.specs.Prelude.{◌≡◌, [], ◌∷◌, ◌+◌, ◌≤◌, length, drop, eqb};
 ghost use Rattle.base.specs.All.{all};
 ghost use Rattle.base.specs.Lists.{blank, nought};

@@ -1,5 +1,7 @@
 // The placing of a side's lists in its index store, by writing and by comparing. The slices of a side: index holds the lists,
 // starts the list starts and runs the run starts. In the plain form the list starts are the run starts.
+#![tactic(auto)]
+
 ghost use Rattle.std.specs.Prelude.{◌≡◌, ◌+◌, ◌-◌, ◌≤◌, ◌<◌, min, cond, [], ltb, eqb, length, get_or};
 ghost use Rattle.std.proofs.Math.Seq.{paste};
 ghost use Rattle.base.specs.Lists.{list_at};
@@ -14,7 +16,7 @@ ghost use Rattle.storing.specs.declared.Way.{Way};
 use base::{Found, Index, Place};
 
 // How the lists of a side stand in their index store.
-#[derive(Drop)]
+#[derive(Clone, Copy)]
 pub enum Way {
     OneAfterAnother,
     Sharing,
@@ -108,7 +110,7 @@ fn agrees(s: &[Index], t: &[u32]) -> bool
 }
 
 // Where a list's run starts, and how many of its entries stand there already; the others are appended.
-#[derive(Drop)]
+#[derive(Clone, Copy)]
 pub struct Plan {
     pub start: usize,
     pub have: usize,
@@ -219,7 +221,7 @@ fn append(index: &mut [Index], used: usize, rest: &[u32])
 }
 
 // How much is placed on a side: the used slots of the index store, where the last run starts, and the entries of the lists.
-#[derive(Drop)]
+#[derive(Clone, Copy)]
 pub struct Extent {
     pub used: usize,
     pub last: usize,
@@ -237,7 +239,7 @@ fn last_run(plan: Plan, count: usize, last: usize) -> usize
 }
 
 // Where a list would go and how much is placed then, or that the stores have no room for it.
-#[derive(Drop)]
+#[derive(Clone, Copy)]
 pub enum Look {
     Fits(Plan, Extent),
     Short,
@@ -298,7 +300,7 @@ fn write_list(
 }
 
 // The answer of placing a list: how much is placed now, or that the stores have no room for it.
-#[derive(Drop)]
+#[derive(Clone, Copy)]
 pub enum Put {
     Done(Extent),
     Full,
@@ -366,7 +368,7 @@ pub fn append_list(
 }
 
 // The answer of comparing: how much is placed then, or that the stores hold something else.
-#[derive(Drop)]
+#[derive(Clone, Copy)]
 pub enum Match {
     Same(Extent),
     Differs,

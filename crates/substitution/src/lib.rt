@@ -1,6 +1,8 @@
 // Another right side: forward substitution with stored L and d, then the back steps. Scratch has the sums s in its first n slots, y in the next n and
 // z in the last n. In the plain form L stands by rows, and a row's products are subtracted when its turn comes; in the shared form it stands by columns,
 // and column k is subtracted from the sums below it once y(k) is known. The plain form passes its list starts as run starts.
+#![tactic(auto)]
+
 ghost use Rattle.std.specs.Prelude.{◌≡◌, [], ◌*◌, ◌<◌, ◌≤◌, length, drop};
 ghost use Rattle.base.specs.Limits.{max_rows};
 ghost use Rattle.base.specs.Lists.{table};

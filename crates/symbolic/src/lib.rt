@@ -1,6 +1,8 @@
 // The structure pass of the three forms: the lists of every place are found and placed, and 9, 10 and 11 are asked at each.
 // Scratch: marks, inverse column order, block stamps, cuts of the upper lists, cuts of the lower lists and heads of columns,
 // the list at work (lower row k and then T(k)), and two regions of nodes; n slots each.
+#![tactic(auto)]
+
 ghost use Rattle.std.specs.Prelude.{◌≡◌, List, [], ℕ, ◌+◌, ◌-◌, ◌≤◌, length};
 ghost use Rattle.matrix.specs.Input.{input_of};
 ghost use Rattle.fill.specs.Fill.{Pattern};
@@ -18,7 +20,7 @@ use base::{Answer, Counts, Index, Place, Refusal, Side, scratch};
 use storing::{Extent, Put, Way};
 
 // A place's lists in scratch: how long its lower row and its T(k) are, and the end of the window of columns at hand.
-#[derive(Drop)]
+#[derive(Clone, Copy)]
 pub struct OpenRow {
     pub below: usize,
     pub above: usize,
@@ -26,14 +28,14 @@ pub struct OpenRow {
 }
 
 // How opening a place ends: (k, k) is not filled, or the lists are found.
-#[derive(Drop)]
+#[derive(Clone, Copy)]
 pub enum Opened {
     Unfilled,
     Row(OpenRow),
 }
 
 // A side's list is in its stores: how long the place's lower row is, the end of the window, and how much is placed.
-#[derive(Drop)]
+#[derive(Clone, Copy)]
 pub struct SidePlace {
     pub below: usize,
     pub window: usize,
@@ -41,7 +43,7 @@ pub struct SidePlace {
 }
 
 // How one side of a place ends: (k, k) is not filled, the stores are short of slots, or the list is in them.
-#[derive(Drop)]
+#[derive(Clone, Copy)]
 pub enum SideEnd {
     NoDiagonal,
     NoRoom,
@@ -50,7 +52,7 @@ pub enum SideEnd {
 
 // How far the pass is: how much is placed on each side, the products so far, and the end of the window of columns.
 // In the row form, which keeps no lower lists, the entries of `lower` count those that they would have.
-#[derive(Drop)]
+#[derive(Clone, Copy)]
 pub struct Progress {
     pub lower: Extent,
     pub upper: Extent,
@@ -59,7 +61,7 @@ pub struct Progress {
 }
 
 // How a place ends: the next one follows, or the pass ends with a refusal.
-#[derive(Drop)]
+#[derive(Clone, Copy)]
 pub enum Turned {
     Next(Progress),
     Stopped(Refusal),

@@ -1,8 +1,0 @@
-use borrow.Author.Rules.{rules}
-use Rattle.base.proofs.Made.place.Statement.{statement}
-use Rattle.base.proofs.Made.place.Tie as tie
-
-pub place-spec : {M : Type 1} → statement M
-place-spec =
-    tie.close
-    (tie.spec (λ c. search rules) (λ c. search rules) (λ c κs. search rules) (λ c. search rules) (λ c. rw c.before.before.a.given.1 c.place.ensures))

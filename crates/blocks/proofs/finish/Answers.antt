@@ -1,0 +1,9 @@
+use mathlib.Core.Path.{◌∙◌}
+use Rattle.blocks.proofs.FileLaws.{finished}
+use borrow.Author.Rules.{rules}
+use Rattle.blocks.proofs.finish.Goals as goal
+
+pub returns : goal.returns
+returns c =
+    let zeroed = c.put_zeros in
+    c.seal_all.ensures ∙ finished c.args.file.now zeroed.new.0 _ c.requires zeroed.auto.0 zeroed.ensures

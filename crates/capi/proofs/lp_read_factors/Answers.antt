@@ -1,0 +1,6 @@
+use Rattle.report.proofs.Laws.{reported}
+use borrow.Author.Rules.{rules}
+use Rattle.capi.proofs.lp_read_factors.Goals as goal
+
+pub returns : goal.returns
+returns c = reported _ _ _ _ _ _ c.read_factors-a.ensures c.put_answer.ensures.0 c.put_answer.ensures.1

@@ -1,0 +1,6 @@
+use Rattle.report.proofs.Laws.{told}
+use borrow.Author.Rules.{rules}
+use Rattle.capi.proofs.lp_refactor_plain.Goals as goal
+
+pub returns : goal.returns
+returns c = told _ _ _ _ _ _ c.refactor_plain-a.ensures c.put_end.ensures.0 c.put_end.ensures.1

@@ -1,0 +1,34 @@
+use Prim.Native.Nat.{◌-◌, ◌≤◌}
+use Rattle.lent.specs.Reading.{order_of}
+use Rattle.columns.specs.Columns.{places_by_row, column, Tally}
+use Rattle.columns.proofs.WindowLaws.{tally-start, tally-room, tally-more, tally-end}
+use Rattle.columns.proofs.Keeps.{row_is, row_below, order-kept, given-kept}
+use borrow.Author.Rules.{rules}
+use native.Mathlib.Omega.{arith}
+use Rattle.columns.proofs.count_columns.Goals as goal
+
+pub loop-k-init : goal.loop-k-init
+loop-k-init c = (omega arith, tally-start _ c.requires.1)
+
+pub row_of-cols-requires : goal.row_of-cols-requires
+row_of-cols-requires c =
+    let g = c.requires.0 in
+    ((omega (arith, g.long), omega (arith, g.space.small)), g.read c.loop-k.k (omega arith))
+
+pub count_row-requires : goal.count_row-requires
+count_row-requires c =
+    let a = c.args in
+    let t = c.loop-k.invariant.1 in
+    let o = order-kept a.n 0 a.n t.kept in
+    let g = given-kept t.kept.size o c.requires.0 in
+    (g.space, (g.order, (row_below c.row_of-cols.ensures (g.below c.loop-k.k (omega arith)), (omega arith, tally-room a.n c.loop-k.k _ t))))
+
+pub loop-k-preserved : goal.loop-k-preserved
+loop-k-preserved c =
+    let a = c.args in
+    let t = c.loop-k.invariant.1 in
+    let e = row_is a.n c.loop-k.k _ _ a.r.now _ _ _ c.row_of-cols.ensures (order-kept a.n 0 a.n t.kept) in
+    (omega arith, tally-more a.n c.loop-k.k _ e t c.count_row.ensures)
+
+pub returns : goal.returns
+returns c = tally-end _ c.loop-k.k _ (omega arith) c.loop-k.invariant.1

@@ -1,0 +1,30 @@
+use Rattle.columns.proofs.ListLaws.{offer-out, offer-list, offer-again, offer-room, offer-push}
+use native.Mathlib.Omega.{arith}
+use borrow.Author.Rules.{rules}
+use Rattle.columns.proofs.offer.Goals as goal
+
+pub returns-then-j-lo : goal.returns-then-j-lo
+returns-then-j-lo c = offer-out _ _ _ _ _ _ _ (λ x a b e. omega arith)
+
+pub returns-then-hi-j : goal.returns-then-hi-j
+returns-then-hi-j c = offer-out _ _ _ _ _ _ _ (λ x a b e. omega arith)
+
+pub leads_with-requires : goal.leads_with-requires
+leads_with-requires c =
+    (c.requires.0, (omega arith, offer-list (omega arith) (omega arith) c.requires.1.1))
+
+pub returns-then-leads_with : goal.returns-then-leads_with
+returns-then-leads_with c = offer-again (omega arith) (omega arith) c.leads_with.ensures c.if-leads_with.true
+
+pub push_node-requires : goal.push_node-requires
+push_node-requires c =
+    (c.requires.0, (offer-room (omega arith) (omega arith) c.leads_with.ensures c.if-leads_with.false c.requires.1.1, c.requires.1.0.1, omega arith))
+
+pub overflow_add-result : goal.overflow_add-result
+overflow_add-result c =
+    omega (arith, offer-room (omega arith) (omega arith) c.leads_with.ensures c.if-leads_with.false c.requires.1.1)
+
+pub returns : goal.returns
+returns c =
+    let d = c.leads_with.ensures in
+    offer-push c.requires.0 (offer-room (omega arith) (omega arith) d c.if-leads_with.false c.requires.1.1) c.requires.1.0.0 c.requires.1.0.1 (omega arith) (omega arith) d c.if-leads_with.false c.push_node.ensures

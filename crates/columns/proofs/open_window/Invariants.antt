@@ -1,0 +1,11 @@
+use Prim.Native.Nat.{◌-◌}
+use Rattle.columns.proofs.WindowLaws.{Opening, open-start, open_more, open-stop, open-end}
+use borrow.Author.Rules.{rules}
+use native.Mathlib.Omega.{arith}
+use Rattle.columns.proofs.open_window.Given as goal
+
+abbrev pub invariant-loop-hi : goal.invariant-loop-hi
+invariant-loop-hi l = Opening l.n l.lo l.hi l.left l.initial.marks l.marks
+
+abbrev pub decreases-loop-hi : goal.decreases-loop-hi
+decreases-loop-hi l = l.n - l.hi

@@ -1,0 +1,18 @@
+use Rattle.columns.proofs.WindowLaws.{window-fits, window-made}
+use Rattle.columns.proofs.Keeps.{order-kept, given-kept, rows_same}
+use native.Mathlib.Omega.{arith}
+use borrow.Author.Rules.{rules}
+use Rattle.columns.proofs.window_at.Goals as goal
+
+pub fill_window-requires : goal.fill_window-requires
+fill_window-requires c =
+    let e = c.open_window-end.ensures in
+    let q = order-kept c.args.n _ _ e.kept in (
+      given-kept e.kept.size q c.requires.0,
+      ((e.most, window-fits (rows_same _ _ _ _ _ _ q) (omega arith) c.requires.1.0 e), e.zero),
+    )
+
+pub returns : goal.returns
+returns c =
+    let e = c.open_window-end.ensures in
+    window-made _ _ _ _ _ _ (rows_same _ _ _ _ _ _ (order-kept c.args.n _ _ e.kept)) c.requires.1.1 (omega arith) c.requires.1.0 e c.fill_window.ensures

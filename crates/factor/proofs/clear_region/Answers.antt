@@ -1,0 +1,7 @@
+use mathlib.Core.Path.{refl}
+use Rattle.factor.specs.EndLaws.{part-zeroed}
+use borrow.Author.Rules.{rules}
+use Rattle.factor.proofs.clear_region.Goals as goal
+
+pub returns : goal.returns
+returns c = part-zeroed _ _ _ _ _ c.requires refl c.clear_u32.ensures

@@ -1,0 +1,52 @@
+use Rattle.factor.specs.Factoring.{CameTo}
+use Rattle.factor.specs.TurnLaws.{zero-met, overflow-met}
+use Rattle.factor.specs.FormLaws.{row-ready, keep-asked, close-asked, row_more}
+use mathlib.Core.Path.{◌∙◌}
+use borrow.Author.Rules.{rules}
+use Rattle.factor.proofs.eliminate_row.Goals as goal
+
+pub reduce_at-row-requires : goal.reduce_at-row-requires
+reduce_at-row-requires c = (c.requires.1.0, row-ready c.args.form c.requires.1.1 c.requires.0)
+
+pub keep_at-requires : goal.keep_at-requires
+keep_at-requires c =
+    let q = c.reduce_at-row in
+    keep-asked c.args.form c.requires.1.1 c.requires.0 q.new.1.1.1.1.1.1.1.1.1.1.1.1.1.1.1.1.0 q.result.below q.ensures.0 q.auto.1.1.1.1.1.1.1.1.1.1.1.1.1.1.1.1.0 q.new.1.1.1.1.1.1.1.1.1.1.1.1.1.1.1.0 q.auto.1.1.1.1.1.1.1.1.1.1.1.1.1.1.1.0
+
+pub close_at-requires : goal.close_at-requires
+close_at-requires c =
+    let q = c.reduce_at-row in
+    let e = c.keep_at in
+    close-asked c.args.form c.requires.1.1 c.requires.0 q.new.1.1.1.1.1.1.1.1.1.1.1.1.1.1.1.1.0 q.result.below q.ensures.0 q.auto.1.1.1.1.1.1.1.1.1.1.1.1.1.1.1.1.0 q.new.1.1.1.1.1.1.1.1.1.1.1.1.1.1.1.0 q.auto.1.1.1.1.1.1.1.1.1.1.1.1.1.1.1.0 e.ensures e.auto.1.1.1.1.1.1.0
+
+pub shape_of-marks-in-Usable : goal.shape_of-marks-in-Usable
+shape_of-marks-in-Usable c = c.keep_at.auto.marks ∙ c.reduce_at-row.auto.marks
+
+pub returns-in-Usable : goal.returns-in-Usable
+unfolding CameTo
+returns-in-Usable c o G =
+    let q = c.reduce_at-row in
+    let e = c.keep_at in
+    let k = c.close_at in
+    row_more c.args.form G c.requires.0 q.new.1.1.1.1.1.1.1.1.1.1.1.1.1.1.1.1.0 q.result.below q.ensures.0 q.auto.1.1.1.1.1.1.1.1.1.1.1.1.1.1.1.1.0 q.new.1.1.1.1.1.1.1.1.1.1.1.1.1.1.1.0 q.auto.1.1.1.1.1.1.1.1.1.1.1.1.1.1.1.0 e.ensures e.auto.1.1.1.1.1.1.0
+    q.new.1.1.1.1.1.1.1.1.1.1.1.1.1.1.0 k.new.1.1.1.1.1.0 k.new.1.1.1.1.1.1.0
+    (record {
+      lower-size = e.auto.1.1.1.1.0;
+      upper-size = q.auto.1.1.1.1.1.1.1.1.1.1.1.1.1.1.0;
+      d-size = k.auto.1.1.1.1.1.0;
+      work-size = k.auto.1.1.1.1.1.1.0 ∙ q.auto.1.1.1.1.1.1.1.1.1.1.1.1.1.1.1.0;
+      marks-size = e.auto.1.1.1.1.1.1.0 ∙ q.auto.1.1.1.1.1.1.1.1.1.1.1.1.1.1.1.1.0;
+    })
+    c.in-Usable.t q.result.pivot c.in-Usable.is (q.ensures.1 o G.rows (row-ready c.args.form G c.requires.0) G.held) k.ensures
+
+pub returns-in-Zero : goal.returns-in-Zero
+unfolding CameTo
+returns-in-Zero c o G =
+    let q = c.reduce_at-row in
+    zero-met G c.requires.0 q.result.pivot c.in-Zero.is (q.ensures.1 o G.rows (row-ready c.args.form G c.requires.0) G.held)
+
+pub returns-in-Overflow : goal.returns-in-Overflow
+unfolding CameTo
+returns-in-Overflow c o G =
+    let q = c.reduce_at-row in
+    overflow-met G c.requires.0 q.result.pivot c.in-Overflow.is (q.ensures.1 o G.rows (row-ready c.args.form G c.requires.0) G.held)

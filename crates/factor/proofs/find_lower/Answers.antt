@@ -1,0 +1,34 @@
+use Rattle.factor.specs.FindLaws.{base-at, close-parts, close-blocks, cut_members, found}
+use Rattle.marks.specs.MarkLaws.{room-kept}
+use borrow.Author.Rules.{rules}
+use Rattle.factor.proofs.find_lower.Goals as goal
+
+pub load_row_place-requires : goal.load_row_place-requires
+load_row_place-requires c =
+    let F = c.requires.1 in
+    ((F.own-place, F.room), (F.row, (F.columns-below, F.inverse)))
+
+pub close_place-below-requires : goal.close_place-below-requires
+close_place-below-requires c =
+    let F = c.requires.1 in
+    let l = c.load_row_place in
+    (close-parts F l.ensures l.auto.0, ((F.place, base-at _, room-kept _ _ _ l.auto.0 F.room), close-blocks F l.ensures l.auto.0))
+
+pub renew_cuts-requires : goal.renew_cuts-requires
+renew_cuts-requires c =
+    let F = c.requires.1 in
+    let l = c.load_row_place in
+    let q = c.close_place-below in (
+      F.store.read,
+      (
+        (F.place, base-at _, room-kept c.args.n l.new.0 q.new.0 q.auto.0 (room-kept c.args.n c.args.marks.now l.new.0 l.auto.0 F.room)),
+        record { stamp = _; list = cut_members F l.ensures l.auto.0 q.ensures q.auto.0 },
+      ),
+    )
+
+pub returns : goal.returns
+returns c P F =
+    let l = c.load_row_place in
+    let q = c.close_place-below in
+    let e = c.renew_cuts in
+    found F l.ensures l.auto.0 q.ensures q.auto.0 (e.ensures _ (cut_members F l.ensures l.auto.0 q.ensures q.auto.0)) e.auto.0

@@ -1,0 +1,28 @@
+use mathlib.Core.Path.{refl, sym, ◌∙◌}
+use native.Mathlib.Omega.{arith}
+use Rattle.factor_contents.proofs.JudgingLaws.{runs-alike}
+use Rattle.factor_contents.proofs.CallLaws.{ask15-stop, ask15-end, ask15-pass}
+use borrow.Author.Rules.{rules}
+use Rattle.factor_contents.proofs.ask_15.Goals as goal
+
+pub ask_factors-asked-requires : goal.ask_factors-asked-requires
+ask_factors-asked-requires c =
+    let h = c.requires in
+    record {
+      lower = record { few = h.few; starts-size = h.lower-starts; runs-size = omega (arith, h.lower-starts); runs-are = refl };
+      upper = record { few = h.few; starts-size = h.upper-starts; runs-size = omega (arith, h.upper-starts); runs-are = refl };
+      reciprocals = h.reciprocals;
+    }
+
+pub returns-in-Stop : goal.returns-in-Stop
+returns-in-Stop c = ask15-stop _ _ _ _ _ (c.ask_factors-asked.ensures ∙ runs-alike _ _ _ _ _ _ _ _) _ c.in-Stop.is
+
+pub returns-then-not-lower_end-lower_index : goal.returns-then-not-lower_end-lower_index
+returns-then-not-lower_end-lower_index c =
+    ask15-end _ _ _ _ _ (c.ask_factors-asked.ensures ∙ runs-alike _ _ _ _ _ _ _ _) c.in_default.is _ _
+    (sym c.slot-lower_end.ensures.0) (sym c.slot-upper_end.ensures.0) c.if-not-lower_end-lower_index.true
+
+pub returns : goal.returns
+returns c =
+    ask15-pass _ _ _ _ _ (c.ask_factors-asked.ensures ∙ runs-alike _ _ _ _ _ _ _ _) c.in_default.is _ _
+    (sym c.slot-lower_end.ensures.0) (sym c.slot-upper_end.ensures.0) c.if-not-lower_end-lower_index.false

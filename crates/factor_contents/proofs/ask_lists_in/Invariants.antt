@@ -1,0 +1,19 @@
+use mathlib.Core.Path.{◌≡◌, refl}
+use Prim.Native.Nat.{◌-◌, ◌≤◌}
+use Rattle.base.specs.First.{first}
+use Rattle.base.specs.FirstLaws.{first-zero, first_more}
+use Rattle.base.specs.declared.Found.TheVariants.{Nothing}
+use Rattle.base.specs.declared.Form.TheVariants.{Plain}
+use Rattle.questions.specs.AskLaws.{ask-at, ask-pass}
+use Rattle.outcome.specs.Resolve.{bad_at, ask_factors}
+use Rattle.factors.specs.PresentedLaws.{was-bad, was-good}
+use Rattle.factor_contents.specs.FactorFile.{lists_at}
+use Rattle.factor_contents.specs.Judging.{presented_lists}
+use borrow.Author.Rules.{rules}
+use Rattle.factor_contents.proofs.ask_lists_in.Given as goal
+
+abbrev pub invariant-loop-k : goal.invariant-loop-k
+invariant-loop-k l = (l.k ≤ l.n) × (first (bad_at Plain l.n (presented_lists (lists_at l.file l.n l.lower l.upper))) l.k ≡ Nothing)
+
+abbrev pub decreases-loop-k : goal.decreases-loop-k
+decreases-loop-k l = l.n - l.k

@@ -1,0 +1,35 @@
+use Rattle.factor_contents.specs.FactorFile.{factor_lists}
+use Rattle.factor_writing.proofs.WriteLaws.{all_laid, head_in, lists-in, values-in, whole-file}
+use borrow.Author.Rules.{rules}
+use Rattle.factor_writing.proofs.store.Goals as goal
+
+pub lay_head-at-requires : goal.lay_head-at-requires
+lay_head-at-requires c =
+    let a = c.args in
+    head_in _ _ _ (factor_lists a.r.now a.c.now a.lower-starts.now a.lower-index.now a.lower-values.now a.upper-starts.now a.upper-index.now a.upper-values.now a.d.now) a.file.now c.requires.0 c.requires.1
+
+pub lay_lists-at-requires : goal.lay_lists-at-requires
+lay_lists-at-requires c =
+    let m = c.lay_head-at in
+    let a = c.args in
+    lists-in _ _ _ (factor_lists a.r.now a.c.now a.lower-starts.now a.lower-index.now a.lower-values.now a.upper-starts.now a.upper-index.now a.upper-values.now a.d.now) a.file.now c.requires.0 c.requires.1 m.new.1.1.0 _ m.ensures.0 m.auto.1.1.0
+
+pub lay_values-at-requires : goal.lay_values-at-requires
+lay_values-at-requires c =
+    let m = c.lay_head-at in
+    let o = c.lay_lists-at in
+    let a = c.args in
+    values-in _ _ _ (factor_lists a.r.now a.c.now a.lower-starts.now a.lower-index.now a.lower-values.now a.upper-starts.now a.upper-index.now a.upper-values.now a.d.now) a.file.now c.requires.0 c.requires.1 m.new.1.1.0 o.new.1.1.1.1.1.0 _ _ m.ensures.0 m.auto.1.1.0 o.ensures.0 o.auto.1.1.1.1.1.0
+
+pub finish-requires : goal.finish-requires
+finish-requires c =
+    let m = c.lay_head-at in
+    let o = c.lay_lists-at in
+    let v = c.lay_values-at in
+    let a = c.args in
+    whole-file _ _ _ (factor_lists a.r.now a.c.now a.lower-starts.now a.lower-index.now a.lower-values.now a.upper-starts.now a.upper-index.now a.upper-values.now a.d.now) a.file.now c.requires.0 c.requires.1 m.new.1.1.0 o.new.1.1.1.1.1.0 _ _ m.ensures.0 m.auto.1.1.0 o.ensures.0 o.auto.1.1.1.1.1.0
+    v.new.1.1.1.1.1.1.0 _ v.ensures.0 v.auto.1.1.1.1.1.1.0
+
+pub returns : goal.returns
+returns c =
+    all_laid _ _ _ _ _ _ _ c.lay_head-at.ensures.1 c.lay_lists-at.ensures.1 c.lay_values-at.ensures.1 c.finish.ensures

@@ -1,0 +1,11 @@
+use borrow.Author.Rules.{rules}
+use native.Mathlib.Omega.{arith}
+use mathlib.Core.Path.{refl}
+use Rattle.fields.specs.Payload.{place}
+use Rattle.fields.proofs.payload_byte.Goals as goal
+
+pub overflow_cast-result : goal.overflow_cast-result
+overflow_cast-result c = omega (arith, c.shared_slice_known-1.given (place c.args.at))
+
+pub returns : goal.returns
+returns c = (refl, omega (arith, c.shared_slice_known-1.given (place c.args.at)))

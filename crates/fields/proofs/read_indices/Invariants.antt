@@ -1,0 +1,12 @@
+use Rattle.base.specs.Lists.{table}
+use Prim.Native.Nat.{◌-◌}
+use Rattle.base.specs.TableLaws.{Filling, fill_more, fill_end}
+use Rattle.fields.specs.Payload.{field_at, fields_at}
+use borrow.Author.Rules.{rules}
+use Rattle.fields.proofs.read_indices.Given as goal
+
+abbrev pub invariant-loop-i : goal.invariant-loop-i
+invariant-loop-i l = Filling (field_at 2 l.file l.at) l.n l.out l.i
+
+abbrev pub decreases-loop-i : goal.decreases-loop-i
+decreases-loop-i l = l.n - l.i

@@ -1,0 +1,15 @@
+use Prim.Native.Nat.{◌-◌}
+use mathlib.Core.Path.{◌∙◌}
+use lib.ListN.{length, length-map}
+use lib.Ieee.{binary64, to_bits, nan}
+use Rattle.base.specs.TableLaws.{get_or-map-lt}
+use Rattle.fields.specs.Payload.{bits_of}
+use Rattle.fields.proofs.PutLaws.{Writing, write-start, write-more, write-end}
+use borrow.Author.Rules.{rules}
+use Rattle.fields.proofs.write_f64s.Given as goal
+
+abbrev pub invariant-loop-i : goal.invariant-loop-i
+invariant-loop-i l = Writing 8 l.initial.file l.at (bits_of l.src) l.file l.p l.i
+
+abbrev pub decreases-loop-i : goal.decreases-loop-i
+decreases-loop-i l = length l.src - l.i

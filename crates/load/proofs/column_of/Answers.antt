@@ -1,0 +1,9 @@
+use mathlib.Core.Path.{refl}
+use native.Mathlib.Nat.{mod-lt}
+use borrow.Author.Rules.{rules}
+use Rattle.load.specs.Load.{column_of}
+use Rattle.load.proofs.column_of.Goals as goal
+
+pub returns : goal.returns
+unfolding column_of
+returns c = (refl, mod-lt _ {m = c.args.n} c.requires)

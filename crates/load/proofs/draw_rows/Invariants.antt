@@ -1,0 +1,13 @@
+use Prim.Native.Nat.{◌-◌}
+use mathlib.Core.Path.{refl}
+use native.Mathlib.Omega.{arith}
+use borrow.Author.Rules.{rules}
+use Rattle.load.specs.Stores.{RowsDrawing}
+use Rattle.load.proofs.RowsLaws.{drawing-start, row-drawable, drawing-more, drawing-end, columns-same, values_same}
+use Rattle.load.proofs.draw_rows.Given as goal
+
+abbrev pub invariant-loop-k : goal.invariant-loop-k
+invariant-loop-k l = RowsDrawing l.n l.seed l.k l.end l.s l.starts l.columns l.values
+
+abbrev pub decreases-loop-k : goal.decreases-loop-k
+decreases-loop-k l = l.n - l.k

@@ -1,0 +1,18 @@
+use Prim.Native.Nat.{ℕ, ◌-◌}
+use mathlib.Core.Path.{refl}
+use native.Mathlib.Omega.{arith}
+use lib.ListN.{length}
+use borrow.Author.Rules.{rules}
+use Rattle.base.specs.Lists.{table}
+use Rattle.base.specs.TableLaws.{Filling, fill_more, fill_end}
+use Rattle.load.proofs.natural.Goals as goal
+
+pub loop-k-init : goal.loop-k-init
+unfolding table
+loop-k-init c = (omega arith, refl, refl)
+
+pub loop-k-preserved : goal.loop-k-preserved
+loop-k-preserved c = fill_more (λ (i : ℕ). i) _ _ c.loop-k.k _ (omega arith) c.narrow.ensures c.loop-k.invariant
+
+pub returns : goal.returns
+returns c = fill_end (λ (i : ℕ). i) _ _ c.loop-k.k (omega arith) c.loop-k.invariant

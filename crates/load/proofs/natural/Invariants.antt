@@ -1,0 +1,14 @@
+use Prim.Native.Nat.{ℕ, ◌-◌}
+use mathlib.Core.Path.{refl}
+use native.Mathlib.Omega.{arith}
+use lib.ListN.{length}
+use borrow.Author.Rules.{rules}
+use Rattle.base.specs.Lists.{table}
+use Rattle.base.specs.TableLaws.{Filling, fill_more, fill_end}
+use Rattle.load.proofs.natural.Given as goal
+
+abbrev pub invariant-loop-k : goal.invariant-loop-k
+invariant-loop-k l = Filling (λ (i : ℕ). i) (length l.initial.order) l.order l.k
+
+abbrev pub decreases-loop-k : goal.decreases-loop-k
+decreases-loop-k l = length l.initial.order - l.k

@@ -1,0 +1,9 @@
+use mathlib.Core.Path.{refl}
+use native.Mathlib.Omega.{arith}
+use borrow.Author.Rules.{rules}
+use Rattle.load.specs.Load.{drawn}
+use Rattle.load.proofs.next.Goals as goal
+
+pub returns : goal.returns
+unfolding drawn
+returns c = (refl, omega arith)

@@ -1,0 +1,16 @@
+use Prim.Native.Nat.{ℕ, ◌-◌}
+use mathlib.Core.Path.{refl}
+use native.Mathlib.Omega.{arith}
+use lib.ListN.{length}
+use lib.Ieee.{of_bits}
+use borrow.Author.Rules.{rules}
+use Rattle.base.specs.Lists.{table}
+use Rattle.base.specs.TableLaws.{Filling, fill_more, fill_end}
+use Rattle.load.specs.Load.{one}
+use Rattle.load.proofs.ones.Given as goal
+
+abbrev pub invariant-loop-k : goal.invariant-loop-k
+invariant-loop-k l = Filling (λ (i : ℕ). one) (length l.initial.b) l.b l.k
+
+abbrev pub decreases-loop-k : goal.decreases-loop-k
+decreases-loop-k l = length l.initial.b - l.k

@@ -1,0 +1,12 @@
+use Rattle.base.specs.Lists.{list_at}
+use Rattle.marks.specs.ListedLaws.{Listed, listed_start, listed-fit, listed_below, listed_more, listed-end}
+use Prim.Native.Nat.{◌-◌, ◌≤◌}
+use borrow.Author.Rules.{rules}
+use native.Mathlib.Omega.{arith}
+use Rattle.marks.proofs.close_cuts.Given as goal
+
+abbrev pub invariant-loop-p : goal.invariant-loop-p
+invariant-loop-p l = (l.p ≤ l.below) × (l.below ≤ l.n) × Listed l.n l.k l.cuts l.below (list_at l.starts l.runs l.index) l.initial.marks l.marks l.p
+
+abbrev pub decreases-loop-p : goal.decreases-loop-p
+decreases-loop-p l = l.below - l.p

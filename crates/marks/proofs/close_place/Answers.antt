@@ -1,0 +1,15 @@
+use Rattle.marks.specs.ListLaws.{closing-is}
+use native.Mathlib.Omega.{arith}
+use borrow.Author.Rules.{rules}
+use Rattle.marks.proofs.close_place.Goals as goal
+
+pub merge_lower-requires : goal.merge_lower-requires
+merge_lower-requires c =
+    let q = c.requires.1.0 in
+    (c.requires.0, ((omega arith, q.1, q.2), c.requires.1.1))
+
+pub returns : goal.returns
+returns c =
+    let m = c.merge_lower in
+    let q = c.requires.1.0 in
+    closing-is _ _ _ _ _ _ _ _ _ q.0 q.2 c.requires.0 m.auto.0 m.ensures

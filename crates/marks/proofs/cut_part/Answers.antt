@@ -1,0 +1,6 @@
+use Rattle.marks.specs.CutLaws.{cut-is}
+use borrow.Author.Rules.{rules}
+use Rattle.marks.proofs.cut_part.Goals as goal
+
+pub returns : goal.returns
+returns c = cut-is _ _ _ _ _ _ _ c.slot-a.ensures.0 c.slot.ensures.0

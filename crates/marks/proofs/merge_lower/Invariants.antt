@@ -1,0 +1,13 @@
+use Rattle.marks.specs.Marks.{part_at}
+use Rattle.marks.specs.MarkLaws.{room-kept}
+use Rattle.marks.specs.MergeLaws.{Going, going_start, going-past, going_end, parts-kept}
+use Prim.Native.Nat.{◌≤◌, ◌-◌}
+use borrow.Author.Rules.{rules}
+use native.Mathlib.Omega.{arith}
+use Rattle.marks.proofs.merge_lower.Given as goal
+
+abbrev pub invariant-loop-i : goal.invariant-loop-i
+invariant-loop-i l = (l.i ≤ l.k) × Going l.n l.stamp (part_at l.initial.marks l.cuts l.runs l.index) l.initial.marks l.marks l.i l.count
+
+abbrev pub decreases-loop-i : goal.decreases-loop-i
+decreases-loop-i l = l.k - l.i

@@ -1,0 +1,12 @@
+use Rattle.marks.specs.Marks.{stamped}
+use mathlib.Core.Path.{◌∙◌, ap}
+use borrow.Author.Rules.{rules}
+use Rattle.marks.proofs.merge_run.Goals as goal
+
+pub merge_list-requires : goal.merge_list-requires
+merge_list-requires c =
+    (rw c.cut_part-list.ensures c.requires.1, c.requires.0.0)
+
+pub returns : goal.returns
+returns c =
+    c.merge_list.ensures ∙ ap (stamped _ _ _) c.cut_part-list.ensures

@@ -1,0 +1,14 @@
+use Rattle.marks.specs.CutLaws.{upto-hit, upto-miss, upto-end}
+use Rattle.marks.specs.Marks.{upto}
+use mathlib.Core.Path.{◌≡◌, sym, ◌∙◌}
+use Prim.Native.Nat.{◌≤◌, ◌-◌, ◌+◌}
+use lib.ListN.{length, drop}
+use borrow.Author.Rules.{rules}
+use native.Mathlib.Omega.{arith}
+use Rattle.marks.proofs.reach_of.Given as goal
+
+abbrev pub invariant-loop-p : goal.invariant-loop-p
+invariant-loop-p l = (l.p ≤ length l.list) × (l.p + upto l.k (drop l.p l.list) ≡ upto l.k l.list)
+
+abbrev pub decreases-loop-p : goal.decreases-loop-p
+decreases-loop-p l = length l.list - l.p

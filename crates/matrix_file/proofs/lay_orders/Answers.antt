@@ -1,0 +1,13 @@
+use Rattle.fields.specs.Payload.{payloads}
+use Rattle.matrix_file.proofs.CallLaws.{laid-orders}
+use native.Mathlib.Omega.{arith}
+use borrow.Author.Rules.{rules}
+use Rattle.matrix_file.proofs.lay_orders.Goals as goal
+
+pub returns : goal.returns
+returns c =
+    let r = c.write_indices-at.ensures in
+    let o = c.write_indices-at-2.ensures in
+    let b = c.write_f64s.ensures in
+    let a = c.args in
+    (omega arith, laid-orders a.r.now _ _ (payloads a.file.now a.at) _ _ _ r.1 o.1 b.1)

@@ -1,0 +1,14 @@
+use Rattle.numeric.proofs.Turns.{subtract-turn, subtract-end}
+use Rattle.arithmetic.specs.Stopping.{any, subtract}
+use lib.ListN.{length, drop, length-set}
+use mathlib.Core.Path.{◌≡◌, refl, sym, ◌∙◌}
+use Prim.Native.Nat.{◌≤◌, ◌<◌, ◌-◌}
+use borrow.Author.Rules.{rules}
+use native.Mathlib.Omega.{arith}
+use Rattle.numeric.proofs.axpy.Given as goal
+
+abbrev pub invariant-loop-p : goal.invariant-loop-p
+invariant-loop-p l = (l.n ≡ length l.columns) × (l.p ≤ l.n) × (length l.w ≡ length l.initial.w) × (subtract any l.m (drop l.p l.columns) (drop l.p l.u) l.w ≡ subtract any l.m l.columns l.u l.initial.w)
+
+abbrev pub decreases-loop-p : goal.decreases-loop-p
+decreases-loop-p l = l.n - l.p

@@ -1,0 +1,37 @@
+use Rattle.numeric.proofs.Turns.{scratch-turn, scratch-stop, back_end}
+use Rattle.numeric.specs.Stores.{store_given}
+use Rattle.arithmetic.specs.Stopping.{back}
+use lib.Seq.{take-set-le}
+use lib.ListN.{length, take, drop, length-set}
+use Prim.Native.Nat.{◌-◌, ◌≤◌, ◌+◌}
+use mathlib.Core.Path.{◌≡◌, refl, sym, ◌∙◌}
+use borrow.Author.Rules.{rules}
+use native.Mathlib.Omega.{arith}
+use Rattle.base.specs.Scratch.{z_from}
+use Rattle.numeric.proofs.back_steps.Goals as goal
+
+pub loop-k-preserved : goal.loop-k-preserved
+loop-k-preserved c =
+    let l = c.loop-k in
+    let a = c.args in (
+      refl,
+      omega arith,
+      simp length-set l.invariant.2,
+      take-set-le (z_from a.n) l.f (z_from a.n + (l.k - 1)) c.back_at-t.result (omega arith) ∙ l.invariant.3,
+      scratch-turn a.n l.k (l.k - 1) a.starts.now a.runs.now a.upper.now a.u.now a.f.now l.f c.back_at-t.result
+          (omega arith) (omega arith) l.invariant.3 (c.requires.2 (l.k - 1) (omega arith)) c.back_at-t.ensures (sym c.is_finite.ensures ∙ c.if-is_finite.true) ∙ l.invariant.4,
+    )
+
+pub returns-else-is_finite : goal.returns-else-is_finite
+returns-else-is_finite c =
+    let l = c.loop-k in
+    let a = c.args in (
+      sym (scratch-stop a.n l.k (l.k - 1) a.starts.now a.runs.now a.upper.now a.u.now a.f.now l.f c.back_at-t.result
+          (omega arith) (omega arith) l.invariant.3 (c.requires.2 (l.k - 1) (omega arith)) c.back_at-t.ensures (sym c.is_finite.ensures ∙ c.if-is_finite.false)) ∙ l.invariant.4,
+      l.invariant.3,
+    )
+
+pub returns : goal.returns
+returns c =
+    let l = c.loop-k in
+    (sym (back_end _ l.k _ (omega arith)) ∙ l.invariant.4, l.invariant.3)

@@ -1,0 +1,12 @@
+use Rattle.printing.proofs.Laws.{digits-length}
+use Rattle.printing.specs.Print.{decimal}
+use native.Mathlib.Omega.{arith}
+use borrow.Author.Rules.{rules}
+use Rattle.printing.proofs.put_decimal.Goals as goal
+
+pub returns : goal.returns
+unfolding decimal
+returns c =
+    let p = c.put_digits.ensures in
+    let w = c.width_of_lem in
+    (rw (← w.ensures.0) p, omega (arith, p.next, w.ensures.1, digits-length 10 w.result c.args.x))

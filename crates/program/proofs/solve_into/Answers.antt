@@ -1,0 +1,12 @@
+use Rattle.program.proofs.Laws.{outcome-lines}
+use native.Mathlib.Omega.{arith}
+use lib.Ieee.{of_bits}
+use borrow.Author.Rules.{rules}
+use Rattle.program.proofs.solve_into.Goals as goal
+
+pub put_answer-requires : goal.put_answer-requires
+put_answer-requires c = (c.requires.0, omega (arith, c.requires.1, c.solve_plain-a.auto))
+
+pub returns : goal.returns
+unfolding of_bits
+returns c = outcome-lines _ _ _ _ _ _ _ c.solve_plain-a.ensures c.put_answer.ensures

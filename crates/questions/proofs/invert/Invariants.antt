@@ -1,0 +1,14 @@
+use Prim.Native.Nat.{ℕ, ◌-◌, ◌<◌}
+use Rattle.matrix.specs.OrderLaws.{order_below}
+use Rattle.questions.specs.Lent.{inverted}
+use Rattle.questions.specs.ScatterLaws.{Scattered, scattered-none, scattered-more, scattered-end}
+use mathlib.Core.Path.{refl}
+use borrow.Author.Rules.{rules}
+use native.Mathlib.Omega.{arith}
+use Rattle.questions.proofs.invert.Given as goal
+
+abbrev pub invariant-loop-k : goal.invariant-loop-k
+invariant-loop-k l = Scattered l.order l.n (λ (i : ℕ). i) 0 l.initial.inverse l.inverse l.k
+
+abbrev pub decreases-loop-k : goal.decreases-loop-k
+decreases-loop-k l = l.n - l.k

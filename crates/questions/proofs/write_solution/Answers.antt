@@ -1,0 +1,32 @@
+use Prim.Native.Nat.{ℕ, ◌-◌, ◌<◌}
+use lib.ListN.{get_or}
+use lib.Ieee.{nan}
+use mathlib.Core.Path.{refl}
+use Rattle.matrix.specs.Input.{own_order}
+use Rattle.matrix.specs.OrderLaws.{order_below}
+use Rattle.questions.specs.ScatterLaws.{Scattered, scattered-none, scattered-more, scattered-end, scattered-all}
+use borrow.Author.Rules.{rules}
+use native.Mathlib.Omega.{arith}
+use Rattle.questions.proofs.write_solution.Goals as goal
+use Rattle.questions.proofs.write_solution.Goals.{After-wide-j}
+
+pub loop-k-init : goal.loop-k-init
+loop-k-init c = scattered-none _ _ _ _ _
+
+inside : (c : After-wide-j) → c.wide-j.result < c.args.n
+inside c =
+    rw c.wide-j.ensures.0 (order_below _ _ c.requires.order c.loop-k.k (search rules))
+
+pub offset_bounds-x-j : goal.offset_bounds-x-j
+offset_bounds-x-j c = omega (arith, inside (goal.at.offset_bounds-x-j c).After-wide-j)
+
+pub bounds-x-j : goal.bounds-x-j
+bounds-x-j c = omega (arith, inside (goal.at.bounds-x-j c).After-wide-j)
+
+pub loop-k-preserved : goal.loop-k-preserved
+loop-k-preserved c =
+    scattered-more _ _ _ _ _ c.requires.order (search rules) _ _ c.loop-k.invariant _ _ (search rules) c.wide-j.ensures.0 refl
+
+pub returns : goal.returns
+unfolding own_order
+returns c = scattered-all _ _ _ _ c.requires.to (scattered-end _ _ _ _ _ c.requires.order (search rules) _ _ c.loop-k.invariant (search rules))

@@ -1,0 +1,16 @@
+use Prim.Native.Nat.{ℕ, ◌-◌, ◌<◌}
+use lib.ListN.{get_or}
+use lib.Ieee.{nan}
+use mathlib.Core.Path.{refl}
+use Rattle.matrix.specs.Input.{own_order}
+use Rattle.matrix.specs.OrderLaws.{order_below}
+use Rattle.questions.specs.ScatterLaws.{Scattered, scattered-none, scattered-more, scattered-end, scattered-all}
+use borrow.Author.Rules.{rules}
+use native.Mathlib.Omega.{arith}
+use Rattle.questions.proofs.write_solution.Given as goal
+
+abbrev pub invariant-loop-k : goal.invariant-loop-k
+invariant-loop-k l = Scattered l.c l.n (λ (i : ℕ). get_or l.z i nan) nan l.initial.x l.x l.k
+
+abbrev pub decreases-loop-k : goal.decreases-loop-k
+decreases-loop-k l = l.n - l.k

@@ -1,0 +1,7 @@
+use Rattle.report.proofs.Laws.{made-put}
+use borrow.Author.Rules.{rules}
+use Rattle.report.proofs.put_made.Goals as goal
+
+pub returns : goal.returns
+returns c =
+    (c.number.ensures, made-put _ _ _ _ _ c.place.ensures c.entries.ensures c.put_all_lem.ensures)

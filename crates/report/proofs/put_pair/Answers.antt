@@ -1,0 +1,7 @@
+use Rattle.report.proofs.Laws.{pair_put}
+use borrow.Author.Rules.{rules}
+use Rattle.report.proofs.put_pair.Goals as goal
+
+pub returns-in-Pair : goal.returns-in-Pair
+returns-in-Pair c =
+    pair_put _ _ _ _ _ _ c.in-Pair.is c.put_number.ensures c.put_number-in-Pair.ensures

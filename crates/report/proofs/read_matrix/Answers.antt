@@ -1,0 +1,6 @@
+use Rattle.report.proofs.Laws.{reported}
+use borrow.Author.Rules.{rules}
+use Rattle.report.proofs.read_matrix.Goals as goal
+
+pub returns : goal.returns
+returns c = reported _ _ _ _ _ _ c.read_matrix-a.ensures c.put_end.ensures.0 c.put_end.ensures.1

@@ -1,0 +1,7 @@
+use Rattle.report.proofs.Laws.{row_told}
+use borrow.Author.Rules.{rules}
+use Rattle.report.proofs.residual.Goals as goal
+
+pub returns : goal.returns
+returns c =
+    row_told _ _ _ _ _ _ _ _ _ c.residual-a.ensures c.put_pair.ensures c.put_checked.ensures.0 c.put_checked.ensures.1

@@ -1,0 +1,6 @@
+use Rattle.report.proofs.Laws.{reported}
+use borrow.Author.Rules.{rules}
+use Rattle.report.proofs.test_load.Goals as goal
+
+pub returns : goal.returns
+returns c = reported _ _ _ _ _ _ c.test_load-a.ensures c.put_made.ensures.0 c.put_made.ensures.1

@@ -1,0 +1,7 @@
+use lib.Ieee.{of_bits}
+use borrow.Author.Rules.{rules}
+use Rattle.residual.proofs.Checked.width.Goals as goal
+
+pub returns-in-Refused : goal.returns-in-Refused
+unfolding of_bits
+returns-in-Refused c = rw c.in-Refused.is

@@ -1,0 +1,10 @@
+use Prim.Native.Nat.{◌^◌}
+use native.Mathlib.Omega.{arith}
+use borrow.Author.Rules.{rules}
+use lib.Dec.{le→leb}
+use lib.Ieee.{in_float}
+use Rattle.residual.proofs.number_of.Goals as goal
+
+pub int_to_float-result : goal.int_to_float-result
+unfolding in_float
+int_to_float-result c = le→leb c.args.m (2 ^ 53) (omega arith)

@@ -1,0 +1,9 @@
+use mathlib.Core.Path.{refl}
+use borrow.Author.Rules.{rules}
+use lib.Ieee.{of_bits}
+use Rattle.residual.specs.Residual.{share, least, width_from}
+use Rattle.residual.proofs.width_of.Goals as goal
+
+pub returns : goal.returns
+unfolding width_from share least of_bits
+returns c = rw (c.number_of_lem.ensures, c.number_of-least.ensures) refl

@@ -1,0 +1,54 @@
+use mathlib.Core.Path.{refl}
+use mathlib.Core.Bool.{Bool, true, false}
+use mathlib.Core.List.{List, ◌++◌}
+use Rattle.matrix.specs.Input.{Input, input_of}
+use Rattle.outcome.specs.Buffers.{matrix_tests, buffer_tests}
+use Rattle.outcome.specs.Solve.{shape}
+use Rattle.outcome.proofs.Making.{made-few, made-stop, made-on}
+use Rattle.stages.specs.LengthLaws.{solve-tests}
+use borrow.Author.Rules.{rules}
+use Rattle.stages.proofs.shape_solve.Goals as goal
+use Rattle.stages.proofs.shape_solve.Goals.{After-new-made, After-scratch_fits-slots, Start}
+
+abbrev given : Start → Input
+given s = let a = s.args in input_of a.n a.starts.now a.columns.now a.values.now a.r.now a.c.now a.b.now
+
+abbrev asked : Start → List Bool
+asked s = matrix_tests (given s) ++ buffer_tests s.args.form s.args.n s.args.sizes
+
+abbrev Begin : After-new-made → Start
+Begin s = s
+
+abbrev Made : After-scratch_fits-slots → After-new-made
+Made s = s
+
+pub returns-in-Unshaped : goal.returns-in-Unshaped
+unfolding shape
+returns-in-Unshaped c =
+    let s = Begin (goal.at.returns-in-Unshaped c).After-new-made in
+    made-stop _ _ _ (asked s) c.new-made.ensures _ c.in-Unshaped.is _ (solve-tests s.args.form (given s) s.args.sizes _ _ _ refl refl refl _ _ refl refl)
+
+pub returns-then-pattern-numbers : goal.returns-then-pattern-numbers
+unfolding shape
+returns-then-pattern-numbers c =
+    let m = Made (goal.at.returns-then-pattern-numbers c).After-scratch_fits-slots in
+    let s = Begin m in
+    made-on _ _ _ (asked s) m.new.ensures _ c.in_default.is _ true
+    (solve-tests s.args.form (given s) s.args.sizes _ _ _ c.pattern_fits-pattern.ensures c.sides_fit-lists.ensures c.scratch_fits-slots.ensures _ _ c.numbers_fit-numbers.ensures c.vectors_fit-vectors.ensures) c.if-pattern-numbers.true
+
+pub returns : goal.returns
+unfolding shape
+returns c =
+    let m = Made (goal.at.returns c).After-scratch_fits-slots in
+    let s = Begin m in
+    made-on _ _ _ (asked s) m.new.ensures _ c.in_default.is _ false
+    (solve-tests s.args.form (given s) s.args.sizes _ _ _ c.pattern_fits-pattern.ensures c.sides_fit-lists.ensures c.scratch_fits-slots.ensures _ _ c.numbers_fit-numbers.ensures c.vectors_fit-vectors.ensures) c.if-pattern-numbers.false
+
+pub pattern_fits-pattern-requires : goal.pattern_fits-pattern-requires
+pattern_fits-pattern-requires c = made-few _ _ _ _ c.new-made.ensures c.in_default.is
+
+pub sides_fit-lists-requires : goal.sides_fit-lists-requires
+sides_fit-lists-requires c = made-few _ _ _ _ c.new-made.ensures c.in_default.is
+
+pub scratch_fits-slots-requires : goal.scratch_fits-slots-requires
+scratch_fits-slots-requires c = made-few _ _ _ _ c.new-made.ensures c.in_default.is

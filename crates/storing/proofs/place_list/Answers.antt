@@ -1,0 +1,40 @@
+use mathlib.Core.Path.{sym, ◌∙◌}
+use native.Mathlib.Omega.{arith}
+use borrow.Author.Rules.{rules}
+use Rattle.storing.specs.LookLaws.{Looked, looked, not-looked}
+use Rattle.storing.specs.StepLaws.{place-done, place-full}
+use Rattle.storing.specs.LoopLaws.{set_same}
+use Rattle.storing.proofs.place_list.Goals as goal
+use Rattle.storing.proofs.place_list.Goals.{In-Fits-2, Start}
+
+abbrev at-start : In-Fits-2 → Start
+at-start c = c
+
+-- what the look that fits has found
+found_in : (c : In-Fits-2) → Looked (at-start c).args.way (at-start c).args.starts.now (at-start c).args.runs.now (at-start c).args.index.now (at-start c).args.values (at-start c).args.row.now (at-start c).args.list.now (at-start c).args.k.0 (at-start c).args.s c.in-Fits.plan c.in-Fits.next
+found_in c =
+    looked (at-start c).args.way (at-start c).args.starts.now (at-start c).args.runs.now (at-start c).args.index.now (at-start c).args.values (at-start c).args.row.now (at-start c).args.list.now (at-start c).args.k.0 (at-start c).args.s (at-start c).requires c.in-Fits.plan c.in-Fits.next (sym c.look_for-found.ensures ∙ c.in-Fits.is)
+
+pub write_list-requires : goal.write_list-requires
+write_list-requires c =
+    let w = found_in (goal.at.write_list-requires c).In-Fits-2 in
+    let y = c.requires in
+    record { have-in = w.have-in; index-room = w.index-room; start-room = y.start-room; entries-limit = omega (arith, w.values-room, y.value-limit); small = y.small }
+
+pub number32-requires : goal.number32-requires
+number32-requires c =
+    let w = found_in (goal.at.number32-requires c).In-Fits-2 in
+    let y = c.requires in
+    omega (arith, w.start-in, y.used-in, y.index-limit)
+
+pub returns-in-Fits : goal.returns-in-Fits
+returns-in-Fits c =
+    let a = c.args in
+    let b = c.write_list in
+    place-done a.way a.starts.now a.runs.now a.index.now a.values a.row.now a.list.now a.k.0 a.s c.requires c.in-Fits.plan c.in-Fits.next (found_in (goal.at.returns-in-Fits c).In-Fits-2) b.new.0 _ b.new.1.0 b.ensures
+    (set_same a.runs.now c.slot-p.result a.k.0 c.number32.result c.in-Fits.plan.start c.slot-p.ensures.0 c.number32.ensures)
+
+pub returns-in-Short : goal.returns-in-Short
+returns-in-Short c =
+    let a = c.args in
+    place-full a.way a.starts.now a.runs.now a.index.now a.values a.row.now a.list.now a.k.0 a.s c.requires (not-looked a.way a.starts.now a.runs.now a.index.now a.values a.row.now a.list.now a.k.0 a.s (sym c.look_for-found.ensures ∙ c.in-Short.is))

@@ -1,0 +1,93 @@
+use mathlib.Core.Path.{◌≡◌, refl, sym, ◌∙◌}
+use mathlib.Core.List.{[], ◌++◌}
+use native.Mathlib.Omega.{arith}
+use lib.ListN.{length, drop}
+use lib.Seq.{length-take-le, length_front}
+use Rattle.base.specs.Scratch.{z_from}
+use Rattle.matrix.specs.Input.{input_of}
+use Rattle.arithmetic.specs.Again.{Factors}
+use Rattle.outcome.specs.Buffers.{SideBuffers, side_buffers}
+use Rattle.outcome.specs.Resolve.{factors_of}
+use Rattle.factors.specs.Presented.{presented}
+use Rattle.substitution.specs.Sweep.{Swept}
+use Rattle.substitution.specs.EndLaws.{tied, begun, ends-early, ys-fine, ends, ends-below}
+use borrow.Author.Rules.{rules}
+use Rattle.substitution.proofs.solve_rows.Goals as goal
+use Rattle.substitution.proofs.solve_rows.Goals.{After-clear_f64, After-load_right, After-substitute_rows-a, Start}
+
+abbrev Begin : After-clear_f64 → Start
+Begin s = s
+
+abbrev lower : Start → SideBuffers
+lower s = let a = s.args in side_buffers a.lower-starts.now a.lower-runs.now a.lower-index.now a.lower-values.now
+
+abbrev upper : Start → SideBuffers
+upper s = let a = s.args in side_buffers a.upper-starts.now a.upper-runs.now a.upper-index.now a.upper-values.now
+
+-- cleared scratch has as many slots
+whole : (c : After-clear_f64) → length c.clear_f64.new.s ≡ length (Begin c).args.work.now
+whole c = c.clear_f64.auto.s
+
+pub slice_bounds-load_right-end-2 : goal.slice_bounds-load_right-end-2
+slice_bounds-load_right-end-2 c =
+    sym (length-take-le (Begin (goal.at.slice_bounds-load_right-end-2 c).After-clear_f64).args.n c.clear_f64.new.s (omega (arith, whole (goal.at.slice_bounds-load_right-end-2 c).After-clear_f64, (Begin (goal.at.slice_bounds-load_right-end-2 c).After-clear_f64).requires.ready.scratch)))
+
+pub load_right-requires : goal.load_right-requires
+load_right-requires c =
+    ((Begin (goal.at.load_right-requires c).After-clear_f64).requires.right, length-take-le (Begin (goal.at.load_right-requires c).After-clear_f64).args.n c.clear_f64.new.s (omega (arith, whole (goal.at.load_right-requires c).After-clear_f64, (Begin (goal.at.load_right-requires c).After-clear_f64).requires.ready.scratch)))
+
+-- scratch with the sums has as many slots, too
+loaded : (c : After-load_right) → length (c.load_right.new.sums ++ drop (Begin (goal.at.loaded c).After-clear_f64).args.n c.clear_f64.new.s) ≡ length (Begin (goal.at.loaded c).After-clear_f64).args.work.now
+loaded c = length_front c.clear_f64.new.s c.load_right.new.sums (Begin (goal.at.loaded c).After-clear_f64).args.n c.load_right.auto.sums ∙ whole (goal.at.loaded c).After-clear_f64
+
+pub substitute_rows-a-requires : goal.substitute_rows-a-requires
+substitute_rows-a-requires c =
+    let h = (Begin (goal.at.substitute_rows-a-requires c).After-clear_f64).requires.ready in
+    record { few = h.few; sound = h.sound; reciprocals = h.reciprocals; scratch = loaded (goal.at.substitute_rows-a-requires c).After-load_right ∙ h.scratch }
+
+-- what the sweep leaves, for the factors that are given
+abbrev Given : Start → Factors
+Given s = let a = s.args in factors_of a.form (input_of a.n [] [] [] a.r.now [] a.b.now) (presented (lower s) (upper s) a.d.now)
+
+abbrev From : After-substitute_rows-a → After-clear_f64
+From r = r
+
+swept : (r : After-substitute_rows-a)
+    → Swept (Begin (From r)).args.form (Begin (From r)).args.n (Given (Begin (From r))) (lower (Begin (From r))) r.substitute_rows-a.result r.substitute_rows-a.new.work
+swept r =
+    let z = From r in
+    let s = Begin z in
+    let a = s.args in
+    r.substitute_rows-a.ensures (Given s) (tied a.form a.n a.r.now a.b.now (lower s) (upper s) a.d.now (length a.work.now) s.pre)
+    (begun a.form a.n a.r.now a.b.now (lower s) (upper s) a.d.now (length a.work.now) s.pre a.work.now _ _ refl z.clear-f64.ensures r.load_right.ensures)
+
+pub returns-in-Stopped : goal.returns-in-Stopped
+returns-in-Stopped c =
+    let s = Begin (From (goal.at.returns-in-Stopped c).After-substitute_rows-a) in
+    let a = s.args in
+    ends-early a.form a.n a.r.now a.b.now (lower s) (upper s) a.d.now (length a.work.now) s.pre _ _ (swept (goal.at.returns-in-Stopped c).After-substitute_rows-a) _ [] c.in-Stopped.is
+
+pub back_steps-requires : goal.back_steps-requires
+back_steps-requires c =
+    let s = Begin (From (goal.at.back_steps-requires c).After-substitute_rows-a) in
+    let a = s.args in (
+      c.substitute_rows-a.auto.work ∙ loaded (goal.at.back_steps-requires c).After-load_right ∙ s.pre.ready.scratch,
+      s.pre.upper,
+      ys-fine a.form a.n a.r.now a.b.now (lower s) (upper s) a.d.now (length a.work.now) s.pre _ _ (swept (goal.at.back_steps-requires c).After-substitute_rows-a) c.in_default.is,
+    )
+
+pub returns : goal.returns
+returns c =
+    let s = Begin (From (goal.at.returns c).After-substitute_rows-a) in
+    let a = s.args in (
+      ends a.form a.n a.r.now a.b.now (lower s) (upper s) a.d.now (length a.work.now) s.pre _ _ (swept (goal.at.returns c).After-substitute_rows-a) c.in_default.is c.back_steps.result (drop (z_from a.n) c.back_steps.new.f) c.back_steps.ensures.0,
+      ends-below a.form a.n a.r.now a.b.now (lower s) (upper s) a.d.now (length a.work.now) s.pre _ _ (swept (goal.at.returns c).After-substitute_rows-a) c.in_default.is c.back_steps.result (drop (z_from a.n) c.back_steps.new.f) c.back_steps.ensures.0,
+    )
+
+-- scratch has as many slots at each end
+pub shape_of-work-in-Stopped : goal.shape_of-work-in-Stopped
+shape_of-work-in-Stopped c = c.substitute_rows-a.auto.work ∙ loaded (goal.at.shape_of-work-in-Stopped c).After-load_right
+
+pub shape_of-work : goal.shape_of-work
+shape_of-work c =
+    c.back_steps.auto.f ∙ c.substitute_rows-a.auto.work ∙ loaded (goal.at.shape_of-work c).After-load_right

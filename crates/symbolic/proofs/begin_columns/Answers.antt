@@ -1,0 +1,18 @@
+use Rattle.symbolic.proofs.Starts.{begun-of, columns-begun}
+use Rattle.columns.proofs.Stored.{given-sound}
+use Rattle.matrix.specs.Input.{Input, input_of}
+use mathlib.Core.List.{[]}
+use borrow.Author.Rules.{rules}
+use Rattle.symbolic.proofs.begin_columns.Goals as goal
+use Rattle.symbolic.proofs.begin_columns.Goals.{Start}
+
+abbrev given : Start → Input
+given s = input_of s.args.n s.args.starts.now s.args.columns.now [] s.args.r.now s.args.c.now []
+
+pub start_columns-requires : goal.start_columns-requires
+start_columns-requires c =
+    let b = begun-of (given (goal.at.start_columns-requires c).Start) _ _ c.requires c.begin_marks.ensures in
+    given-sound (given (goal.at.start_columns-requires c).Start) _ b.sound b.inverse b.space
+
+pub returns : goal.returns
+returns c = columns-begun (given (goal.at.returns c).Start) _ _ _ c.requires c.begin_marks.ensures c.start_columns.ensures

@@ -1,0 +1,6 @@
+use Rattle.symbolic.proofs.Starts.{inverted-after}
+use borrow.Author.Rules.{rules}
+use Rattle.symbolic.proofs.begin_marks.Goals as goal
+
+pub returns : goal.returns
+returns c = inverted-after _ _ _ _ _ c.clear_u32.ensures c.invert_at.ensures

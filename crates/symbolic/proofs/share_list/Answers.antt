@@ -1,0 +1,63 @@
+use Rattle.symbolic.proofs.Keeping.{keep-fits, keep_row, keep-list, keep-members, keep-turn, keep-ready, kept_next, next-lists, stepped-done, stepped-full}
+use Rattle.symbolic.specs.Places.{Keep}
+use Rattle.fill.specs.Fill.{Pattern, upper_row, lower_row}
+use Rattle.storing.specs.Held.{Stepped}
+use Rattle.storing.specs.declared.Way.TheVariants.{Sharing}
+use mathlib.Core.List.{List}
+use Prim.Native.Nat.{ℕ}
+use native.Mathlib.Omega.{arith}
+use borrow.Author.Rules.{rules}
+use Rattle.symbolic.proofs.share_list.Goals as goal
+use Rattle.symbolic.proofs.share_list.Goals.{After-place_list-put, Start}
+
+abbrev Begin : After-place_list-put → Start
+Begin p = p
+
+-- what the caller holds, for a pattern and a store
+abbrev Held : Start → Pattern → List ℕ → ℕ → Type 0
+Held s P store t = let a = s.args in
+    Keep Sharing P a.n a.k.0 t a.cuts store a.values a.starts.now a.runs.now a.index.now a.marks.now a.row a.e
+
+pub overflow_add-mid : goal.overflow_add-mid
+overflow_add-mid c = let h = c.requires.keep in omega (arith, keep-fits h, h.few)
+
+pub overflow_add-end : goal.overflow_add-end
+overflow_add-end c = let h = c.requires.keep in omega (arith, keep-fits h, h.few)
+
+pub slice_bounds-place_list-end : goal.slice_bounds-place_list-end
+slice_bounds-place_list-end c = let h = c.requires.keep in omega (arith, keep-fits h, h.space.long)
+
+pub offset_bounds-marks-mid : goal.offset_bounds-marks-mid
+offset_bounds-marks-mid c = let h = c.requires.keep in omega (arith, keep-fits h, h.few)
+
+pub slice_bounds-place_list-end-2 : goal.slice_bounds-place_list-end-2
+slice_bounds-place_list-end-2 c = let h = c.requires.keep in omega (arith, keep-fits h, h.space.long)
+
+pub place_list-put-requires : goal.place_list-put-requires
+place_list-put-requires c =
+    let h = c.requires.keep in
+    keep-ready h _ _ (keep_row h) (keep-list h)
+
+-- what placing tells
+step : (p : After-place_list-put) (P : Pattern) (store : List ℕ) (t : ℕ) → Held (Begin p) P store t → let r = p.place_list-put in
+    Stepped Sharing (upper_row P (Begin p).args.n) (lower_row P) (Begin p).args.values (Begin p).args.k.0 store r.new.1.0 r.new.1.1.0 r.new.1.1.1.0 r.result
+step p P store t h =
+    p.place_list-put.ensures.steps (upper_row P (Begin p).args.n) (lower_row P) (Begin p).args.n store
+    (keep-turn h _ _ (keep_row h) (keep-list h))
+
+pub renew_cuts-requires : goal.renew_cuts-requires
+renew_cuts-requires c =
+    let s = Begin (goal.at.renew_cuts-requires c).After-place_list-put in
+    let h = s.pre.keep in
+    let d = stepped-done _ _ _ _ _ _ _ _ _ _ _ c.in-Done.is (step (goal.at.renew_cuts-requires c).After-place_list-put s.pre.pattern s.pre.store s.pre.stamp h) in
+    (next-lists h _ _ _ _ d.1, ((h.below, h.base, h.space), record { stamp = s.pre.stamp; list = keep-members h }))
+
+pub returns-in-Done : goal.returns-in-Done
+returns-in-Done c =
+    λ P store t h.
+    let d = stepped-done _ _ _ _ _ _ _ _ _ _ _ c.in-Done.is (step (goal.at.returns-in-Done c).After-place_list-put P store t h) in
+    kept_next h _ _ _ _ d.1 d.0 c.place_list-put.auto.starts c.place_list-put.auto.runs _ (c.renew_cuts.ensures t (keep-members h))
+
+pub returns-in-Full : goal.returns-in-Full
+returns-in-Full c =
+    λ P store t h. stepped-full _ _ _ _ _ _ _ _ _ _ c.in-Full.is (step (goal.at.returns-in-Full c).After-place_list-put P store t h)
