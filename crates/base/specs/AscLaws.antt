@@ -1,6 +1,6 @@
 -- Laws of sums, counts, ascending lists and membership.
 use Rattle.std.specs.Prelude.{◌≡◌, refl, Bool, true, false, ◌&&◌, ◌||◌, ℕ, zero, suc, ◌+◌, ◌*◌, ◌≤◌, ◌<◌, length, get_or, take, drop, ltb, leb, eqb}
-use Rattle.std.proofs.Common.{sym, ap, ap₂, ◌∙◌, add-mul, arith, length-append, drop_of_length-le, drop-cons, take_all, add-one, lt-ltb, le-ltb, le-leb, eq-eqb, ne_eqb}
+use Rattle.std.proofs.Common.{subst, sym, ap, ap₂, ◌∙◌, add-mul, arith, length-append, drop_of_length-le, drop-cons, take_all, add-one, lt-ltb, le-ltb, le-leb, eq-eqb, ne_eqb}
 use Rattle.std.proofs.Math.Bool.{or_assoc, or-false, and-false}
 use mathlib.Core.List.{List, [], ◌∷◌, ◌++◌, append-nil, map, map-append, Memᴰ}
 use Rattle.std.proofs.Math.Decide.{dec_lt, ℕ_discrete}
