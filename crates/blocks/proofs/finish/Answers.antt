@@ -6,4 +6,4 @@ use Rattle.blocks.proofs.finish.Goals as goal
 pub returns : goal.returns
 returns c =
     let zeroed = c.put_zeros in
-    c.seal_all.ensures ∙ finished c.args.file.now zeroed.new.0 _ c.requires zeroed.auto.0 zeroed.ensures
+    c.seal_all.ensures ∙ finished c.args.file.now zeroed.new.file _ c.requires zeroed.auto.file zeroed.ensures

@@ -10,7 +10,7 @@ loop-k-init c = seal-start _ _
 pub loop-k-preserved : goal.loop-k-preserved
 loop-k-preserved c =
     let s = c.seal_block in
-    seal-more _ _ _ _ _ c.loop-k-test.true (omega arith) s.auto.0 s.ensures c.loop-k.invariant
+    seal-more _ _ _ _ _ c.loop-k-test.true (omega arith) s.auto.file s.ensures c.loop-k.invariant
 
 pub returns : goal.returns
 returns c = seal-end _ _ _ c.loop-k-test.false c.loop-k.invariant

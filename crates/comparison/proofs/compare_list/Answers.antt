@@ -10,9 +10,6 @@ use borrow.Author.Rules.{rules}
 use Rattle.comparison.proofs.compare_list.Goals as goal
 use Rattle.comparison.proofs.compare_list.Goals.{After-check_list-found, In-Same-2, Start}
 
-abbrev Begin : After-check_list-found → Start
-Begin p = p
-
 -- what the caller holds, for a pattern and a stamp
 abbrev Held : Start → Pattern → ℕ → Type 0
 Held s P t = let a = s.args in
@@ -40,17 +37,17 @@ pub check_list-found-requires : goal.check_list-found-requires
 check_list-found-requires c = let h = c.requires.keep in keep-ready h _ _ (row_by c.args.way _ _ (keep_row h)) (keep-list h)
 
 -- what comparing tells
-step : (p : After-check_list-found) (P : Pattern) (t : ℕ) → Held (Begin p) P t → let a = (Begin p).args in
+step : (p : After-check_list-found) (P : Pattern) (t : ℕ) → Held (goal.at.step p).Start P t → let a = p.args in
     Checked a.way (upper_row P a.n) (lower_row P) a.values a.k.0 a.starts.now a.runs.now a.index.now p.check_list-found.result
-step p P t h = let a = (Begin p).args in p.check_list-found.ensures.steps (upper_row P a.n) (lower_row P) a.n (keep-turn h _ _ (row_by a.way _ _ (keep_row h)) (keep-list h))
+step p P t h = let a = p.args in p.check_list-found.ensures.steps (upper_row P a.n) (lower_row P) a.n (keep-turn h _ _ (row_by a.way _ _ (keep_row h)) (keep-list h))
 
-same : (a : In-Same-2) (P : Pattern) (t : ℕ) → Held (Begin (goal.at.same a).After-check_list-found) P t → let b = (Begin (goal.at.same a).After-check_list-found).args in
+same : (a : In-Same-2) (P : Pattern) (t : ℕ) → Held (goal.at.same a).Start P t → let b = a.args in
     Checked b.way (upper_row P b.n) (lower_row P) b.values b.k.0 b.starts.now b.runs.now b.index.now (Same a.in-Same.next)
 same a P t h = told (Checked _ _ _ _ _ _ _ _) a.in-Same.is (step (goal.at.same a).After-check_list-found P t h)
 
 pub renew_cuts-requires : goal.renew_cuts-requires
 renew_cuts-requires c =
-    let d = (Begin (goal.at.renew_cuts-requires c).After-check_list-found).requires in
+    let d = c.requires in
     let h = d.keep in
     (next-lists h _ _ _ _ (same (goal.at.renew_cuts-requires c).In-Same-2 d.pattern d.stamp h).1, ((h.below, h.base, h.space), record { stamp = d.stamp; list = keep-members h }))
 

@@ -11,13 +11,13 @@ reduce_at-row-requires c = (c.requires.1.0, row-ready c.args.form c.requires.1.1
 pub keep_at-requires : goal.keep_at-requires
 keep_at-requires c =
     let q = c.reduce_at-row in
-    keep-asked c.args.form c.requires.1.1 c.requires.0 q.new.1.1.1.1.1.1.1.1.1.1.1.1.1.1.1.1.0 q.result.below q.ensures.0 q.auto.1.1.1.1.1.1.1.1.1.1.1.1.1.1.1.1.0 q.new.1.1.1.1.1.1.1.1.1.1.1.1.1.1.1.0 q.auto.1.1.1.1.1.1.1.1.1.1.1.1.1.1.1.0
+    keep-asked c.args.form c.requires.1.1 c.requires.0 q.new.marks q.result.below q.ensures.0 q.auto.marks q.new.work q.auto.work
 
 pub close_at-requires : goal.close_at-requires
 close_at-requires c =
     let q = c.reduce_at-row in
     let e = c.keep_at in
-    close-asked c.args.form c.requires.1.1 c.requires.0 q.new.1.1.1.1.1.1.1.1.1.1.1.1.1.1.1.1.0 q.result.below q.ensures.0 q.auto.1.1.1.1.1.1.1.1.1.1.1.1.1.1.1.1.0 q.new.1.1.1.1.1.1.1.1.1.1.1.1.1.1.1.0 q.auto.1.1.1.1.1.1.1.1.1.1.1.1.1.1.1.0 e.ensures e.auto.1.1.1.1.1.1.0
+    close-asked c.args.form c.requires.1.1 c.requires.0 q.new.marks q.result.below q.ensures.0 q.auto.marks q.new.work q.auto.work e.ensures e.auto.marks
 
 pub shape_of-marks-in-Usable : goal.shape_of-marks-in-Usable
 shape_of-marks-in-Usable c = c.keep_at.auto.marks ∙ c.reduce_at-row.auto.marks
@@ -28,14 +28,14 @@ returns-in-Usable c o G =
     let q = c.reduce_at-row in
     let e = c.keep_at in
     let k = c.close_at in
-    row_more c.args.form G c.requires.0 q.new.1.1.1.1.1.1.1.1.1.1.1.1.1.1.1.1.0 q.result.below q.ensures.0 q.auto.1.1.1.1.1.1.1.1.1.1.1.1.1.1.1.1.0 q.new.1.1.1.1.1.1.1.1.1.1.1.1.1.1.1.0 q.auto.1.1.1.1.1.1.1.1.1.1.1.1.1.1.1.0 e.ensures e.auto.1.1.1.1.1.1.0
-    q.new.1.1.1.1.1.1.1.1.1.1.1.1.1.1.0 k.new.1.1.1.1.1.0 k.new.1.1.1.1.1.1.0
+    row_more c.args.form G c.requires.0 q.new.marks q.result.below q.ensures.0 q.auto.marks q.new.work q.auto.work e.ensures e.auto.marks
+    q.new.upper_values k.new.d k.new.work
     (record {
-      lower-size = e.auto.1.1.1.1.0;
-      upper-size = q.auto.1.1.1.1.1.1.1.1.1.1.1.1.1.1.0;
-      d-size = k.auto.1.1.1.1.1.0;
-      work-size = k.auto.1.1.1.1.1.1.0 ∙ q.auto.1.1.1.1.1.1.1.1.1.1.1.1.1.1.1.0;
-      marks-size = e.auto.1.1.1.1.1.1.0 ∙ q.auto.1.1.1.1.1.1.1.1.1.1.1.1.1.1.1.1.0;
+      lower-size = e.auto.lower_values;
+      upper-size = q.auto.upper_values;
+      d-size = k.auto.d;
+      work-size = k.auto.work ∙ q.auto.work;
+      marks-size = e.auto.marks ∙ q.auto.marks;
     })
     c.in-Usable.t q.result.pivot c.in-Usable.is (q.ensures.1 o G.rows (row-ready c.args.form G c.requires.0) G.held) k.ensures
 

@@ -7,16 +7,13 @@ use Prim.Native.Nat.{ℕ, ◌≤◌, ◌-◌}
 use borrow.Author.Rules.{rules}
 use native.Mathlib.Omega.{arith}
 use Rattle.factor.proofs.eliminate_rows.Goals as goal
-use Rattle.factor.proofs.eliminate_rows.Goals.{At-loop-k, Start}
-
-abbrev Begin : At-loop-k → Start
-Begin l = l
+use Rattle.factor.proofs.eliminate_rows.Goals.{At-loop-k}
 
 -- the rows are done, for the column order that is lent
-done : (l : At-loop-k) → Going (Begin l).args.form (with_floor (Begin l).args.floor (input_of (Begin l).args.n (Begin l).args.starts.now (Begin l).args.columns.now (Begin l).args.values.now (Begin l).args.r.now (Begin l).requires.0 (Begin l).args.b.now))
-    (lists (Begin l).args.lower-starts.now (Begin l).args.lower-index.now (Begin l).args.upper-starts.now (Begin l).args.upper-runs.now (Begin l).args.upper-index.now) l.loop-k.k
+done : (l : At-loop-k) → Going l.args.form (with_floor l.args.floor (input_of l.args.n l.args.starts.now l.args.columns.now l.args.values.now l.args.r.now l.requires.0 l.args.b.now))
+    (lists l.args.lower-starts.now l.args.lower-index.now l.args.upper-starts.now l.args.upper-runs.now l.args.upper-index.now) l.loop-k.k
     (written l.loop-k.lower-values l.loop-k.upper-values l.loop-k.d l.loop-k.work l.loop-k.marks)
-done l = l.loop-k.invariant.2 (Begin l).requires.0 (Begin l).requires.1
+done l = l.loop-k.invariant.2 l.requires.0 l.requires.1
 
 pub loop-k-init : goal.loop-k-init
 loop-k-init c = (omega arith, sizes-none _, λ o G. G)
@@ -25,7 +22,7 @@ pub overflow_cast-k : goal.overflow_cast-k
 overflow_cast-k c = omega (arith, (done (goal.at.overflow_cast-k c).At-loop-k).given.lent.lent.orders.few)
 
 pub eliminate_row-a-requires : goal.eliminate_row-a-requires
-eliminate_row-a-requires c = (omega arith, ((Begin (goal.at.eliminate_row-a-requires c).At-loop-k).pre.0, done (goal.at.eliminate_row-a-requires c).At-loop-k))
+eliminate_row-a-requires c = (omega arith, (c.pre.0, done (goal.at.eliminate_row-a-requires c).At-loop-k))
 
 pub shape_of-lower_values-then-met_fault : goal.shape_of-lower_values-then-met_fault
 shape_of-lower_values-then-met_fault c = c.eliminate_row-a.auto.lower_values ∙ c.loop-k.invariant.1.lower-size
@@ -60,7 +57,7 @@ loop-k-preserved c =
     let p = c.eliminate_row-a in (
       omega (arith, c.loop-k-test),
       sizes-then l.invariant.1
-          (record { lower-size = p.auto.1.1.1.1.1.1.1.1.1.1.1.0; upper-size = p.auto.1.1.1.1.1.1.1.1.1.1.1.1.1.1.1.0; d-size = p.auto.1.1.1.1.1.1.1.1.1.1.1.1.1.1.1.1.0; work-size = p.auto.1.1.1.1.1.1.1.1.1.1.1.1.1.1.1.1.1.0; marks-size = p.auto.1.1.1.1.1.1.1.1.1.1.1.1.1.1.1.1.1.1.0 }),
+          (record { lower-size = p.auto.lower_values; upper-size = p.auto.upper_values; d-size = p.auto.d; work-size = p.auto.work; marks-size = p.auto.marks }),
       λ o G. came-on p.result c.met_fault.result c.met_fault.ensures c.if-met_fault.false (p.ensures o (l.invariant.2 o G)),
     )
 

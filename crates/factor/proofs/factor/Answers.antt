@@ -9,9 +9,6 @@ use borrow.Author.Rules.{rules}
 use Rattle.factor.proofs.factor.Goals as goal
 use Rattle.factor.proofs.factor.Goals.{After-clear_for_rows, Start}
 
-abbrev Begin : After-clear_for_rows → Start
-Begin q = q
-
 -- the input with some column order, and the lists
 abbrev given : Start → List ℕ → Input
 given s o = with_floor s.args.floor (input_of s.args.n s.args.starts.now s.args.columns.now s.args.values.now s.args.r.now o s.args.b.now)
@@ -21,19 +18,19 @@ stores s = lists s.args.lower-starts.now s.args.lower-index.now s.args.upper-sta
 
 -- no row is done yet
 begun : (q : After-clear_for_rows) (o : List ℕ)
-    → Factorable (Begin q).args.form (given (Begin q) o) (stores (Begin q)) (written (Begin q).args.lower-values.now (Begin q).args.upper-values.now (Begin q).args.d.now (Begin q).args.work.now (Begin q).args.marks.now)
-    → Going (Begin q).args.form (given (Begin q) o) (stores (Begin q)) 0
-    (written q.clear_for_rows.new.lower_values q.clear_for_rows.new.upper_values (Begin q).args.d.now q.clear_for_rows.new.work q.clear_for_rows.new.marks)
+    → Factorable q.args.form (given (goal.at.begun q).Start o) (stores (goal.at.begun q).Start) (written q.args.lower-values.now q.args.upper-values.now q.args.d.now q.args.work.now q.args.marks.now)
+    → Going q.args.form (given (goal.at.begun q).Start o) (stores (goal.at.begun q).Start) 0
+    (written q.clear_for_rows.new.lower_values q.clear_for_rows.new.upper_values q.args.d.now q.clear_for_rows.new.work q.clear_for_rows.new.marks)
 begun q o F =
     let e = q.clear_for_rows in
-    form-start (Begin q).args.form _ F (record { lower-size = e.auto.1.0; upper-size = e.auto.1.1.0; d-size = refl; work-size = e.auto.1.1.1.0; marks-size = e.auto.1.1.1.1.0 })
+    form-start q.args.form _ F (record { lower-size = e.auto.lower_values; upper-size = e.auto.upper_values; d-size = refl; work-size = e.auto.work; marks-size = e.auto.marks })
     e.ensures.0 e.ensures.1 e.ensures.2 e.ensures.3
 
 pub clear_for_rows-requires : goal.clear_for_rows-requires
 clear_for_rows-requires c = let F = c.requires.1 in record { small = F.lent.lent.orders.few; long = F.slots }
 
 pub eliminate_rows-a-requires : goal.eliminate_rows-a-requires
-eliminate_rows-a-requires c = ((Begin (goal.at.eliminate_rows-a-requires c).After-clear_for_rows).requires.0, begun (goal.at.eliminate_rows-a-requires c).After-clear_for_rows (Begin (goal.at.eliminate_rows-a-requires c).After-clear_for_rows).requires.0 (Begin (goal.at.eliminate_rows-a-requires c).After-clear_for_rows).requires.1)
+eliminate_rows-a-requires c = (c.requires.0, begun (goal.at.eliminate_rows-a-requires c).After-clear_for_rows c.requires.0 c.requires.1)
 
 pub returns-then-met_fault : goal.returns-then-met_fault
 returns-then-met_fault c o F =
@@ -43,7 +40,7 @@ returns-then-met_fault c o F =
 pub solve_back-requires : goal.solve_back-requires
 solve_back-requires c =
     let p = c.eliminate_rows-a in
-    back-ready (came-on p.result c.met_fault.result c.met_fault.ensures c.if-met_fault.false (p.ensures (Begin (goal.at.solve_back-requires c).After-clear_for_rows).requires.0 (begun (goal.at.solve_back-requires c).After-clear_for_rows (Begin (goal.at.solve_back-requires c).After-clear_for_rows).requires.0 (Begin (goal.at.solve_back-requires c).After-clear_for_rows).requires.1)))
+    back-ready (came-on p.result c.met_fault.result c.met_fault.ensures c.if-met_fault.false (p.ensures c.requires.0 (begun (goal.at.solve_back-requires c).After-clear_for_rows c.requires.0 c.requires.1)))
 
 pub returns : goal.returns
 returns c o F =

@@ -12,7 +12,7 @@ pub close_place-below-requires : goal.close_place-below-requires
 close_place-below-requires c =
     let F = c.requires.1 in
     let l = c.load_row_place in
-    (close-parts F l.ensures l.auto.0, ((F.place, base-at _, room-kept _ _ _ l.auto.0 F.room), close-blocks F l.ensures l.auto.0))
+    (close-parts F l.ensures l.auto.marks, ((F.place, base-at _, room-kept _ _ _ l.auto.marks F.room), close-blocks F l.ensures l.auto.marks))
 
 pub renew_cuts-requires : goal.renew_cuts-requires
 renew_cuts-requires c =
@@ -21,8 +21,8 @@ renew_cuts-requires c =
     let q = c.close_place-below in (
       F.store.read,
       (
-        (F.place, base-at _, room-kept c.args.n l.new.0 q.new.0 q.auto.0 (room-kept c.args.n c.args.marks.now l.new.0 l.auto.0 F.room)),
-        record { stamp = _; list = cut_members F l.ensures l.auto.0 q.ensures q.auto.0 },
+        (F.place, base-at _, room-kept c.args.n l.new.marks q.new.marks q.auto.marks (room-kept c.args.n c.args.marks.now l.new.marks l.auto.marks F.room)),
+        record { stamp = _; list = cut_members F l.ensures l.auto.marks q.ensures q.auto.marks },
       ),
     )
 
@@ -31,4 +31,4 @@ returns c P F =
     let l = c.load_row_place in
     let q = c.close_place-below in
     let e = c.renew_cuts in
-    found F l.ensures l.auto.0 q.ensures q.auto.0 (e.ensures _ (cut_members F l.ensures l.auto.0 q.ensures q.auto.0)) e.auto.0
+    found F l.ensures l.auto.marks q.ensures q.auto.marks (e.ensures _ (cut_members F l.ensures l.auto.marks q.ensures q.auto.marks)) e.auto.marks

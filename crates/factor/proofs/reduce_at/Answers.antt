@@ -9,49 +9,46 @@ use Prim.Native.Nat.{ℕ}
 use lib.ListN.{length}
 use borrow.Author.Rules.{rules}
 use Rattle.factor.proofs.reduce_at.Goals as goal
-use Rattle.factor.proofs.reduce_at.Goals.{After-lower_at-below, Start}
-
-abbrev Begin : After-lower_at-below → Start
-Begin c = c
+use Rattle.factor.proofs.reduce_at.Goals.{After-lower_at-below}
 
 -- the row once its lower row stands in the marks, for any column order that fits
 stands : (c : After-lower_at-below) (o : List ℕ)
-    → RowReady (Begin c).args.form (with_floor (Begin c).args.floor (input_of (Begin c).args.n (Begin c).args.starts.now (Begin c).args.columns.now (Begin c).args.values.now (Begin c).args.r.now o (Begin c).args.b.now)) (lists (Begin c).args.lower-starts.now (Begin c).args.lower-index.now (Begin c).args.upper-starts.now (Begin c).args.upper-runs.now (Begin c).args.upper-index.now)
-    (Begin c).args.k.0 (length (Begin c).args.upper-values.now) (length (Begin c).args.work.now) (Begin c).args.marks.now
-    → RowAt (with_floor (Begin c).args.floor (input_of (Begin c).args.n (Begin c).args.starts.now (Begin c).args.columns.now (Begin c).args.values.now (Begin c).args.r.now o (Begin c).args.b.now)) (Begin c).args.k.0 c.lower_at-below.result (Begin c).args.upper-starts.now (Begin c).args.upper-runs.now (Begin c).args.upper-index.now
-    c.lower_at-below.new.marks (length (Begin c).args.upper-values.now) (length (Begin c).args.work.now)
+    → RowReady c.args.form (with_floor c.args.floor (input_of c.args.n c.args.starts.now c.args.columns.now c.args.values.now c.args.r.now o c.args.b.now)) (lists c.args.lower-starts.now c.args.lower-index.now c.args.upper-starts.now c.args.upper-runs.now c.args.upper-index.now)
+    c.args.k.0 (length c.args.upper-values.now) (length c.args.work.now) c.args.marks.now
+    → RowAt (with_floor c.args.floor (input_of c.args.n c.args.starts.now c.args.columns.now c.args.values.now c.args.r.now o c.args.b.now)) c.args.k.0 c.lower_at-below.result c.args.upper-starts.now c.args.upper-runs.now c.args.upper-index.now
+    c.lower_at-below.new.marks (length c.args.upper-values.now) (length c.args.work.now)
 stands c o h = h.row c.lower_at-below.new.marks c.lower_at-below.result c.lower_at-below.auto.marks c.lower_at-below.ensures
 
-here : (c : After-lower_at-below) → RowAt (with_floor (Begin c).args.floor (input_of (Begin c).args.n (Begin c).args.starts.now (Begin c).args.columns.now (Begin c).args.values.now (Begin c).args.r.now (Begin c).requires.0 (Begin c).args.b.now))
-    (Begin c).args.k.0 c.lower_at-below.result (Begin c).args.upper-starts.now (Begin c).args.upper-runs.now (Begin c).args.upper-index.now
-    c.lower_at-below.new.marks (length (Begin c).args.upper-values.now) (length (Begin c).args.work.now)
-here c = stands c (Begin c).requires.0 (Begin c).requires.1
+here : (c : After-lower_at-below) → RowAt (with_floor c.args.floor (input_of c.args.n c.args.starts.now c.args.columns.now c.args.values.now c.args.r.now c.requires.0 c.args.b.now))
+    c.args.k.0 c.lower_at-below.result c.args.upper-starts.now c.args.upper-runs.now c.args.upper-index.now
+    c.lower_at-below.new.marks (length c.args.upper-values.now) (length c.args.work.now)
+here c = stands c c.requires.0 c.requires.1
 
 pub row_columns-own-requires : goal.row_columns-own-requires
 row_columns-own-requires c =
-    let a = (Begin (goal.at.row_columns-own-requires c).After-lower_at-below).args in
+    let a = c.args in
     own-list a.r.now a.k c.own_row-row.result c.own_row-row.ensures a.starts.now _ (here (goal.at.row_columns-own-requires c).After-lower_at-below).columns
 
 pub row_values-entries-requires : goal.row_values-entries-requires
 row_values-entries-requires c =
-    let a = (Begin (goal.at.row_values-entries-requires c).After-lower_at-below).args in
+    let a = c.args in
     own-list a.r.now a.k c.own_row-row.result c.own_row-row.ensures a.starts.now _ (here (goal.at.row_values-entries-requires c).After-lower_at-below).values
 
 pub row_right-right-requires : goal.row_right-right-requires
 row_right-right-requires c =
-    let a = (Begin (goal.at.row_right-right-requires c).After-lower_at-below).args in
+    let a = c.args in
     own-right a.r.now a.k c.own_row-row.result c.own_row-row.ensures _ (here (goal.at.row_right-right-requires c).After-lower_at-below).right
 
 pub reduce_row-pivot-requires : goal.reduce_row-pivot-requires
 reduce_row-pivot-requires c =
-    let a = (Begin (goal.at.reduce_row-pivot-requires c).After-lower_at-below).args in
+    let a = c.args in
     row-reducible _ a.k.0 c.lower_at-below.result a.upper-starts.now a.upper-runs.now a.upper-index.now c.lower_at-below.new.marks (length a.upper-values.now) (length a.work.now) (here (goal.at.reduce_row-pivot-requires c).After-lower_at-below)
     c.own_row-row.result c.row_columns-own.result.now c.lower_part-lower.result.now c.row_values-entries.result.now c.row_right-right.result
     c.own_row-row.ensures c.row_columns-own.ensures c.row_values-entries.ensures c.row_right-right.ensures c.lower_part-lower.ensures
 
 pub returns : goal.returns
 returns c =
-    let a = (Begin (goal.at.returns c).After-lower_at-below).args in (
+    let a = c.args in (
       c.lower_at-below.ensures,
       λ o rows h H.
           let i = (with_floor a.floor (input_of a.n a.starts.now a.columns.now a.values.now a.r.now o a.b.now)) in

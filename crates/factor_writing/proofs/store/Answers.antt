@@ -12,14 +12,14 @@ pub lay_lists-at-requires : goal.lay_lists-at-requires
 lay_lists-at-requires c =
     let m = c.lay_head-at in
     let a = c.args in
-    lists-in _ _ _ (factor_lists a.r.now a.c.now a.lower-starts.now a.lower-index.now a.lower-values.now a.upper-starts.now a.upper-index.now a.upper-values.now a.d.now) a.file.now c.requires.0 c.requires.1 m.new.1.1.0 _ m.ensures.0 m.auto.1.1.0
+    lists-in _ _ _ (factor_lists a.r.now a.c.now a.lower-starts.now a.lower-index.now a.lower-values.now a.upper-starts.now a.upper-index.now a.upper-values.now a.d.now) a.file.now c.requires.0 c.requires.1 m.new.file _ m.ensures.0 m.auto.file
 
 pub lay_values-at-requires : goal.lay_values-at-requires
 lay_values-at-requires c =
     let m = c.lay_head-at in
     let o = c.lay_lists-at in
     let a = c.args in
-    values-in _ _ _ (factor_lists a.r.now a.c.now a.lower-starts.now a.lower-index.now a.lower-values.now a.upper-starts.now a.upper-index.now a.upper-values.now a.d.now) a.file.now c.requires.0 c.requires.1 m.new.1.1.0 o.new.1.1.1.1.1.0 _ _ m.ensures.0 m.auto.1.1.0 o.ensures.0 o.auto.1.1.1.1.1.0
+    values-in _ _ _ (factor_lists a.r.now a.c.now a.lower-starts.now a.lower-index.now a.lower-values.now a.upper-starts.now a.upper-index.now a.upper-values.now a.d.now) a.file.now c.requires.0 c.requires.1 m.new.file o.new.file _ _ m.ensures.0 m.auto.file o.ensures.0 o.auto.file
 
 pub finish-requires : goal.finish-requires
 finish-requires c =
@@ -27,8 +27,8 @@ finish-requires c =
     let o = c.lay_lists-at in
     let v = c.lay_values-at in
     let a = c.args in
-    whole-file _ _ _ (factor_lists a.r.now a.c.now a.lower-starts.now a.lower-index.now a.lower-values.now a.upper-starts.now a.upper-index.now a.upper-values.now a.d.now) a.file.now c.requires.0 c.requires.1 m.new.1.1.0 o.new.1.1.1.1.1.0 _ _ m.ensures.0 m.auto.1.1.0 o.ensures.0 o.auto.1.1.1.1.1.0
-    v.new.1.1.1.1.1.1.0 _ v.ensures.0 v.auto.1.1.1.1.1.1.0
+    whole-file _ _ _ (factor_lists a.r.now a.c.now a.lower-starts.now a.lower-index.now a.lower-values.now a.upper-starts.now a.upper-index.now a.upper-values.now a.d.now) a.file.now c.requires.0 c.requires.1 m.new.file o.new.file _ _ m.ensures.0 m.auto.file o.ensures.0 o.auto.file
+    v.new.file _ v.ensures.0 v.auto.file
 
 pub returns : goal.returns
 returns c =

@@ -3,34 +3,27 @@ use native.Mathlib.Omega.{arith}
 use Rattle.factors.specs.PresentedLaws.{inside, good-outside, good-aside, good-values}
 use borrow.Author.Rules.{rules}
 use Rattle.factors.proofs.side_good.Goals as goal
-use Rattle.factors.proofs.side_good.Goals.{After-outside, Start}
-
-abbrev Begin : After-outside → Start
-Begin s = s
 
 pub returns-then-outside : goal.returns-then-outside
 returns-then-outside c =
-    let s = Begin (goal.at.returns-then-outside c).After-outside in
-    good-outside _ _ _ _ _ s.args.form s.args.side s.args.n s.pre.1.runs-are _ c.outside.ensures c.if-outside.true
+    good-outside _ _ _ _ _ c.args.form c.args.side c.args.n c.pre.1.runs-are _ c.outside.ensures c.if-outside.true
 
 pub list_at-list-requires : goal.list_at-list-requires
 list_at-list-requires c =
-    let h = (Begin (goal.at.list_at-list-requires c).After-outside).pre in
+    let h = c.pre in
     (inside _ _ _ _ _ (omega (arith, h.1.runs-size, h.0)) (omega (arith, h.1.starts-size, h.0)) (sym c.outside.ensures ∙ c.if-outside.false)).0
 
 pub values_at-requires : goal.values_at-requires
 values_at-requires c =
-    let h = (Begin (goal.at.values_at-requires c).After-outside).pre in
+    let h = c.pre in
     (inside _ _ _ _ _ (omega (arith, h.1.runs-size, h.0)) (omega (arith, h.1.starts-size, h.0)) (sym c.outside.ensures ∙ c.if-outside.false)).1
 
 pub returns-then-on_side : goal.returns-then-on_side
 returns-then-on_side c =
-    let s = Begin (goal.at.returns-then-on_side c).After-outside in
-    good-values _ _ _ _ _ s.args.form s.args.side s.args.n s.pre.1.runs-are _ c.outside.ensures _ _ c.list_at-list.ensures c.on_side.ensures
+    good-values _ _ _ _ _ c.args.form c.args.side c.args.n c.pre.1.runs-are _ c.outside.ensures _ _ c.list_at-list.ensures c.on_side.ensures
     c.if-outside.false _ _ c.values_at.ensures c.all_finite.ensures c.if-on_side.true
 
 pub returns : goal.returns
 returns c =
-    let s = Begin (goal.at.returns c).After-outside in
-    good-aside _ _ _ _ _ s.args.form s.args.side s.args.n s.pre.1.runs-are _ c.outside.ensures _ _ c.list_at-list.ensures c.on_side.ensures
+    good-aside _ _ _ _ _ c.args.form c.args.side c.args.n c.pre.1.runs-are _ c.outside.ensures _ _ c.list_at-list.ensures c.on_side.ensures
     c.if-outside.false c.if-on_side.false

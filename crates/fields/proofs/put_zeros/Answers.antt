@@ -10,7 +10,7 @@ loop-i-init c = zero-start _ _ (omega arith)
 pub loop-i-preserved : goal.loop-i-preserved
 loop-i-preserved c =
     let s = c.put_number-i in
-    zero_more _ _ _ _ _ _ c.loop-i-test.true s.auto.0 s.ensures.0 s.ensures.1 c.loop-i.invariant
+    zero_more _ _ _ _ _ _ c.loop-i-test.true s.auto.file s.ensures.0 s.ensures.1 c.loop-i.invariant
 
 pub returns : goal.returns
 returns c = zero-end _ _ _ _ c.loop-i-test.false c.loop-i.invariant

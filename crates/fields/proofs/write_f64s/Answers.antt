@@ -15,7 +15,7 @@ pub loop-i-preserved : goal.loop-i-preserved
 loop-i-preserved c =
     let s = c.put_number-p in
     let l = c.loop-i-test.true in
-    write-more _ _ _ _ _ _ _ _ _ _ (rw length-map l) (c.bits_of.ensures ∙ get_or-map-lt (to_bits binary64) c.args.src.now _ nan 0 l) s.auto.0 s.ensures.0 s.ensures.1 c.loop-i.invariant
+    write-more _ _ _ _ _ _ _ _ _ _ (rw length-map l) (c.bits_of.ensures ∙ get_or-map-lt (to_bits binary64) c.args.src.now _ nan 0 l) s.auto.file s.ensures.0 s.ensures.1 c.loop-i.invariant
 
 pub returns : goal.returns
 returns c = rw length-map at (write-end _ _ _ _ _ _ _ (rw length-map c.loop-i-test.false) c.loop-i.invariant)

@@ -15,7 +15,7 @@ overflow_cast-src c = omega (arith, c.shared_slice_known-in-loop-i-1.given c.loo
 pub loop-i-preserved : goal.loop-i-preserved
 loop-i-preserved c =
     let s = c.put_number-p in
-    write-more _ _ _ _ _ _ _ _ _ _ c.loop-i-test.true refl s.auto.0 s.ensures.0 s.ensures.1 c.loop-i.invariant
+    write-more _ _ _ _ _ _ _ _ _ _ c.loop-i-test.true refl s.auto.file s.ensures.0 s.ensures.1 c.loop-i.invariant
 
 pub returns : goal.returns
 returns c = write-end _ _ _ _ _ _ _ c.loop-i-test.false c.loop-i.invariant

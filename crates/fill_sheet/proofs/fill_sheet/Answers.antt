@@ -2,71 +2,55 @@ use mathlib.Core.Path.{◌∙◌}
 use borrow.Author.Rules.{rules}
 use Rattle.fill_sheet.proofs.Call.{wrong-out, refused-left, print-lent, done-left}
 use Rattle.fill_sheet.proofs.fill_sheet.Goals as goal
-use Rattle.fill_sheet.proofs.fill_sheet.Goals.{After-print, After-refuses, After-slice_known-23-1, After-structure_shared-a, Else-refuses, Else-wrong_length}
-
--- the structure, the test of the sheet before it, and the test of its answer
-abbrev Structured : After-refuses → After-structure_shared-a
-Structured s = s
-
-abbrev Fits : After-structure_shared-a → Else-wrong_length
-Fits s = s
-
-abbrev Found : After-print → Else-refuses
-Found s = s
+use Rattle.fill_sheet.proofs.fill_sheet.Goals.{After-slice_known-23-1, After-structure_shared-a}
 
 pub returns-then-wrong_length : goal.returns-then-wrong_length
 returns-then-wrong_length c = wrong-out _ _ _ _ c.wrong_length.ensures c.if-wrong_length.true
 
 pub returns-then-refuses : goal.returns-then-refuses
 returns-then-refuses c =
-    let p = Structured (goal.at.returns-then-refuses c).After-refuses in
-    let f = Fits p in
-    refused-left _ _ _ _ f.wrong_length.ensures f.if1.left _ _ _ c.refuses.ensures c.if-refuses.true p.structure-shared.ensures
+    refused-left _ _ _ _ c.wrong_length.ensures c.if-wrong_length.left _ _ _ c.refuses.ensures c.if-refuses.true c.structure_shared-a.ensures
 
 pub print-requires : goal.print-requires
 print-requires c =
-    print-lent _ _ _ _ _ c.refuses.ensures c.if-refuses.false (Structured (goal.at.print-requires c).After-refuses).structure-shared.ensures
+    print-lent _ _ _ _ _ c.refuses.ensures c.if-refuses.false c.structure_shared-a.ensures
 
 pub returns : goal.returns
 returns c =
-    let e = Found (goal.at.returns c).After-print in
-    let r = e in
-    let q = Structured r in
-    let f = Fits q in
-    done-left _ _ _ _ f.wrong_length.ensures f.if1.left _ _ _ c.print.ensures _ _ r.refuses.ensures e.if2.left q.structure-shared.ensures
+    done-left _ _ _ _ c.wrong_length.ensures c.if-wrong_length.left _ _ _ c.print.ensures _ _ c.refuses.ensures c.if-refuses.left c.structure_shared-a.ensures
 
 abbrev Left : After-slice_known-23-1 → After-structure_shared-a
-Left s = Structured (Found (goal.at.Left s).After-print).before
+Left s = s
 
 pub shape_of-lower_starts-then-refuses : goal.shape_of-lower_starts-then-refuses
-shape_of-lower_starts-then-refuses c = (Structured (goal.at.shape_of-lower_starts-then-refuses c).After-refuses).structure-shared.auto.1.1.1.1.1.0
+shape_of-lower_starts-then-refuses c = c.structure_shared-a.auto.lower_starts
 
 pub shape_of-lower_runs-then-refuses : goal.shape_of-lower_runs-then-refuses
-shape_of-lower_runs-then-refuses c = (Structured (goal.at.shape_of-lower_runs-then-refuses c).After-refuses).structure-shared.auto.1.1.1.1.1.1.0
+shape_of-lower_runs-then-refuses c = c.structure_shared-a.auto.lower_runs
 
 pub shape_of-lower_index-then-refuses : goal.shape_of-lower_index-then-refuses
-shape_of-lower_index-then-refuses c = (Structured (goal.at.shape_of-lower_index-then-refuses c).After-refuses).structure-shared.auto.1.1.1.1.1.1.1.0
+shape_of-lower_index-then-refuses c = c.structure_shared-a.auto.lower_index
 
 pub shape_of-lower_values-then-refuses : goal.shape_of-lower_values-then-refuses
-shape_of-lower_values-then-refuses c = (Structured (goal.at.shape_of-lower_values-then-refuses c).After-refuses).structure-shared.auto.1.1.1.1.1.1.1.1.0
+shape_of-lower_values-then-refuses c = c.structure_shared-a.auto.lower_values
 
 pub shape_of-upper_starts-then-refuses : goal.shape_of-upper_starts-then-refuses
-shape_of-upper_starts-then-refuses c = (Structured (goal.at.shape_of-upper_starts-then-refuses c).After-refuses).structure-shared.auto.1.1.1.1.1.1.1.1.1.0
+shape_of-upper_starts-then-refuses c = c.structure_shared-a.auto.upper_starts
 
 pub shape_of-upper_runs-then-refuses : goal.shape_of-upper_runs-then-refuses
-shape_of-upper_runs-then-refuses c = (Structured (goal.at.shape_of-upper_runs-then-refuses c).After-refuses).structure-shared.auto.1.1.1.1.1.1.1.1.1.1.0
+shape_of-upper_runs-then-refuses c = c.structure_shared-a.auto.upper_runs
 
 pub shape_of-upper_index-then-refuses : goal.shape_of-upper_index-then-refuses
-shape_of-upper_index-then-refuses c = (Structured (goal.at.shape_of-upper_index-then-refuses c).After-refuses).structure-shared.auto.1.1.1.1.1.1.1.1.1.1.1.0
+shape_of-upper_index-then-refuses c = c.structure_shared-a.auto.upper_index
 
 pub shape_of-upper_values-then-refuses : goal.shape_of-upper_values-then-refuses
-shape_of-upper_values-then-refuses c = (Structured (goal.at.shape_of-upper_values-then-refuses c).After-refuses).structure-shared.auto.1.1.1.1.1.1.1.1.1.1.1.1.0
+shape_of-upper_values-then-refuses c = c.structure_shared-a.auto.upper_values
 
 pub shape_of-work-then-refuses : goal.shape_of-work-then-refuses
-shape_of-work-then-refuses c = (Structured (goal.at.shape_of-work-then-refuses c).After-refuses).structure-shared.auto.1.1.1.1.1.1.1.1.1.1.1.1.1.0
+shape_of-work-then-refuses c = c.structure_shared-a.auto.work
 
 pub shape_of-marks-then-refuses : goal.shape_of-marks-then-refuses
-shape_of-marks-then-refuses c = (Structured (goal.at.shape_of-marks-then-refuses c).After-refuses).structure-shared.auto.1.1.1.1.1.1.1.1.1.1.1.1.1.1.0
+shape_of-marks-then-refuses c = c.structure_shared-a.auto.marks
 
 pub shape_of-lower_starts : goal.shape_of-lower_starts
 shape_of-lower_starts c = (Left c).structure-shared.auto.1.1.1.1.1.0

@@ -4,10 +4,6 @@ use Prim.Native.Nat.{◌-◌, ◌≤◌}
 use borrow.Author.Rules.{rules}
 use native.Mathlib.Omega.{arith}
 use Rattle.marks.proofs.close_cuts.Goals as goal
-use Rattle.marks.proofs.close_cuts.Goals.{At-loop-p, Start}
-
-abbrev Begin : At-loop-p → Start
-Begin l = l
 
 pub loop-p-init : goal.loop-p-init
 loop-p-init c =
@@ -16,22 +12,19 @@ loop-p-init c =
 
 pub cut_list-requires : goal.cut_list-requires
 cut_list-requires c =
-    let s = Begin (goal.at.cut_list-requires c).At-loop-p in
-    let q = s.pre.1.0 in
-    let i = listed_below _ _ _ q.0 q.2 s.args.below s.pre.1.1 _ _ q.1 _ _ c.loop-p.invariant.2 c.slot-i.result (omega arith) c.slot-i.ensures.0 in
-    (omega (arith, q.1.high, q.2.long, c.loop-p.invariant.2.long), s.pre.0 c.slot-i.result i)
+    let q = c.pre.1.0 in
+    let i = listed_below _ _ _ q.0 q.2 c.args.below c.pre.1.1 _ _ q.1 _ _ c.loop-p.invariant.2 c.slot-i.result (omega arith) c.slot-i.ensures.0 in
+    (omega (arith, q.1.high, q.2.long, c.loop-p.invariant.2.long), c.pre.0 c.slot-i.result i)
 
 pub loop-p-preserved : goal.loop-p-preserved
 loop-p-preserved c =
-    let s = Begin (goal.at.loop-p-preserved c).At-loop-p in
-    let q = s.pre.1.0 in (
+    let q = c.pre.1.0 in (
       omega arith,
       c.loop-p.invariant.1,
-      listed_more _ _ _ q.0 q.2 s.args.below s.pre.1.1 _ _ q.1 _ _ c.loop-p.invariant.2 _ c.slot-i.result (omega arith) c.slot-i.ensures.0 c.cut_list.ensures,
+      listed_more _ _ _ q.0 q.2 c.args.below c.pre.1.1 _ _ q.1 _ _ c.loop-p.invariant.2 _ c.slot-i.result (omega arith) c.slot-i.ensures.0 c.cut_list.ensures,
     )
 
 pub returns : goal.returns
 returns c =
-    let s = Begin (goal.at.returns c).At-loop-p in
-    let q = s.pre.1.0 in
-    listed-end _ _ _ q.0 q.2 s.args.below s.pre.1.1 _ _ q.1 _ _ c.loop-p.invariant.2 (omega arith)
+    let q = c.pre.1.0 in
+    listed-end _ _ _ q.0 q.2 c.args.below c.pre.1.1 _ _ q.1 _ _ c.loop-p.invariant.2 (omega arith)

@@ -12,4 +12,4 @@ pub returns : goal.returns
 returns c =
     let m = c.merge_lower in
     let q = c.requires.1.0 in
-    closing-is _ _ _ _ _ _ _ _ _ q.0 q.2 c.requires.0 m.auto.0 m.ensures
+    closing-is _ _ _ _ _ _ _ _ _ q.0 q.2 c.requires.0 m.auto.marks m.ensures

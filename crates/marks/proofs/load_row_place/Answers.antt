@@ -5,25 +5,20 @@ use Rattle.lent.specs.ReadingLaws.{own_in}
 use Rattle.marks.specs.FillLaws.{loaded-is}
 use borrow.Author.Rules.{rules}
 use Rattle.marks.proofs.load_row_place.Goals as goal
-use Rattle.marks.proofs.load_row_place.Goals.{After-row_columns-cols, Start}
-
-abbrev Begin : After-row_columns-cols → Start
-Begin c = c
+use Rattle.marks.proofs.load_row_place.Goals.{After-row_columns-cols}
 
 pub row_columns-cols-requires : goal.row_columns-cols-requires
 row_columns-cols-requires c = own_in c.own_row-i.ensures c.requires.1.0
 
 -- the part is own row r(k)
 part : (c : After-row_columns-cols)
-    → c.row_columns-cols.result.now ≡ row_of (Begin c).args.starts.now (Begin c).args.columns.now (get_or (Begin c).args.r.now (Begin c).args.k.0 0)
-part c = c.row_columns-cols.ensures ∙ ap (λ i. row_of (Begin c).args.starts.now (Begin c).args.columns.now i.0) c.own_row-i.ensures
+    → c.row_columns-cols.result.now ≡ row_of c.args.starts.now c.args.columns.now (get_or c.args.r.now c.args.k.0 0)
+part c = c.row_columns-cols.ensures ∙ ap (λ i. row_of c.args.starts.now c.args.columns.now i.0) c.own_row-i.ensures
 
 pub load_row-requires : goal.load_row-requires
 load_row-requires c =
-    let s = Begin (goal.at.load_row-requires c).After-row_columns-cols in
-    (rw (part (goal.at.load_row-requires c).After-row_columns-cols) s.pre.1.1.0, (s.pre.0.1, s.pre.1.1.1))
+    (rw (part (goal.at.load_row-requires c).After-row_columns-cols) c.pre.1.1.0, (c.pre.0.1, c.pre.1.1.1))
 
 pub returns : goal.returns
 returns c =
-    let s = Begin (goal.at.returns c).After-row_columns-cols in
-    loaded-is _ _ _ _ _ _ _ _ (part (goal.at.returns c).After-row_columns-cols) s.pre.1.1.0 s.pre.0.1 s.pre.1.1.1 c.load_row.ensures
+    loaded-is _ _ _ _ _ _ _ _ (part (goal.at.returns c).After-row_columns-cols) c.pre.1.1.0 c.pre.0.1 c.pre.1.1.1 c.load_row.ensures

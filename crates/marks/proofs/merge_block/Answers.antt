@@ -5,10 +5,6 @@ use Prim.Native.Nat.{◌-◌}
 use borrow.Author.Rules.{rules}
 use native.Mathlib.Omega.{arith}
 use Rattle.marks.proofs.merge_block.Goals as goal
-use Rattle.marks.proofs.merge_block.Goals.{At-loop-i, Start}
-
-abbrev Begin : At-loop-i → Start
-Begin l = l
 
 pub loop-i-init : goal.loop-i-init
 loop-i-init c =
@@ -16,18 +12,16 @@ loop-i-init c =
 
 pub merge_run-requires : goal.merge_run-requires
 merge_run-requires c =
-    let s = Begin (goal.at.merge_run-requires c).At-loop-i in
-    let b = s.pre.1.3 in
-    let p = listed-parts s.args.n _ _ _ _ _ _ _ s.args.end s.pre.1.2 c.loop-i.marks c.loop-i.i c.loop-i.count (omega arith) c.loop-i.invariant b in
+    let b = c.pre.1.3 in
+    let p = listed-parts c.args.n _ _ _ _ _ _ _ c.args.end c.pre.1.2 c.loop-i.marks c.loop-i.i c.loop-i.count (omega arith) c.loop-i.invariant b in
     ((room-set _ c.loop-i.marks _ _ c.loop-i.invariant.room, b, p.read c.loop-i.i (omega arith)), p.below c.loop-i.i (omega arith))
 
 pub loop-i-preserved : goal.loop-i-preserved
 loop-i-preserved c =
-    let s = Begin (goal.at.loop-i-preserved c).At-loop-i in
-    let b = s.pre.1 in
+    let b = c.pre.1 in
     ⊎_elim
-    (λ w. along-hit s.args.n _ _ _ _ _ _ _ _ b.2 c.loop-i.marks c.loop-i.i c.loop-i.count (omega arith) c.loop-i.invariant b.3 _ _ (w.5 ∙ w.2.ensures) w.6 w.0.taken)
-    (λ w. along-miss s.args.n _ _ _ _ _ _ _ _ b.2 c.loop-i.marks c.loop-i.i c.loop-i.count (omega arith) c.loop-i.invariant _ _ w.1 w.2 w.0.left)
+    (λ w. along-hit c.args.n _ _ _ _ _ _ _ _ b.2 c.loop-i.marks c.loop-i.i c.loop-i.count (omega arith) c.loop-i.invariant b.3 _ _ (w.5 ∙ w.2.ensures) w.6 w.0.taken)
+    (λ w. along-miss c.args.n _ _ _ _ _ _ _ _ b.2 c.loop-i.marks c.loop-i.i c.loop-i.count (omega arith) c.loop-i.invariant _ _ w.1 w.2 w.0.left)
     c.if-marks-i.branch
 
 pub returns : goal.returns

@@ -8,13 +8,13 @@ lay_matrix-at-requires c = matrix-room _ c.args.file.now c.requires
 pub lay_orders-at-requires : goal.lay_orders-at-requires
 lay_orders-at-requires c =
     let m = c.lay_matrix-at in
-    orders-room _ c.args.file.now c.requires m.new.1.1.1.1.0 _ m.ensures.0 m.auto.1.1.1.1.0
+    orders-room _ c.args.file.now c.requires m.new.file _ m.ensures.0 m.auto.file
 
 pub finish-requires : goal.finish-requires
 finish-requires c =
     let m = c.lay_matrix-at in
     let o = c.lay_orders-at in
-    whole-file _ c.args.file.now c.requires m.new.1.1.1.1.0 o.new.1.1.1.1.0 _ _ m.ensures.0 m.auto.1.1.1.1.0 o.ensures.0 o.auto.1.1.1.1.0
+    whole-file _ c.args.file.now c.requires m.new.file o.new.file _ _ m.ensures.0 m.auto.file o.ensures.0 o.auto.file
 
 pub returns : goal.returns
 returns c = all_laid _ _ _ _ c.lay_matrix-at.ensures.1 c.lay_orders-at.ensures.1 c.finish.ensures

@@ -6,88 +6,73 @@ use Rattle.stages.specs.Branches.{done-with}
 use Rattle.stages.specs.Ends.{leaves-refused, both-due, both-leaves}
 use borrow.Author.Rules.{rules}
 use Rattle.plain_form.proofs.analyze_and_solve.Goals as goal
-use Rattle.plain_form.proofs.analyze_and_solve.Goals.{After-analyze_plain-a, After-answer_of, After-counts-counts, After-factor_and_solve-fault, After-refuses, Start}
-
--- the pass, the branch on its answer, and the arithmetic
-abbrev Begin : After-analyze_plain-a → Start
-Begin s = s
-
-abbrev Found : After-refuses → After-analyze_plain-a
-Found s = s
-
-abbrev Counted : After-factor_and_solve-fault → After-counts-counts
-Counted s = s
-
-abbrev Solved : After-answer_of → After-factor_and_solve-fault
-Solved s = s
+use Rattle.plain_form.proofs.analyze_and_solve.Goals.{After-analyze_plain-a, After-counts-counts}
 
 abbrev Earlier : After-counts-counts → After-analyze_plain-a
-Earlier s = Found (goal.at.Earlier s).After-refuses
+Earlier s = s
 
 pub analyze_plain-a-requires : goal.analyze_plain-a-requires
 analyze_plain-a-requires c = let h = c.requires in plain-lent _ _ _ _ _ _ _ _ _ _ _ _ _ h.shaped.structure (pattern-structured _ (settled _ h.passed).structured)
 
 pub returns-then-refuses : goal.returns-then-refuses
-returns-then-refuses c = leaves-refused Plain _ _ _ _ _ _ _ _ _ (Found (goal.at.returns-then-refuses c).After-refuses).analyze-plain.ensures.found (sym c.refuses.ensures ∙ c.if-refuses.true) refl
+returns-then-refuses c = leaves-refused Plain _ _ _ _ _ _ _ _ _ c.analyze_plain-a.ensures.found (sym c.refuses.ensures ∙ c.if-refuses.true) refl
 
 pub factor_and_solve-fault-requires : goal.factor_and_solve-fault-requires
 factor_and_solve-fault-requires c =
     let p = Earlier (goal.at.factor_and_solve-fault-requires c).After-counts-counts in
-    both-due Plain _ _ _ _ _ _ _ _ _ _ _ _ _ _ _ _ _ p.analyze-plain.ensures (done-with _ _ _ c.refuses.ensures c.if-refuses.false c.counts-counts.ensures) (Begin p).pre p.analyze-plain.kept.1.1.1.1.1.1.1.1.1.1.1.0 refl refl refl (λ h. h)
+    both-due Plain _ _ _ _ _ _ _ _ _ _ _ _ _ _ _ _ _ p.analyze-plain.ensures (done-with _ _ _ c.refuses.ensures c.if-refuses.false c.counts-counts.ensures) p.pre p.analyze-plain.kept.1.1.1.1.1.1.1.1.1.1.1.0 refl refl refl (λ h. h)
 
 pub returns : goal.returns
 returns c =
-    let k = Counted (Solved c) in
-    let b = k in
-    let p = (Earlier k).analyze-plain in
-    let q = (Solved c).factor-and-solve in
-    let e = done-with _ _ _ b.refuses.ensures b.if1.left k.counts.ensures in
+    let p = (Earlier (goal.at.returns c).After-counts-counts).analyze-plain in
+    let q = c.factor_and_solve-fault in
+    let e = done-with _ _ _ c.refuses.ensures c.if-refuses.left c.counts-counts.ensures in
     both-leaves Plain _ _ _ _ _ _ _ _ _ _ _ _ _ _ _ _ _ _ _ _ _ _ _ _ _ _ _ _ _ _ _ _ p.ensures e q.ensures c.answer_of.ensures
     p.kept.1.1.1.1.1.0 refl p.kept.1.1.1.1.1.1.0 q.kept.1.1.1.1.1.1.1.1.1.1.1.0
     p.kept.1.1.1.1.1.1.1.1.0 refl p.kept.1.1.1.1.1.1.1.1.1.0 q.kept.1.1.1.1.1.1.1.1.1.1.1.1.1.1.1.0
     q.kept.1.1.1.1.1.1.1.1.1.1.1.1.1.1.1.1.1.1.0 (q.kept.1.1.1.1.1.1.1.1.1.1.1.1.1.1.1.1.1.1.1.0 ∙ p.kept.1.1.1.1.1.1.1.1.1.1.1.0) (λ h. refl) (λ h. refl)
 
 pub shape_of-lower_starts-then-refuses : goal.shape_of-lower_starts-then-refuses
-shape_of-lower_starts-then-refuses c = (Found (goal.at.shape_of-lower_starts-then-refuses c).After-refuses).analyze-plain.auto.1.1.1.1.1.0
+shape_of-lower_starts-then-refuses c = c.analyze_plain-a.auto.lower_starts
 
 pub shape_of-lower_index-then-refuses : goal.shape_of-lower_index-then-refuses
-shape_of-lower_index-then-refuses c = (Found (goal.at.shape_of-lower_index-then-refuses c).After-refuses).analyze-plain.auto.1.1.1.1.1.1.0
+shape_of-lower_index-then-refuses c = c.analyze_plain-a.auto.lower_index
 
 pub shape_of-upper_starts-then-refuses : goal.shape_of-upper_starts-then-refuses
-shape_of-upper_starts-then-refuses c = (Found (goal.at.shape_of-upper_starts-then-refuses c).After-refuses).analyze-plain.auto.1.1.1.1.1.1.1.1.0
+shape_of-upper_starts-then-refuses c = c.analyze_plain-a.auto.upper_starts
 
 pub shape_of-upper_index-then-refuses : goal.shape_of-upper_index-then-refuses
-shape_of-upper_index-then-refuses c = (Found (goal.at.shape_of-upper_index-then-refuses c).After-refuses).analyze-plain.auto.1.1.1.1.1.1.1.1.1.0
+shape_of-upper_index-then-refuses c = c.analyze_plain-a.auto.upper_index
 
 pub shape_of-marks-then-refuses : goal.shape_of-marks-then-refuses
-shape_of-marks-then-refuses c = (Found (goal.at.shape_of-marks-then-refuses c).After-refuses).analyze-plain.auto.1.1.1.1.1.1.1.1.1.1.1.0
+shape_of-marks-then-refuses c = c.analyze_plain-a.auto.marks
 
 pub shape_of-lower_starts : goal.shape_of-lower_starts
-shape_of-lower_starts c = (Earlier (Counted (Solved c))).analyze-plain.auto.1.1.1.1.1.0
+shape_of-lower_starts c = (Earlier (c)).analyze-plain.auto.1.1.1.1.1.0
 
 pub shape_of-lower_index : goal.shape_of-lower_index
-shape_of-lower_index c = (Earlier (Counted (Solved c))).analyze-plain.auto.1.1.1.1.1.1.0
+shape_of-lower_index c = (Earlier (c)).analyze-plain.auto.1.1.1.1.1.1.0
 
 pub shape_of-lower_values : goal.shape_of-lower_values
-shape_of-lower_values c = (Solved c).factor-and-solve.auto.1.1.1.1.1.1.1.1.1.1.1.0
+shape_of-lower_values c = c.factor_and_solve-fault.auto.lower_values
 
 pub shape_of-upper_starts : goal.shape_of-upper_starts
-shape_of-upper_starts c = (Earlier (Counted (Solved c))).analyze-plain.auto.1.1.1.1.1.1.1.1.0
+shape_of-upper_starts c = (Earlier (c)).analyze-plain.auto.1.1.1.1.1.1.1.1.0
 
 pub shape_of-upper_index : goal.shape_of-upper_index
-shape_of-upper_index c = (Earlier (Counted (Solved c))).analyze-plain.auto.1.1.1.1.1.1.1.1.1.0
+shape_of-upper_index c = (Earlier (c)).analyze-plain.auto.1.1.1.1.1.1.1.1.1.0
 
 pub shape_of-upper_values : goal.shape_of-upper_values
-shape_of-upper_values c = (Solved c).factor-and-solve.auto.1.1.1.1.1.1.1.1.1.1.1.1.1.1.1.0
+shape_of-upper_values c = c.factor_and_solve-fault.auto.upper_values
 
 pub shape_of-d : goal.shape_of-d
-shape_of-d c = (Solved c).factor-and-solve.auto.1.1.1.1.1.1.1.1.1.1.1.1.1.1.1.1.0
+shape_of-d c = c.factor_and_solve-fault.auto.d
 
 pub shape_of-x : goal.shape_of-x
-shape_of-x c = (Solved c).factor-and-solve.auto.1.1.1.1.1.1.1.1.1.1.1.1.1.1.1.1.1.0
+shape_of-x c = c.factor_and_solve-fault.auto.x
 
 pub shape_of-work : goal.shape_of-work
-shape_of-work c = (Solved c).factor-and-solve.auto.1.1.1.1.1.1.1.1.1.1.1.1.1.1.1.1.1.1.0
+shape_of-work c = c.factor_and_solve-fault.auto.work
 
 pub shape_of-marks : goal.shape_of-marks
-shape_of-marks c = (Solved c).factor-and-solve.auto.1.1.1.1.1.1.1.1.1.1.1.1.1.1.1.1.1.1.1.0 ∙ (Earlier (Counted (Solved c))).analyze-plain.auto.1.1.1.1.1.1.1.1.1.1.1.0
+shape_of-marks c = c.factor_and_solve-fault.auto.marks ∙ (Earlier (c)).analyze-plain.auto.1.1.1.1.1.1.1.1.1.1.1.0

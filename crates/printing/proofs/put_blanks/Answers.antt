@@ -11,7 +11,7 @@ use Rattle.printing.proofs.put_blanks.Goals as goal
 pub loop-i-preserved : goal.loop-i-preserved
 loop-i-preserved c =
     let q = c.put in
-    (omega arith, q.auto.0 ∙ c.loop-i.invariant.1, rw q.ensures (blanks-turn c.loop-i.out _ _ c.loop-i.i (omega arith)) ∙ c.loop-i.invariant.2)
+    (omega arith, q.auto.out ∙ c.loop-i.invariant.1, rw q.ensures (blanks-turn c.loop-i.out _ _ c.loop-i.i (omega arith)) ∙ c.loop-i.invariant.2)
 
 pub returns : goal.returns
 returns c = (record { exit = blanks-end c.loop-i.out _ _ c.loop-i.i (omega arith) ∙ c.loop-i.invariant.2; next = omega (arith, c.loop-i.invariant.0, length-replicate {A = ℕ} c.args.count 32) }, omega (arith, c.loop-i.invariant.0))

@@ -8,5 +8,5 @@ pub returns : goal.returns
 unfolding decimal
 returns c =
     let p = c.put_digits.ensures in
-    let w = c.width_of_lem in
+    let w = c.width_of in
     (rw (← w.ensures.0) p, omega (arith, p.next, w.ensures.1, digits-length 10 w.result c.args.x))

@@ -20,7 +20,7 @@ digit_of-requires c =
 pub loop-left-preserved : goal.loop-left-preserved
 loop-left-preserved c =
     let q = c.put in
-    (omega arith, q.auto.0 ∙ c.loop-left.invariant.1, rw (q.ensures, c.digit_of.ensures) (digits-turn c.loop-left.out _ _ c.loop-left.left c.loop-left.rest (omega arith)) ∙ c.loop-left.invariant.2)
+    (omega arith, q.auto.out ∙ c.loop-left.invariant.1, rw (q.ensures, c.digit_of.ensures) (digits-turn c.loop-left.out _ _ c.loop-left.left c.loop-left.rest (omega arith)) ∙ c.loop-left.invariant.2)
 
 pub returns : goal.returns
 returns c = record { exit = digits-none _ _ _ _ c.loop-left.left (omega arith) ∙ c.loop-left.invariant.2; next = rw digits-length }

@@ -14,7 +14,7 @@ loop-i-init c = (search rules, search rules, rw add-zero)
 pub loop-i-preserved : goal.loop-i-preserved
 loop-i-preserved c =
     let q = c.put in
-    (omega arith, q.auto.0 ∙ c.loop-i.invariant.1, rw q.ensures (text-turn c.loop-i.out _ _ c.loop-i.i (omega arith)) ∙ c.loop-i.invariant.2)
+    (omega arith, q.auto.out ∙ c.loop-i.invariant.1, rw q.ensures (text-turn c.loop-i.out _ _ c.loop-i.i (omega arith)) ∙ c.loop-i.invariant.2)
 
 pub returns : goal.returns
 returns c = record { exit = text-end c.loop-i.out _ _ c.loop-i.i (omega arith) ∙ c.loop-i.invariant.2; next = omega (arith, c.loop-i.invariant.0) }

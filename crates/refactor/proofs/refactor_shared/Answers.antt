@@ -1,29 +1,25 @@
 use Rattle.refactor.proofs.refactor_shared.Goals as goal
-use Rattle.refactor.proofs.refactor_shared.Goals.{After-refactor_in, After-slice_known-12-1}
-
-abbrev Called : After-slice_known-12-1 → After-refactor_in
-Called s = s
 
 pub refactor_in-requires : goal.refactor_in-requires
 refactor_in-requires c = (tt, tt)
 
 pub shape_of-lower_values : goal.shape_of-lower_values
-shape_of-lower_values c = (Called c).refactor-in.auto.1.1.1.1.1.1.1.1.1.1.1.1.0
+shape_of-lower_values c = c.refactor_in.auto.lower_values
 
 pub shape_of-upper_values : goal.shape_of-upper_values
-shape_of-upper_values c = (Called c).refactor-in.auto.1.1.1.1.1.1.1.1.1.1.1.1.1.1.1.1.0
+shape_of-upper_values c = c.refactor_in.auto.upper_values
 
 pub shape_of-d : goal.shape_of-d
-shape_of-d c = (Called c).refactor-in.auto.1.1.1.1.1.1.1.1.1.1.1.1.1.1.1.1.1.0
+shape_of-d c = c.refactor_in.auto.d
 
 pub shape_of-x : goal.shape_of-x
-shape_of-x c = (Called c).refactor-in.auto.1.1.1.1.1.1.1.1.1.1.1.1.1.1.1.1.1.1.0
+shape_of-x c = c.refactor_in.auto.x
 
 pub shape_of-work : goal.shape_of-work
-shape_of-work c = (Called c).refactor-in.auto.1.1.1.1.1.1.1.1.1.1.1.1.1.1.1.1.1.1.1.0
+shape_of-work c = c.refactor_in.auto.work
 
 pub shape_of-marks : goal.shape_of-marks
-shape_of-marks c = (Called c).refactor-in.auto.1.1.1.1.1.1.1.1.1.1.1.1.1.1.1.1.1.1.1.1.0
+shape_of-marks c = c.refactor_in.auto.marks
 
 pub returns : goal.returns
-returns c = (Called c).refactor-in.ensures
+returns c = c.refactor_in.ensures

@@ -10,7 +10,7 @@ use Rattle.report.proofs.put_all.Goals as goal
 pub loop-i-preserved : goal.loop-i-preserved
 loop-i-preserved c = let l = c.loop-i in
     let q = c.put in
-    (omega arith, q.auto.0 ∙ l.invariant.1, rw q.ensures (slots-turn l.report _ l.i (omega arith)) ∙ l.invariant.2)
+    (omega arith, q.auto.report ∙ l.invariant.1, rw q.ensures (slots-turn l.report _ l.i (omega arith)) ∙ l.invariant.2)
 
 pub returns : goal.returns
 returns c = slots_end c.loop-i.report _ c.loop-i.i (omega arith) ∙ c.loop-i.invariant.2

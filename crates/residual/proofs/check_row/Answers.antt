@@ -4,28 +4,23 @@ use Rattle.matrix.specs.Input.{Input, input_of}
 use Rattle.residual.proofs.Rows.{few, row-lent, row_is}
 use borrow.Author.Rules.{rules}
 use Rattle.residual.proofs.check_row.Goals as goal
-use Rattle.residual.proofs.check_row.Goals.{After-row_right-right, Start}
+use Rattle.residual.proofs.check_row.Goals.{Start}
 
 abbrev given : Start → Input
 given s = let a = s.args in input_of a.n a.starts.now a.columns.now a.values.now [] [] a.b.now
 
-abbrev Begin : After-row_right-right → Start
-Begin s = s
-
 pub sum_up-s-requires : goal.sum_up-s-requires
-sum_up-s-requires c = let s = Begin c in row-lent (given s) _ _ s.pre _ c.row_columns-own.ensures _ c.row_values-entries.ensures
+sum_up-s-requires c = row-lent (given (goal.at.sum_up-s-requires c).Start) _ _ c.pre _ c.row_columns-own.ensures _ c.row_values-entries.ensures
 
 pub width_of-w-requires : goal.width_of-w-requires
-width_of-w-requires c = let s = Begin (goal.at.width_of-w-requires c).After-row_right-right in few (given s) _ _ s.pre _ c.row_columns-own.ensures
+width_of-w-requires c = few (given (goal.at.width_of-w-requires c).Start) _ _ c.pre _ c.row_columns-own.ensures
 
 pub returns-then-is_finite : goal.returns-then-is_finite
 returns-then-is_finite c =
-    let s = Begin (goal.at.returns-then-is_finite c).After-row_right-right in
-    row_is (given s) _ _ s.pre _ c.row_columns-own.ensures _ c.row_values-entries.ensures _ _ _ _ _ _ c.row_right-right.ensures c.sum_up-s.ensures.0 c.sum_up-s.ensures.1
-    c.width_of_lem.ensures c.is_finite.ensures c.is_finite-2.ensures true c.if-is_finite.true
+    row_is (given (goal.at.returns-then-is_finite c).Start) _ _ c.pre _ c.row_columns-own.ensures _ c.row_values-entries.ensures _ _ _ _ _ _ c.row_right-right.ensures c.sum_up-s.ensures.0 c.sum_up-s.ensures.1
+    c.width_of-w.ensures c.is_finite.ensures c.is_finite-2.ensures true c.if-is_finite.true
 
 pub returns : goal.returns
 returns c =
-    let s = Begin (goal.at.returns c).After-row_right-right in
-    row_is (given s) _ _ s.pre _ c.row_columns-own.ensures _ c.row_values-entries.ensures _ _ _ _ _ _ c.row_right-right.ensures c.sum_up-s.ensures.0 c.sum_up-s.ensures.1
-    c.width_of_lem.ensures c.is_finite.ensures c.is_finite-2.ensures false c.if-is_finite.false
+    row_is (given (goal.at.returns c).Start) _ _ c.pre _ c.row_columns-own.ensures _ c.row_values-entries.ensures _ _ _ _ _ _ c.row_right-right.ensures c.sum_up-s.ensures.0 c.sum_up-s.ensures.1
+    c.width_of-w.ensures c.is_finite.ensures c.is_finite-2.ensures false c.if-is_finite.false

@@ -6,4 +6,4 @@ use Rattle.residual.proofs.width_of.Goals as goal
 
 pub returns : goal.returns
 unfolding width_from share least of_bits
-returns c = rw (c.number_of_lem.ensures, c.number_of-least.ensures) refl
+returns c = rw (c.number_of-share.ensures, c.number_of-least.ensures) refl

@@ -7,10 +7,7 @@ use Rattle.stages.specs.Branches.{pass_of}
 use Rattle.resolve.specs.AgainLaws.{asking-of, resolve-stops, resolve-ends, shared-ready}
 use borrow.Author.Rules.{rules}
 use Rattle.resolve.proofs.resolve_shared.Goals as goal
-use Rattle.resolve.proofs.resolve_shared.Goals.{After-ask_right-asked, After-side_sizes-upper, After-stops, Start}
-
-abbrev Begin : After-ask_right-asked → Start
-Begin s = s
+use Rattle.resolve.proofs.resolve_shared.Goals.{Start}
 
 abbrev given : Start → Input
 given s = let a = s.args in input_of a.n [] [] [] a.r.now a.c.now a.b.now
@@ -21,37 +18,23 @@ lower s = let a = s.args in side_buffers a.lower-starts.now a.lower-runs.now a.l
 abbrev upper : Start → SideBuffers
 upper s = let a = s.args in side_buffers a.upper-starts.now a.upper-runs.now a.upper-index.now a.upper-values.now
 
--- the lengths of the sides
-abbrev Sides : After-ask_right-asked → After-side_sizes-upper
-Sides s = s
-
--- the answer of 1, 2, 5 and 6
-abbrev Asked : After-stops → After-ask_right-asked
-Asked s = s
-
 pub returns-then-stops : goal.returns-then-stops
 returns-then-stops c =
-    let q = Asked (goal.at.returns-then-stops c).After-stops in
-    let s = Begin q in
-    let a = s.args in
-    let g = asking-of Shared (given s) _ _ _ _ _ _ _ _ _ _ _ _ _ (Sides q).before.side-sizes.ensures (Sides q).side-sizes2.ensures q.ask-right.ensures in
-    resolve-stops Shared (given s) (lower s) (upper s) a.d.now a.x.now a.work.now _ a.marks.now _ q.ask-right.result g _ (sym c.stops.ensures ∙ c.if-stops.true)
-    c.end_of_lem.ensures
+    let a = c.args in
+    let g = asking-of Shared (given (goal.at.returns-then-stops c).Start) _ _ _ _ _ _ _ _ _ _ _ _ _ c.side_sizes-lower.ensures c.side_sizes-upper.ensures c.ask_right-asked.ensures in
+    resolve-stops Shared (given (goal.at.returns-then-stops c).Start) (lower (goal.at.returns-then-stops c).Start) (upper (goal.at.returns-then-stops c).Start) a.d.now a.x.now a.work.now _ a.marks.now _ c.ask_right-asked.result g _ (sym c.stops.ensures ∙ c.if-stops.true)
+    c.end_of.ensures
 
 pub solve_again-a-requires : goal.solve_again-a-requires
 solve_again-a-requires c =
-    let q = Asked (goal.at.solve_again-a-requires c).After-stops in
-    let s = Begin q in
-    let a = s.args in
-    let g = asking-of Shared (given s) _ _ _ _ _ _ _ _ _ _ _ _ _ (Sides q).before.side-sizes.ensures (Sides q).side-sizes2.ensures q.ask-right.ensures in
-    shared-ready (given s) a.lower-starts.now a.lower-runs.now a.upper-starts.now a.upper-runs.now _ _ _ _ _ _ _ _ (g.due (pass_of _ (sym c.stops.ensures ∙ c.if-stops.false))) _ q.ask-right.kept.1.1.1.1.1.1.0
+    let a = c.args in
+    let g = asking-of Shared (given (goal.at.solve_again-a-requires c).Start) _ _ _ _ _ _ _ _ _ _ _ _ _ c.side_sizes-lower.ensures c.side_sizes-upper.ensures c.ask_right-asked.ensures in
+    shared-ready (given (goal.at.solve_again-a-requires c).Start) a.lower-starts.now a.lower-runs.now a.upper-starts.now a.upper-runs.now _ _ _ _ _ _ _ _ (g.due (pass_of _ (sym c.stops.ensures ∙ c.if-stops.false))) _ c.ask_right-asked.auto.work
 
 pub returns : goal.returns
 returns c =
-    let q = Asked (goal.at.returns c).After-stops in
-    let s = Begin q in
-    let a = s.args in
-    let g = asking-of Shared (given s) _ _ _ _ _ _ _ _ _ _ _ _ _ (Sides q).before.side-sizes.ensures (Sides q).side-sizes2.ensures q.ask-right.ensures in
-    resolve-ends Shared (given s) (lower s) (upper s) a.d.now a.x.now a.work.now _ a.marks.now _ q.ask-right.result g (sym c.stops.ensures ∙ c.if-stops.false)
-    c.solve_again-a.result _ _ _ _ _ (c.solve_again-a.auto.work ∙ q.ask-right.kept.1.1.1.1.1.1.0) q.ask-right.kept.1.1.1.1.1.1.1.0 c.clear_scratch.ensures
+    let a = c.args in
+    let g = asking-of Shared (given (goal.at.returns c).Start) _ _ _ _ _ _ _ _ _ _ _ _ _ c.side_sizes-lower.ensures c.side_sizes-upper.ensures c.ask_right-asked.ensures in
+    resolve-ends Shared (given (goal.at.returns c).Start) (lower (goal.at.returns c).Start) (upper (goal.at.returns c).Start) a.d.now a.x.now a.work.now _ a.marks.now _ c.ask_right-asked.result g (sym c.stops.ensures ∙ c.if-stops.false)
+    c.solve_again-a.result _ _ _ _ _ (c.solve_again-a.auto.work ∙ c.ask_right-asked.auto.work) c.ask_right-asked.auto.marks c.clear_scratch.ensures
     c.solve_again-a.ensures _ c.end_of-2.ensures

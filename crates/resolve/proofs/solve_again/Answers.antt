@@ -7,10 +7,7 @@ use Rattle.outcome.specs.Buffers.{SideBuffers, side_buffers}
 use Rattle.resolve.specs.AgainLaws.{solvable, solution-due, again-15, again-13, again-x}
 use borrow.Author.Rules.{rules}
 use Rattle.resolve.proofs.solve_again.Goals as goal
-use Rattle.resolve.proofs.solve_again.Goals.{After-ask_factors-good, After-substitute-solved, Else-stops, Start}
-
-abbrev Begin : After-ask_factors-good → Start
-Begin s = s
+use Rattle.resolve.proofs.solve_again.Goals.{Start}
 
 abbrev given : Start → Input
 given s = let a = s.args in input_of a.n [] [] [] a.r.now a.c.now a.b.now
@@ -21,44 +18,31 @@ lower s = let a = s.args in side_buffers a.lower-starts.now a.lower-runs.now a.l
 abbrev upper : Start → SideBuffers
 upper s = let a = s.args in side_buffers a.upper-starts.now a.upper-runs.now a.upper-index.now a.upper-values.now
 
--- 15 is passed
-abbrev Judged : After-substitute-solved → Else-stops
-Judged s = s
-
 pub returns-then-stops : goal.returns-then-stops
 returns-then-stops c =
-    let s = Begin (goal.at.returns-then-stops c).After-ask_factors-good in
-    let a = s.args in
-    again-15 a.form a.n a.r.now a.c.now a.b.now (lower s) (upper s) a.d.now a.x.now c.ask_factors-good.result c.ask_factors-good.ensures _ c.stops.ensures c.if-stops.true
+    let a = c.args in
+    again-15 a.form a.n a.r.now a.c.now a.b.now (lower (goal.at.returns-then-stops c).Start) (upper (goal.at.returns-then-stops c).Start) a.d.now a.x.now c.ask_factors-good.result c.ask_factors-good.ensures _ c.stops.ensures c.if-stops.true
 
 pub substitute-solved-requires : goal.substitute-solved-requires
 substitute-solved-requires c =
-    let s = Begin (goal.at.substitute-solved-requires c).After-ask_factors-good in
-    let a = s.args in
-    solvable a.form (given s) a.lower-starts.now a.lower-runs.now a.lower-index.now a.lower-values.now a.upper-starts.now a.upper-runs.now a.upper-index.now
-    a.upper-values.now a.d.now (length a.x.now) (length a.work.now) s.pre c.ask_factors-good.result c.ask_factors-good.ensures (sym c.stops.ensures ∙ c.if-stops.false)
+    let a = c.args in
+    solvable a.form (given (goal.at.substitute-solved-requires c).Start) a.lower-starts.now a.lower-runs.now a.lower-index.now a.lower-values.now a.upper-starts.now a.upper-runs.now a.upper-index.now
+    a.upper-values.now a.d.now (length a.x.now) (length a.work.now) c.pre c.ask_factors-good.result c.ask_factors-good.ensures (sym c.stops.ensures ∙ c.if-stops.false)
 
 pub returns-then-stops-2 : goal.returns-then-stops-2
 returns-then-stops-2 c =
-    let e = Judged (goal.at.returns-then-stops-2 c).After-substitute-solved in
-    let j = e in
-    let s = Begin j in
-    let a = s.args in
-    again-13 a.form a.n a.r.now a.c.now a.b.now (lower s) (upper s) a.d.now a.x.now j.ask-factors.result j.ask-factors.ensures _ e.stops.ensures e.if1.left
+    let a = c.args in
+    again-13 a.form a.n a.r.now a.c.now a.b.now (lower (goal.at.returns-then-stops-2 c).Start) (upper (goal.at.returns-then-stops-2 c).Start) a.d.now a.x.now c.ask_factors-good.result c.ask_factors-good.ensures _ c.stops.ensures c.if-stops.left
     c.substitute-solved.result (drop (z_from a.n) c.substitute-solved.new.work) c.substitute-solved.ensures _ c.stops-2.ensures c.if-stops-2.true
 
 pub write_x-requires : goal.write_x-requires
 write_x-requires c =
-    let s = Begin (Judged (goal.at.write_x-requires c).After-substitute-solved).before.before in
-    let a = s.args in
-    solution-due a.form (given s) a.lower-starts.now a.lower-runs.now a.lower-index.now a.lower-values.now a.upper-starts.now a.upper-runs.now a.upper-index.now
-    a.upper-values.now a.d.now (length a.x.now) (length a.work.now) s.pre _ c.substitute-solved.auto.work
+    let a = c.args in
+    solution-due a.form (given (goal.at.write_x-requires c).Start) a.lower-starts.now a.lower-runs.now a.lower-index.now a.lower-values.now a.upper-starts.now a.upper-runs.now a.upper-index.now
+    a.upper-values.now a.d.now (length a.x.now) (length a.work.now) c.pre _ c.substitute-solved.auto.work
 
 pub returns : goal.returns
 returns c =
-    let e = Judged (goal.at.returns c).After-substitute-solved in
-    let j = e in
-    let s = Begin j in
-    let a = s.args in
-    again-x a.form a.n a.r.now a.c.now a.b.now (lower s) (upper s) a.d.now a.x.now j.ask-factors.result j.ask-factors.ensures _ e.stops.ensures e.if1.left
+    let a = c.args in
+    again-x a.form a.n a.r.now a.c.now a.b.now (lower (goal.at.returns c).Start) (upper (goal.at.returns c).Start) a.d.now a.x.now c.ask_factors-good.result c.ask_factors-good.ensures _ c.stops.ensures c.if-stops.left
     c.substitute-solved.result (drop (z_from a.n) c.substitute-solved.new.work) c.substitute-solved.ensures _ c.stops-2.ensures c.if-stops-2.false _ c.write_x.ensures

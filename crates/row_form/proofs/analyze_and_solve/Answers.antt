@@ -6,74 +6,59 @@ use Rattle.stages.specs.Branches.{done-with}
 use Rattle.stages.specs.Ends.{leaves-refused, row-due, row-leaves}
 use borrow.Author.Rules.{rules}
 use Rattle.row_form.proofs.analyze_and_solve.Goals as goal
-use Rattle.row_form.proofs.analyze_and_solve.Goals.{After-analyze_by_row-a, After-answer_of, After-counts-counts, After-factor_and_solve-fault, After-refuses, Start}
-
--- the pass, the branch on its answer, and the arithmetic
-abbrev Begin : After-analyze_by_row-a → Start
-Begin s = s
-
-abbrev Found : After-refuses → After-analyze_by_row-a
-Found s = s
-
-abbrev Counted : After-factor_and_solve-fault → After-counts-counts
-Counted s = s
-
-abbrev Solved : After-answer_of → After-factor_and_solve-fault
-Solved s = s
+use Rattle.row_form.proofs.analyze_and_solve.Goals.{After-analyze_by_row-a, After-counts-counts}
 
 abbrev Earlier : After-counts-counts → After-analyze_by_row-a
-Earlier s = Found (goal.at.Earlier s).After-refuses
+Earlier s = s
 
 pub analyze_by_row-a-requires : goal.analyze_by_row-a-requires
 analyze_by_row-a-requires c = let h = c.requires in row-lent _ _ _ _ _ _ _ _ _ _ h.shaped.structure (pattern-structured _ (settled _ h.passed).structured)
 
 pub returns-then-refuses : goal.returns-then-refuses
-returns-then-refuses c = leaves-refused ByRow _ _ _ _ _ _ _ _ _ (Found (goal.at.returns-then-refuses c).After-refuses).analyze-by-row.ensures (sym c.refuses.ensures ∙ c.if-refuses.true) refl
+returns-then-refuses c = leaves-refused ByRow _ _ _ _ _ _ _ _ _ c.analyze_by_row-a.ensures (sym c.refuses.ensures ∙ c.if-refuses.true) refl
 
 pub factor_and_solve-fault-requires : goal.factor_and_solve-fault-requires
 factor_and_solve-fault-requires c =
     let p = Earlier (goal.at.factor_and_solve-fault-requires c).After-counts-counts in
-    row-due _ _ _ _ _ _ _ _ _ _ _ _ _ _ _ _ p.analyze-by-row.ensures (done-with _ _ _ c.refuses.ensures c.if-refuses.false c.counts-counts.ensures) (Begin p).pre p.analyze-by-row.kept.1.1.1.1.1.1.1.1.1.0 refl refl refl refl
+    row-due _ _ _ _ _ _ _ _ _ _ _ _ _ _ _ _ p.analyze-by-row.ensures (done-with _ _ _ c.refuses.ensures c.if-refuses.false c.counts-counts.ensures) p.pre p.analyze-by-row.kept.1.1.1.1.1.1.1.1.1.0 refl refl refl refl
 
 pub returns : goal.returns
 returns c =
-    let k = Counted (Solved c) in
-    let b = k in
-    let q = (Solved c).factor-and-solve in
-    row-leaves _ _ _ _ _ _ _ _ _ _ _ _ _ _ q.last.1.1.1.1.1.1.1.1.1.1.1.0 _ _ _ _ _ _ _ _ (Earlier k).analyze-by-row.ensures (done-with _ _ _ b.refuses.ensures b.if1.left k.counts.ensures) q.ensures c.answer_of.ensures q.kept.1.1.1.1.1.1.1.1.1.1.1.0
+    let q = c.factor_and_solve-fault in
+    row-leaves _ _ _ _ _ _ _ _ _ _ _ _ _ _ q.last.1.1.1.1.1.1.1.1.1.1.1.0 _ _ _ _ _ _ _ _ (Earlier (goal.at.returns c).After-counts-counts).analyze-by-row.ensures (done-with _ _ _ c.refuses.ensures c.if-refuses.left c.counts-counts.ensures) q.ensures c.answer_of.ensures q.kept.1.1.1.1.1.1.1.1.1.1.1.0
 
 pub shape_of-upper_starts-then-refuses : goal.shape_of-upper_starts-then-refuses
-shape_of-upper_starts-then-refuses c = (Found (goal.at.shape_of-upper_starts-then-refuses c).After-refuses).analyze-by-row.auto.1.1.1.1.1.0
+shape_of-upper_starts-then-refuses c = c.analyze_by_row-a.auto.upper_starts
 
 pub shape_of-upper_runs-then-refuses : goal.shape_of-upper_runs-then-refuses
-shape_of-upper_runs-then-refuses c = (Found (goal.at.shape_of-upper_runs-then-refuses c).After-refuses).analyze-by-row.auto.1.1.1.1.1.1.0
+shape_of-upper_runs-then-refuses c = c.analyze_by_row-a.auto.upper_runs
 
 pub shape_of-upper_index-then-refuses : goal.shape_of-upper_index-then-refuses
-shape_of-upper_index-then-refuses c = (Found (goal.at.shape_of-upper_index-then-refuses c).After-refuses).analyze-by-row.auto.1.1.1.1.1.1.1.0
+shape_of-upper_index-then-refuses c = c.analyze_by_row-a.auto.upper_index
 
 pub shape_of-marks-then-refuses : goal.shape_of-marks-then-refuses
-shape_of-marks-then-refuses c = (Found (goal.at.shape_of-marks-then-refuses c).After-refuses).analyze-by-row.auto.1.1.1.1.1.1.1.1.1.0
+shape_of-marks-then-refuses c = c.analyze_by_row-a.auto.marks
 
 pub shape_of-upper_starts : goal.shape_of-upper_starts
-shape_of-upper_starts c = (Earlier (Counted (Solved c))).analyze-by-row.auto.1.1.1.1.1.0
+shape_of-upper_starts c = (Earlier (c)).analyze-by-row.auto.1.1.1.1.1.0
 
 pub shape_of-upper_runs : goal.shape_of-upper_runs
-shape_of-upper_runs c = (Earlier (Counted (Solved c))).analyze-by-row.auto.1.1.1.1.1.1.0
+shape_of-upper_runs c = (Earlier (c)).analyze-by-row.auto.1.1.1.1.1.1.0
 
 pub shape_of-upper_index : goal.shape_of-upper_index
-shape_of-upper_index c = (Earlier (Counted (Solved c))).analyze-by-row.auto.1.1.1.1.1.1.1.0
+shape_of-upper_index c = (Earlier (c)).analyze-by-row.auto.1.1.1.1.1.1.1.0
 
 pub shape_of-upper_values : goal.shape_of-upper_values
-shape_of-upper_values c = (Solved c).factor-and-solve.auto.1.1.1.1.1.1.1.1.1.1.1.1.1.1.1.0
+shape_of-upper_values c = c.factor_and_solve-fault.auto.upper_values
 
 pub shape_of-d : goal.shape_of-d
-shape_of-d c = (Solved c).factor-and-solve.auto.1.1.1.1.1.1.1.1.1.1.1.1.1.1.1.1.0
+shape_of-d c = c.factor_and_solve-fault.auto.d
 
 pub shape_of-x : goal.shape_of-x
-shape_of-x c = (Solved c).factor-and-solve.auto.1.1.1.1.1.1.1.1.1.1.1.1.1.1.1.1.1.0
+shape_of-x c = c.factor_and_solve-fault.auto.x
 
 pub shape_of-work : goal.shape_of-work
-shape_of-work c = (Solved c).factor-and-solve.auto.1.1.1.1.1.1.1.1.1.1.1.1.1.1.1.1.1.1.0
+shape_of-work c = c.factor_and_solve-fault.auto.work
 
 pub shape_of-marks : goal.shape_of-marks
-shape_of-marks c = (Solved c).factor-and-solve.auto.1.1.1.1.1.1.1.1.1.1.1.1.1.1.1.1.1.1.1.0 ∙ (Earlier (Counted (Solved c))).analyze-by-row.auto.1.1.1.1.1.1.1.1.1.0
+shape_of-marks c = c.factor_and_solve-fault.auto.marks ∙ (Earlier (c)).analyze-by-row.auto.1.1.1.1.1.1.1.1.1.0

@@ -8,105 +8,69 @@ use Rattle.stages.specs.Asking.{structure-stops}
 use Rattle.stages.specs.Ends.{structure-ends}
 use borrow.Author.Rules.{rules}
 use Rattle.shared_form.proofs.structure_shared.Goals as goal
-use Rattle.shared_form.proofs.structure_shared.Goals.{After-analyze_shared-a, After-ask_structure-asked, After-clear_f64, After-clear_f64-2, After-clear_lists_if, After-clear_lists_if-2, After-clear_runs_if, After-clear_scratch, After-refuses-refused, After-slice_known-29-1, After-stops, Else-stops, Start}
-
--- the questions, the pass, and what is cleared then
-abbrev Asked : After-stops → After-ask_structure-asked
-Asked s = s
-
-abbrev Goes : After-analyze_shared-a → Else-stops
-Goes s = s
-
-abbrev Found : After-slice_known-29-1 → After-analyze_shared-a
-Found s = s
-
-abbrev Begin : After-analyze_shared-a → Start
-Begin s = s
-
-abbrev Refuses : After-slice_known-29-1 → After-refuses-refused
-Refuses s = s
-
-abbrev Lower : After-slice_known-29-1 → After-clear_lists_if
-Lower s = s
-
-abbrev Upper : After-slice_known-29-1 → After-clear_lists_if-2
-Upper s = s
-
-abbrev LowerValues : After-slice_known-29-1 → After-clear_f64
-LowerValues s = s
-
-abbrev UpperValues : After-slice_known-29-1 → After-clear_f64-2
-UpperValues s = s
-
-abbrev Scratch : After-slice_known-29-1 → After-clear_scratch
-Scratch s = s
-
-abbrev Runs : After-slice_known-29-1 → After-clear_runs_if
-Runs s = s
+use Rattle.shared_form.proofs.structure_shared.Goals.{After-analyze_shared-a}
 
 -- the sides as the pass leaves them
 abbrev lower : After-analyze_shared-a → SideBuffers
-lower s = side_buffers s.analyze_shared-a.new.lower_starts s.analyze_shared-a.new.lower_runs s.analyze_shared-a.new.lower_index (Begin s).args.lower-values.now
+lower s = side_buffers s.analyze_shared-a.new.lower_starts s.analyze_shared-a.new.lower_runs s.analyze_shared-a.new.lower_index s.args.lower-values.now
 
 abbrev upper : After-analyze_shared-a → SideBuffers
-upper s = side_buffers s.analyze_shared-a.new.upper_starts s.analyze_shared-a.new.upper_runs s.analyze_shared-a.new.upper_index (Begin s).args.upper-values.now
+upper s = side_buffers s.analyze_shared-a.new.upper_starts s.analyze_shared-a.new.upper_runs s.analyze_shared-a.new.upper_index s.args.upper-values.now
 
 pub returns-then-stops : goal.returns-then-stops
 returns-then-stops c =
-    structure-stops Shared _ _ _ _ _ _ _ _ _ _ _ (Asked (goal.at.returns-then-stops c).After-stops).ask-structure.ensures (sym c.stops.ensures ∙ c.if-stops.true) c.refusal.ensures
+    structure-stops Shared _ _ _ _ _ _ _ _ _ _ _ c.ask_structure-asked.ensures (sym c.stops.ensures ∙ c.if-stops.true) c.refusal.ensures
 
 pub analyze_shared-a-requires : goal.analyze_shared-a-requires
 analyze_shared-a-requires c =
-    let p = (Asked (goal.at.analyze_shared-a-requires c).After-stops).ask-structure in
+    let p = c.ask_structure-asked in
     let q = p.ensures.due (pass_of _ (sym c.stops.ensures ∙ c.if-stops.false)) in
     shared-lent _ _ _ _ _ _ _ _ _ _ _ _ _ (shaped-again Shared _ _ _ _ _ _ _ _ p.kept.1.1.1.1.1.1.1.1.0 q.shaped) (structured _ q.passed)
 
 pub returns : goal.returns
 returns c =
-    let f = Found c in
-    let p = f.analyze-shared in
-    let b = Goes f in
-    let a = (Asked b).ask-structure in
-    structure-ends Shared _ _ _ (lower f) (upper f) _ _ _ _ _ _ _ _ _ _ _ _ _ _ a.ensures (pass_of _ (sym b.stops.ensures ∙ b.if1.left)) p.ensures (Refuses c).refuses.ensures (λ h. h) (λ h. h)
+    let p = c.analyze_shared-a in
+    let a = c.ask_structure-asked in
+    structure-ends Shared _ _ _ (lower (goal.at.returns c).After-analyze_shared-a) (upper (goal.at.returns c).After-analyze_shared-a) _ _ _ _ _ _ _ _ _ _ _ _ _ _ a.ensures (pass_of _ (sym c.stops.ensures ∙ c.if-stops.left)) p.ensures c.refuses-refused.ensures (λ h. h) (λ h. h)
     (record { starts = p.kept.1.1.1.1.1.0; runs = p.kept.1.1.1.1.1.1.0; index = p.kept.1.1.1.1.1.1.1.0; values = refl })
     (record { starts = p.kept.1.1.1.1.1.1.1.1.1.0; runs = p.kept.1.1.1.1.1.1.1.1.1.1.0; index = p.kept.1.1.1.1.1.1.1.1.1.1.1.0; values = refl })
     a.kept.1.1.1.1.1.1.1.0 (p.kept.1.1.1.1.1.1.1.1.1.1.1.1.1.0 ∙ a.kept.1.1.1.1.1.1.1.1.0)
-    (record { starts = (Lower c).clear-lists-if.ensures.0; runs = (Runs c).clear-runs-if.ensures.0; index = (Lower c).clear-lists-if.ensures.1; values = (LowerValues c).clear-f64.ensures })
-    (record { starts = (Upper c).clear-lists-if2.ensures.0; runs = (Runs c).clear-runs-if.ensures.1; index = (Upper c).clear-lists-if2.ensures.1; values = (UpperValues c).clear-f642.ensures })
-    (Scratch c).clear-scratch.ensures
+    (record { starts = c.clear_lists_if.ensures.0; runs = c.clear_runs_if.ensures.0; index = c.clear_lists_if.ensures.1; values = c.clear_f64.ensures })
+    (record { starts = c.clear_lists_if-2.ensures.0; runs = c.clear_runs_if.ensures.1; index = c.clear_lists_if-2.ensures.1; values = c.clear_f64-2.ensures })
+    c.clear_scratch.ensures
 
 pub shape_of-work-then-stops : goal.shape_of-work-then-stops
-shape_of-work-then-stops c = (Asked (goal.at.shape_of-work-then-stops c).After-stops).ask-structure.auto.1.1.1.1.1.1.1.0
+shape_of-work-then-stops c = c.ask_structure-asked.auto.work
 
 pub shape_of-marks-then-stops : goal.shape_of-marks-then-stops
-shape_of-marks-then-stops c = (Asked (goal.at.shape_of-marks-then-stops c).After-stops).ask-structure.auto.1.1.1.1.1.1.1.1.0
+shape_of-marks-then-stops c = c.ask_structure-asked.auto.marks
 
 pub shape_of-lower_starts : goal.shape_of-lower_starts
-shape_of-lower_starts c = (Lower c).clear-lists-if.auto.1.0 ∙ (Found c).analyze-shared.auto.1.1.1.1.1.0
+shape_of-lower_starts c = c.clear_lists_if.auto.starts ∙ c.analyze_shared-a.auto.lower_starts
 
 pub shape_of-lower_runs : goal.shape_of-lower_runs
-shape_of-lower_runs c = (Runs c).clear-runs-if.auto.1.0 ∙ (Found c).analyze-shared.auto.1.1.1.1.1.1.0
+shape_of-lower_runs c = c.clear_runs_if.auto.lower ∙ c.analyze_shared-a.auto.lower_runs
 
 pub shape_of-lower_index : goal.shape_of-lower_index
-shape_of-lower_index c = (Lower c).clear-lists-if.auto.1.1.0 ∙ (Found c).analyze-shared.auto.1.1.1.1.1.1.1.0
+shape_of-lower_index c = c.clear_lists_if.auto.index ∙ c.analyze_shared-a.auto.lower_index
 
 pub shape_of-lower_values : goal.shape_of-lower_values
-shape_of-lower_values c = (LowerValues c).clear-f64.auto.0
+shape_of-lower_values c = c.clear_f64.auto.s
 
 pub shape_of-upper_starts : goal.shape_of-upper_starts
-shape_of-upper_starts c = (Upper c).clear-lists-if2.auto.1.0 ∙ (Found c).analyze-shared.auto.1.1.1.1.1.1.1.1.1.0
+shape_of-upper_starts c = c.clear_lists_if-2.auto.starts ∙ c.analyze_shared-a.auto.upper_starts
 
 pub shape_of-upper_runs : goal.shape_of-upper_runs
-shape_of-upper_runs c = (Runs c).clear-runs-if.auto.1.1.0 ∙ (Found c).analyze-shared.auto.1.1.1.1.1.1.1.1.1.1.0
+shape_of-upper_runs c = c.clear_runs_if.auto.upper ∙ c.analyze_shared-a.auto.upper_runs
 
 pub shape_of-upper_index : goal.shape_of-upper_index
-shape_of-upper_index c = (Upper c).clear-lists-if2.auto.1.1.0 ∙ (Found c).analyze-shared.auto.1.1.1.1.1.1.1.1.1.1.1.0
+shape_of-upper_index c = c.clear_lists_if-2.auto.index ∙ c.analyze_shared-a.auto.upper_index
 
 pub shape_of-upper_values : goal.shape_of-upper_values
-shape_of-upper_values c = (UpperValues c).clear-f642.auto.0
+shape_of-upper_values c = c.clear_f64-2.auto.s
 
 pub shape_of-work : goal.shape_of-work
-shape_of-work c = (Scratch c).clear-scratch.auto.0 ∙ (Asked (Goes (Found c)).before).ask-structure.auto.1.1.1.1.1.1.1.0
+shape_of-work c = c.clear_scratch.auto.work ∙ (c).ask-structure.auto.1.1.1.1.1.1.1.0
 
 pub shape_of-marks : goal.shape_of-marks
-shape_of-marks c = (Scratch c).clear-scratch.auto.1.0 ∙ (Found c).analyze-shared.auto.1.1.1.1.1.1.1.1.1.1.1.1.1.0 ∙ (Asked (Goes (Found c)).before).ask-structure.auto.1.1.1.1.1.1.1.1.0
+shape_of-marks c = c.clear_scratch.auto.marks ∙ c.analyze_shared-a.auto.marks ∙ (c).ask-structure.auto.1.1.1.1.1.1.1.1.0

@@ -9,7 +9,7 @@ use Rattle.sheet.proofs.put_lines.Goals as goal
 pub loop-j-preserved : goal.loop-j-preserved
 loop-j-preserved c =
     let p = c.put_place-a in
-    (lines_more _ _ _ _ _ _ _ _ _ _ c.loop-j.invariant.0 p.ensures, p.auto.0 ∙ c.loop-j.invariant.1, search rules)
+    (lines_more _ _ _ _ _ _ _ _ _ _ c.loop-j.invariant.0 p.ensures, p.auto.out ∙ c.loop-j.invariant.1, search rules)
 
 pub returns : goal.returns
 returns c = lines_end _ _ _ _ _ _ _ _ c.loop-j-test.false c.loop-j.invariant.2 c.loop-j.invariant.0

@@ -14,7 +14,7 @@ put_page-at-requires c =
 pub loop-p-preserved : goal.loop-p-preserved
 loop-p-preserved c =
     let p = c.put_page-at in
-    pages-more _ _ _ _ _ _ _ _ (omega (arith, c.loop-p-test.true, c.pages-count.ensures)) p.auto.0 c.loop-p.invariant p.ensures
+    pages-more _ _ _ _ _ _ _ _ (omega (arith, c.loop-p-test.true, c.pages-count.ensures)) p.auto.out c.loop-p.invariant p.ensures
 
 pub returns : goal.returns
 returns c = pages-end _ _ _ _ _ _ (omega (arith, c.loop-p-test.false, c.pages-count.ensures)) c.loop-p.invariant

@@ -8,7 +8,7 @@ use Rattle.outcome.proofs.Making.{made-few, made-stop, made-on}
 use Rattle.stages.specs.LengthLaws.{solve-tests}
 use borrow.Author.Rules.{rules}
 use Rattle.stages.proofs.shape_solve.Goals as goal
-use Rattle.stages.proofs.shape_solve.Goals.{After-new-made, After-scratch_fits-slots, Start}
+use Rattle.stages.proofs.shape_solve.Goals.{Start}
 
 abbrev given : Start → Input
 given s = let a = s.args in input_of a.n a.starts.now a.columns.now a.values.now a.r.now a.c.now a.b.now
@@ -16,33 +16,22 @@ given s = let a = s.args in input_of a.n a.starts.now a.columns.now a.values.now
 abbrev asked : Start → List Bool
 asked s = matrix_tests (given s) ++ buffer_tests s.args.form s.args.n s.args.sizes
 
-abbrev Begin : After-new-made → Start
-Begin s = s
-
-abbrev Made : After-scratch_fits-slots → After-new-made
-Made s = s
-
 pub returns-in-Unshaped : goal.returns-in-Unshaped
 unfolding shape
 returns-in-Unshaped c =
-    let s = Begin (goal.at.returns-in-Unshaped c).After-new-made in
-    made-stop _ _ _ (asked s) c.new-made.ensures _ c.in-Unshaped.is _ (solve-tests s.args.form (given s) s.args.sizes _ _ _ refl refl refl _ _ refl refl)
+    made-stop _ _ _ (asked (goal.at.returns-in-Unshaped c).Start) c.new-made.ensures _ c.in-Unshaped.is _ (solve-tests c.args.form (given (goal.at.returns-in-Unshaped c).Start) c.args.sizes _ _ _ refl refl refl _ _ refl refl)
 
 pub returns-then-pattern-numbers : goal.returns-then-pattern-numbers
 unfolding shape
 returns-then-pattern-numbers c =
-    let m = Made (goal.at.returns-then-pattern-numbers c).After-scratch_fits-slots in
-    let s = Begin m in
-    made-on _ _ _ (asked s) m.new.ensures _ c.in_default.is _ true
-    (solve-tests s.args.form (given s) s.args.sizes _ _ _ c.pattern_fits-pattern.ensures c.sides_fit-lists.ensures c.scratch_fits-slots.ensures _ _ c.numbers_fit-numbers.ensures c.vectors_fit-vectors.ensures) c.if-pattern-numbers.true
+    made-on _ _ _ (asked (goal.at.returns-then-pattern-numbers c).Start) c.new-made.ensures _ c.in_default.is _ true
+    (solve-tests c.args.form (given (goal.at.returns-then-pattern-numbers c).Start) c.args.sizes _ _ _ c.pattern_fits-pattern.ensures c.sides_fit-lists.ensures c.scratch_fits-slots.ensures _ _ c.numbers_fit-numbers.ensures c.vectors_fit-vectors.ensures) c.if-pattern-numbers.true
 
 pub returns : goal.returns
 unfolding shape
 returns c =
-    let m = Made (goal.at.returns c).After-scratch_fits-slots in
-    let s = Begin m in
-    made-on _ _ _ (asked s) m.new.ensures _ c.in_default.is _ false
-    (solve-tests s.args.form (given s) s.args.sizes _ _ _ c.pattern_fits-pattern.ensures c.sides_fit-lists.ensures c.scratch_fits-slots.ensures _ _ c.numbers_fit-numbers.ensures c.vectors_fit-vectors.ensures) c.if-pattern-numbers.false
+    made-on _ _ _ (asked (goal.at.returns c).Start) c.new-made.ensures _ c.in_default.is _ false
+    (solve-tests c.args.form (given (goal.at.returns c).Start) c.args.sizes _ _ _ c.pattern_fits-pattern.ensures c.sides_fit-lists.ensures c.scratch_fits-slots.ensures _ _ c.numbers_fit-numbers.ensures c.vectors_fit-vectors.ensures) c.if-pattern-numbers.false
 
 pub pattern_fits-pattern-requires : goal.pattern_fits-pattern-requires
 pattern_fits-pattern-requires c = made-few _ _ _ _ c.new-made.ensures c.in_default.is

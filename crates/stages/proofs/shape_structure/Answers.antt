@@ -7,7 +7,7 @@ use Rattle.outcome.proofs.Making.{made-few, made-stop, made-on}
 use Rattle.stages.specs.LengthLaws.{structure-tests}
 use borrow.Author.Rules.{rules}
 use Rattle.stages.proofs.shape_structure.Goals as goal
-use Rattle.stages.proofs.shape_structure.Goals.{After-new-made, After-scratch_fits-slots, Start}
+use Rattle.stages.proofs.shape_structure.Goals.{Start}
 
 abbrev given : Start → Input
 given s = let a = s.args in input_of a.n a.starts.now a.columns.now [] a.r.now a.c.now []
@@ -15,30 +15,19 @@ given s = let a = s.args in input_of a.n a.starts.now a.columns.now [] a.r.now a
 abbrev asked : Start → List Bool
 asked s = pattern_tests (given s) ++ structure_tests s.args.form s.args.n s.args.sizes
 
-abbrev Begin : After-new-made → Start
-Begin s = s
-
-abbrev Made : After-scratch_fits-slots → After-new-made
-Made s = s
-
 pub returns-in-Unshaped : goal.returns-in-Unshaped
 returns-in-Unshaped c =
-    let s = Begin (goal.at.returns-in-Unshaped c).After-new-made in
-    made-stop _ _ _ (asked s) c.new-made.ensures _ c.in-Unshaped.is _ (structure-tests s.args.form (given s) s.args.sizes _ _ _ refl refl refl)
+    made-stop _ _ _ (asked (goal.at.returns-in-Unshaped c).Start) c.new-made.ensures _ c.in-Unshaped.is _ (structure-tests c.args.form (given (goal.at.returns-in-Unshaped c).Start) c.args.sizes _ _ _ refl refl refl)
 
 pub returns-then-pattern-lists : goal.returns-then-pattern-lists
 returns-then-pattern-lists c =
-    let m = Made (goal.at.returns-then-pattern-lists c).After-scratch_fits-slots in
-    let s = Begin m in
-    made-on _ _ _ (asked s) m.new.ensures _ c.in_default.is _ true
-    (structure-tests s.args.form (given s) s.args.sizes _ _ _ c.pattern_fits-pattern.ensures c.sides_fit-lists.ensures c.scratch_fits-slots.ensures) c.if-pattern-lists.true
+    made-on _ _ _ (asked (goal.at.returns-then-pattern-lists c).Start) c.new-made.ensures _ c.in_default.is _ true
+    (structure-tests c.args.form (given (goal.at.returns-then-pattern-lists c).Start) c.args.sizes _ _ _ c.pattern_fits-pattern.ensures c.sides_fit-lists.ensures c.scratch_fits-slots.ensures) c.if-pattern-lists.true
 
 pub returns : goal.returns
 returns c =
-    let m = Made (goal.at.returns c).After-scratch_fits-slots in
-    let s = Begin m in
-    made-on _ _ _ (asked s) m.new.ensures _ c.in_default.is _ false
-    (structure-tests s.args.form (given s) s.args.sizes _ _ _ c.pattern_fits-pattern.ensures c.sides_fit-lists.ensures c.scratch_fits-slots.ensures) c.if-pattern-lists.false
+    made-on _ _ _ (asked (goal.at.returns c).Start) c.new-made.ensures _ c.in_default.is _ false
+    (structure-tests c.args.form (given (goal.at.returns c).Start) c.args.sizes _ _ _ c.pattern_fits-pattern.ensures c.sides_fit-lists.ensures c.scratch_fits-slots.ensures) c.if-pattern-lists.false
 
 pub pattern_fits-pattern-requires : goal.pattern_fits-pattern-requires
 pattern_fits-pattern-requires c = made-few _ _ _ _ c.new-made.ensures c.in_default.is

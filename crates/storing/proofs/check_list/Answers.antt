@@ -4,15 +4,12 @@ use borrow.Author.Rules.{rules}
 use Rattle.storing.specs.LookLaws.{Looked, looked, not-looked}
 use Rattle.storing.specs.CheckLaws.{check-ends, match-no, match-fits}
 use Rattle.storing.proofs.check_list.Goals as goal
-use Rattle.storing.proofs.check_list.Goals.{In-Fits-2, Start}
-
-abbrev at-start : In-Fits-2 → Start
-at-start c = c
+use Rattle.storing.proofs.check_list.Goals.{In-Fits-2}
 
 -- what the look that fits has found
-found_in : (c : In-Fits-2) → Looked (at-start c).args.way (at-start c).args.starts.now (at-start c).args.runs.now (at-start c).args.index.now (at-start c).args.values (at-start c).args.row.now (at-start c).args.list.now (at-start c).args.k.0 (at-start c).args.s c.in-Fits.plan c.in-Fits.next
+found_in : (c : In-Fits-2) → Looked c.args.way c.args.starts.now c.args.runs.now c.args.index.now c.args.values c.args.row.now c.args.list.now c.args.k.0 c.args.s c.in-Fits.plan c.in-Fits.next
 found_in c =
-    looked (at-start c).args.way (at-start c).args.starts.now (at-start c).args.runs.now (at-start c).args.index.now (at-start c).args.values (at-start c).args.row.now (at-start c).args.list.now (at-start c).args.k.0 (at-start c).args.s (at-start c).requires c.in-Fits.plan c.in-Fits.next (sym c.look_for-found.ensures ∙ c.in-Fits.is)
+    looked c.args.way c.args.starts.now c.args.runs.now c.args.index.now c.args.values c.args.row.now c.args.list.now c.args.k.0 c.args.s c.requires c.in-Fits.plan c.in-Fits.next (sym c.look_for-found.ensures ∙ c.in-Fits.is)
 
 pub stands-requires : goal.stands-requires
 stands-requires c =

@@ -5,15 +5,12 @@ use Rattle.storing.specs.LookLaws.{Looked, looked, not-looked}
 use Rattle.storing.specs.StepLaws.{place-done, place-full}
 use Rattle.storing.specs.LoopLaws.{set_same}
 use Rattle.storing.proofs.place_list.Goals as goal
-use Rattle.storing.proofs.place_list.Goals.{In-Fits-2, Start}
-
-abbrev at-start : In-Fits-2 → Start
-at-start c = c
+use Rattle.storing.proofs.place_list.Goals.{In-Fits-2}
 
 -- what the look that fits has found
-found_in : (c : In-Fits-2) → Looked (at-start c).args.way (at-start c).args.starts.now (at-start c).args.runs.now (at-start c).args.index.now (at-start c).args.values (at-start c).args.row.now (at-start c).args.list.now (at-start c).args.k.0 (at-start c).args.s c.in-Fits.plan c.in-Fits.next
+found_in : (c : In-Fits-2) → Looked c.args.way c.args.starts.now c.args.runs.now c.args.index.now c.args.values c.args.row.now c.args.list.now c.args.k.0 c.args.s c.in-Fits.plan c.in-Fits.next
 found_in c =
-    looked (at-start c).args.way (at-start c).args.starts.now (at-start c).args.runs.now (at-start c).args.index.now (at-start c).args.values (at-start c).args.row.now (at-start c).args.list.now (at-start c).args.k.0 (at-start c).args.s (at-start c).requires c.in-Fits.plan c.in-Fits.next (sym c.look_for-found.ensures ∙ c.in-Fits.is)
+    looked c.args.way c.args.starts.now c.args.runs.now c.args.index.now c.args.values c.args.row.now c.args.list.now c.args.k.0 c.args.s c.requires c.in-Fits.plan c.in-Fits.next (sym c.look_for-found.ensures ∙ c.in-Fits.is)
 
 pub write_list-requires : goal.write_list-requires
 write_list-requires c =
@@ -31,7 +28,7 @@ pub returns-in-Fits : goal.returns-in-Fits
 returns-in-Fits c =
     let a = c.args in
     let b = c.write_list in
-    place-done a.way a.starts.now a.runs.now a.index.now a.values a.row.now a.list.now a.k.0 a.s c.requires c.in-Fits.plan c.in-Fits.next (found_in (goal.at.returns-in-Fits c).In-Fits-2) b.new.0 _ b.new.1.0 b.ensures
+    place-done a.way a.starts.now a.runs.now a.index.now a.values a.row.now a.list.now a.k.0 a.s c.requires c.in-Fits.plan c.in-Fits.next (found_in (goal.at.returns-in-Fits c).In-Fits-2) b.new.starts _ b.new.index b.ensures
     (set_same a.runs.now c.slot-p.result a.k.0 c.number32.result c.in-Fits.plan.start c.slot-p.ensures.0 c.number32.ensures)
 
 pub returns-in-Short : goal.returns-in-Short

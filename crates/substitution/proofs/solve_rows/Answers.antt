@@ -15,9 +15,6 @@ use borrow.Author.Rules.{rules}
 use Rattle.substitution.proofs.solve_rows.Goals as goal
 use Rattle.substitution.proofs.solve_rows.Goals.{After-clear_f64, After-load_right, After-substitute_rows-a, Start}
 
-abbrev Begin : After-clear_f64 → Start
-Begin s = s
-
 abbrev lower : Start → SideBuffers
 lower s = let a = s.args in side_buffers a.lower-starts.now a.lower-runs.now a.lower-index.now a.lower-values.now
 
@@ -25,63 +22,55 @@ abbrev upper : Start → SideBuffers
 upper s = let a = s.args in side_buffers a.upper-starts.now a.upper-runs.now a.upper-index.now a.upper-values.now
 
 -- cleared scratch has as many slots
-whole : (c : After-clear_f64) → length c.clear_f64.new.s ≡ length (Begin c).args.work.now
+whole : (c : After-clear_f64) → length c.clear_f64.new.s ≡ length c.args.work.now
 whole c = c.clear_f64.auto.s
 
 pub slice_bounds-load_right-end-2 : goal.slice_bounds-load_right-end-2
 slice_bounds-load_right-end-2 c =
-    sym (length-take-le (Begin (goal.at.slice_bounds-load_right-end-2 c).After-clear_f64).args.n c.clear_f64.new.s (omega (arith, whole (goal.at.slice_bounds-load_right-end-2 c).After-clear_f64, (Begin (goal.at.slice_bounds-load_right-end-2 c).After-clear_f64).requires.ready.scratch)))
+    sym (length-take-le c.args.n c.clear_f64.new.s (omega (arith, whole (goal.at.slice_bounds-load_right-end-2 c).After-clear_f64, c.requires.ready.scratch)))
 
 pub load_right-requires : goal.load_right-requires
 load_right-requires c =
-    ((Begin (goal.at.load_right-requires c).After-clear_f64).requires.right, length-take-le (Begin (goal.at.load_right-requires c).After-clear_f64).args.n c.clear_f64.new.s (omega (arith, whole (goal.at.load_right-requires c).After-clear_f64, (Begin (goal.at.load_right-requires c).After-clear_f64).requires.ready.scratch)))
+    (c.requires.right, length-take-le c.args.n c.clear_f64.new.s (omega (arith, whole (goal.at.load_right-requires c).After-clear_f64, c.requires.ready.scratch)))
 
 -- scratch with the sums has as many slots, too
-loaded : (c : After-load_right) → length (c.load_right.new.sums ++ drop (Begin (goal.at.loaded c).After-clear_f64).args.n c.clear_f64.new.s) ≡ length (Begin (goal.at.loaded c).After-clear_f64).args.work.now
-loaded c = length_front c.clear_f64.new.s c.load_right.new.sums (Begin (goal.at.loaded c).After-clear_f64).args.n c.load_right.auto.sums ∙ whole (goal.at.loaded c).After-clear_f64
+loaded : (c : After-load_right) → length (c.load_right.new.sums ++ drop c.args.n c.clear_f64.new.s) ≡ length c.args.work.now
+loaded c = length_front c.clear_f64.new.s c.load_right.new.sums c.args.n c.load_right.auto.sums ∙ whole (goal.at.loaded c).After-clear_f64
 
 pub substitute_rows-a-requires : goal.substitute_rows-a-requires
 substitute_rows-a-requires c =
-    let h = (Begin (goal.at.substitute_rows-a-requires c).After-clear_f64).requires.ready in
+    let h = c.requires.ready in
     record { few = h.few; sound = h.sound; reciprocals = h.reciprocals; scratch = loaded (goal.at.substitute_rows-a-requires c).After-load_right ∙ h.scratch }
 
 -- what the sweep leaves, for the factors that are given
 abbrev Given : Start → Factors
 Given s = let a = s.args in factors_of a.form (input_of a.n [] [] [] a.r.now [] a.b.now) (presented (lower s) (upper s) a.d.now)
 
-abbrev From : After-substitute_rows-a → After-clear_f64
-From r = r
-
 swept : (r : After-substitute_rows-a)
-    → Swept (Begin (From r)).args.form (Begin (From r)).args.n (Given (Begin (From r))) (lower (Begin (From r))) r.substitute_rows-a.result r.substitute_rows-a.new.work
+    → Swept r.args.form r.args.n (Given (goal.at.swept r).Start) (lower (goal.at.swept r).Start) r.substitute_rows-a.result r.substitute_rows-a.new.work
 swept r =
-    let z = From r in
-    let s = Begin z in
-    let a = s.args in
-    r.substitute_rows-a.ensures (Given s) (tied a.form a.n a.r.now a.b.now (lower s) (upper s) a.d.now (length a.work.now) s.pre)
-    (begun a.form a.n a.r.now a.b.now (lower s) (upper s) a.d.now (length a.work.now) s.pre a.work.now _ _ refl z.clear-f64.ensures r.load_right.ensures)
+    let a = r.args in
+    r.substitute_rows-a.ensures (Given (goal.at.swept r).Start) (tied a.form a.n a.r.now a.b.now (lower (goal.at.swept r).Start) (upper (goal.at.swept r).Start) a.d.now (length a.work.now) r.pre)
+    (begun a.form a.n a.r.now a.b.now (lower (goal.at.swept r).Start) (upper (goal.at.swept r).Start) a.d.now (length a.work.now) r.pre a.work.now _ _ refl r.clear_f64.ensures r.load_right.ensures)
 
 pub returns-in-Stopped : goal.returns-in-Stopped
 returns-in-Stopped c =
-    let s = Begin (From (goal.at.returns-in-Stopped c).After-substitute_rows-a) in
-    let a = s.args in
-    ends-early a.form a.n a.r.now a.b.now (lower s) (upper s) a.d.now (length a.work.now) s.pre _ _ (swept (goal.at.returns-in-Stopped c).After-substitute_rows-a) _ [] c.in-Stopped.is
+    let a = c.args in
+    ends-early a.form a.n a.r.now a.b.now (lower (goal.at.returns-in-Stopped c).Start) (upper (goal.at.returns-in-Stopped c).Start) a.d.now (length a.work.now) c.pre _ _ (swept (goal.at.returns-in-Stopped c).After-substitute_rows-a) _ [] c.in-Stopped.is
 
 pub back_steps-requires : goal.back_steps-requires
 back_steps-requires c =
-    let s = Begin (From (goal.at.back_steps-requires c).After-substitute_rows-a) in
-    let a = s.args in (
-      c.substitute_rows-a.auto.work ∙ loaded (goal.at.back_steps-requires c).After-load_right ∙ s.pre.ready.scratch,
-      s.pre.upper,
-      ys-fine a.form a.n a.r.now a.b.now (lower s) (upper s) a.d.now (length a.work.now) s.pre _ _ (swept (goal.at.back_steps-requires c).After-substitute_rows-a) c.in_default.is,
+    let a = c.args in (
+      c.substitute_rows-a.auto.work ∙ loaded (goal.at.back_steps-requires c).After-load_right ∙ c.pre.ready.scratch,
+      c.pre.upper,
+      ys-fine a.form a.n a.r.now a.b.now (lower (goal.at.back_steps-requires c).Start) (upper (goal.at.back_steps-requires c).Start) a.d.now (length a.work.now) c.pre _ _ (swept (goal.at.back_steps-requires c).After-substitute_rows-a) c.in_default.is,
     )
 
 pub returns : goal.returns
 returns c =
-    let s = Begin (From (goal.at.returns c).After-substitute_rows-a) in
-    let a = s.args in (
-      ends a.form a.n a.r.now a.b.now (lower s) (upper s) a.d.now (length a.work.now) s.pre _ _ (swept (goal.at.returns c).After-substitute_rows-a) c.in_default.is c.back_steps.result (drop (z_from a.n) c.back_steps.new.f) c.back_steps.ensures.0,
-      ends-below a.form a.n a.r.now a.b.now (lower s) (upper s) a.d.now (length a.work.now) s.pre _ _ (swept (goal.at.returns c).After-substitute_rows-a) c.in_default.is c.back_steps.result (drop (z_from a.n) c.back_steps.new.f) c.back_steps.ensures.0,
+    let a = c.args in (
+      ends a.form a.n a.r.now a.b.now (lower (goal.at.returns c).Start) (upper (goal.at.returns c).Start) a.d.now (length a.work.now) c.pre _ _ (swept (goal.at.returns c).After-substitute_rows-a) c.in_default.is c.back_steps.result (drop (z_from a.n) c.back_steps.new.f) c.back_steps.ensures.0,
+      ends-below a.form a.n a.r.now a.b.now (lower (goal.at.returns c).Start) (upper (goal.at.returns c).Start) a.d.now (length a.work.now) c.pre _ _ (swept (goal.at.returns c).After-substitute_rows-a) c.in_default.is c.back_steps.result (drop (z_from a.n) c.back_steps.new.f) c.back_steps.ensures.0,
     )
 
 -- scratch has as many slots at each end

@@ -11,14 +11,11 @@ use lib.ListN.{length}
 use native.Mathlib.Omega.{arith}
 use borrow.Author.Rules.{rules}
 use Rattle.symbolic.proofs.analyze_by_row.Goals as goal
-use Rattle.symbolic.proofs.analyze_by_row.Goals.{After-analyze_place_by_row-turned, After-no_progress-g, At-loop-k, In-Stopped, In-loop-k, Start}
-
-abbrev Begin : After-no_progress-g → Start
-Begin b = b
+use Rattle.symbolic.proofs.analyze_by_row.Goals.{At-loop-k}
 
 pub loop-k-init : goal.loop-k-init
 loop-k-init c = (
-  row-start _ _ _ _ _ _ _ _ _ (Begin c).requires c.clear_u32.ensures c.clear_index.ensures c.begin_marks.ensures _ c.no_progress-g.ensures,
+  row-start _ _ _ _ _ _ _ _ _ c.requires c.clear_u32.ensures c.clear_index.ensures c.begin_marks.ensures _ c.no_progress-g.ensures,
   refl,
   refl,
   refl,
@@ -26,35 +23,31 @@ loop-k-init c = (
 )
 
 pub overflow_cast-place : goal.overflow_cast-place
-overflow_cast-place c = omega (arith, (Begin (goal.at.overflow_cast-place c).After-no_progress-g).pre.matrix.few, c.loop-k-test.true)
+overflow_cast-place c = omega (arith, c.pre.matrix.few, c.loop-k-test.true)
 
 pub analyze_place_by_row-turned-requires : goal.analyze_place_by_row-turned-requires
 analyze_place_by_row-turned-requires c = record { order = _; low = _; up = _; place = c.loop-k-test.true; at = c.loop-k.invariant.0 }
 
-abbrev In : After-analyze_place_by_row-turned → In-loop-k
-In p = p
-
 -- the stores are as long as they were lent
-lent : (l : At-loop-k) → let a = (Begin (goal.at.lent l).After-no_progress-g).args in let b = l.loop-k in
+lent : (l : At-loop-k) → let a = l.args in let b = l.loop-k in
     (length b.upper-starts ≡ length a.upper-starts.now) × (length b.upper-runs ≡ length a.upper-runs.now)
     × (length b.upper-index ≡ length a.upper-index.now) × (length b.marks ≡ length a.marks.now)
 lent l = let v = l.loop-k.invariant in (v.1 ∙ l.clear_u32.auto.s, v.2, v.3 ∙ l.clear_index.auto.s, v.4 ∙ l.begin_marks.auto.marks)
 
 pub returns-in-Stopped : goal.returns-in-Stopped
 returns-in-Stopped c =
-    let b = (In (goal.at.returns-in-Stopped c).After-analyze_place_by_row-turned).before.before in
-    found-stop ByRow _ [] 0 b.clear_index.new.s _ 0 _ refl b.clear_index.auto.s _
-    (told (TurnEnds ByRow _ _ _ _ _ _ _ _ _ _ _ _ _) c.in-Stopped.is (c.analyze_place_by_row-turned.ensures _ _ _ (In (goal.at.returns-in-Stopped c).After-analyze_place_by_row-turned).before.loop.invariant.0)) _ _ _ _
+    found-stop ByRow _ [] 0 c.clear_index.new.s _ 0 _ refl c.clear_index.auto.s _
+    (told (TurnEnds ByRow _ _ _ _ _ _ _ _ _ _ _ _ _) c.in-Stopped.is (c.analyze_place_by_row-turned.ensures _ _ _ c.loop-k.invariant.0)) _ _ _ _
 
 pub overflow_add-k : goal.overflow_add-k
-overflow_add-k c = let l = In (goal.at.overflow_add-k c).After-analyze_place_by_row-turned in omega (arith, l.loop-test.taken, (Begin l).pre.matrix.few)
+overflow_add-k c = omega (arith, c.loop-k-test.taken, c.pre.matrix.few)
 
 pub loop-k-smaller : goal.loop-k-smaller
-loop-k-smaller c = let l = In (goal.at.loop-k-smaller c).After-analyze_place_by_row-turned in omega (arith, l.loop-test.taken)
+loop-k-smaller c = omega (arith, c.loop-k-test.taken)
 
 pub loop-k-preserved : goal.loop-k-preserved
 loop-k-preserved c =
-    let v = (In (goal.at.loop-k-preserved c).After-analyze_place_by_row-turned).before.loop.invariant in
+    let v = c.loop-k.invariant in
     let k = c.analyze_place_by_row-turned.auto in (
       told (TurnEnds ByRow _ _ _ _ _ _ _ _ _ _ _ _ _) c.in-Next.is (c.analyze_place_by_row-turned.ensures _ _ _ v.0),
       k.1.1.1.1.0 ∙ v.1,
@@ -67,24 +60,20 @@ pub returns : goal.returns
 returns c =
     found-end ByRow _ _ _ _ _ _ _ _ _ _ _ _ _ _ _ _ _ refl c.clear_index.ensures c.loop-k.invariant.0 c.loop-k-test.false c.counts_at.ensures tt
 
--- the place that ended the pass
-abbrev Last : In-Stopped → After-analyze_place_by_row-turned
-Last c = c
-
 pub begin_marks-requires : goal.begin_marks-requires
 begin_marks-requires c = inverse-lent _ _ c.requires.matrix
 
 pub shape_of-upper_starts-in-Stopped : goal.shape_of-upper_starts-in-Stopped
-shape_of-upper_starts-in-Stopped c = (Last c).analyze-place-by-row.auto.1.1.1.1.0 ∙ (lent (In (Last c)).before).0
+shape_of-upper_starts-in-Stopped c = c.analyze_place_by_row-turned.auto.upper_starts ∙ (lent (goal.at.shape_of-upper_starts-in-Stopped c).At-loop-k).0
 
 pub shape_of-upper_runs-in-Stopped : goal.shape_of-upper_runs-in-Stopped
-shape_of-upper_runs-in-Stopped c = (Last c).analyze-place-by-row.auto.1.1.1.1.1.0 ∙ (lent (In (Last c)).before).1
+shape_of-upper_runs-in-Stopped c = c.analyze_place_by_row-turned.auto.upper_runs ∙ (lent (goal.at.shape_of-upper_runs-in-Stopped c).At-loop-k).1
 
 pub shape_of-upper_index-in-Stopped : goal.shape_of-upper_index-in-Stopped
-shape_of-upper_index-in-Stopped c = (Last c).analyze-place-by-row.auto.1.1.1.1.1.1.0 ∙ (lent (In (Last c)).before).2
+shape_of-upper_index-in-Stopped c = c.analyze_place_by_row-turned.auto.upper_index ∙ (lent (goal.at.shape_of-upper_index-in-Stopped c).At-loop-k).2
 
 pub shape_of-marks-in-Stopped : goal.shape_of-marks-in-Stopped
-shape_of-marks-in-Stopped c = (Last c).analyze-place-by-row.auto.1.1.1.1.1.1.1.1.0 ∙ (lent (In (Last c)).before).3
+shape_of-marks-in-Stopped c = c.analyze_place_by_row-turned.auto.marks ∙ (lent (goal.at.shape_of-marks-in-Stopped c).At-loop-k).3
 
 pub shape_of-upper_starts : goal.shape_of-upper_starts
 shape_of-upper_starts c = (lent (goal.at.shape_of-upper_starts c).At-loop-k).0

@@ -11,9 +11,6 @@ use Rattle.base.specs.Scratch.{upper_cuts}
 use Rattle.symbolic.proofs.append_upper.Goals as goal
 use Rattle.symbolic.proofs.append_upper.Goals.{After-append_list-put, Start}
 
-abbrev Begin : After-append_list-put → Start
-Begin p = p
-
 -- what the caller holds, for a pattern and a store
 abbrev Held : Start → Pattern → List ℕ → ℕ → Type 0
 Held s P store t = let a = s.args in
@@ -37,16 +34,15 @@ append_list-put-requires c =
     keep-ready h _ _ tt (keep-list h)
 
 -- what placing tells
-step : (p : After-append_list-put) (P : Pattern) (store : List ℕ) (t : ℕ) → Held (Begin p) P store t
-    → Stepped OneAfterAnother (upper_row P (Begin p).args.n) (lower_row P) (Begin p).args.values (Begin p).args.k.0 store p.append_list-put.new.starts p.append_list-put.new.starts p.append_list-put.new.index p.append_list-put.result
-step p P store t h = p.append_list-put.ensures.steps (upper_row P (Begin p).args.n) (lower_row P) (Begin p).args.n store (keep-turn h _ _ tt (keep-list h))
+step : (p : After-append_list-put) (P : Pattern) (store : List ℕ) (t : ℕ) → Held (goal.at.step p).Start P store t
+    → Stepped OneAfterAnother (upper_row P p.args.n) (lower_row P) p.args.values p.args.k.0 store p.append_list-put.new.starts p.append_list-put.new.starts p.append_list-put.new.index p.append_list-put.result
+step p P store t h = p.append_list-put.ensures.steps (upper_row P p.args.n) (lower_row P) p.args.n store (keep-turn h _ _ tt (keep-list h))
 
 pub renew_cuts-requires : goal.renew_cuts-requires
 renew_cuts-requires c =
-    let s = Begin (goal.at.renew_cuts-requires c).After-append_list-put in
-    let h = s.pre.keep in
-    let d = stepped-done _ _ _ _ _ _ _ _ _ _ _ c.in-Done.is (step (goal.at.renew_cuts-requires c).After-append_list-put s.pre.pattern s.pre.store s.pre.stamp h) in
-    (next-lists h _ _ _ _ d.1, ((h.below, h.base, h.space), record { stamp = s.pre.stamp; list = keep-members h }))
+    let h = c.pre.keep in
+    let d = stepped-done _ _ _ _ _ _ _ _ _ _ _ c.in-Done.is (step (goal.at.renew_cuts-requires c).After-append_list-put c.pre.pattern c.pre.store c.pre.stamp h) in
+    (next-lists h _ _ _ _ d.1, ((h.below, h.base, h.space), record { stamp = c.pre.stamp; list = keep-members h }))
 
 pub returns-in-Done : goal.returns-in-Done
 returns-in-Done c =

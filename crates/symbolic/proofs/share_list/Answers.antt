@@ -10,9 +10,6 @@ use borrow.Author.Rules.{rules}
 use Rattle.symbolic.proofs.share_list.Goals as goal
 use Rattle.symbolic.proofs.share_list.Goals.{After-place_list-put, Start}
 
-abbrev Begin : After-place_list-put → Start
-Begin p = p
-
 -- what the caller holds, for a pattern and a store
 abbrev Held : Start → Pattern → List ℕ → ℕ → Type 0
 Held s P store t = let a = s.args in
@@ -39,18 +36,17 @@ place_list-put-requires c =
     keep-ready h _ _ (keep_row h) (keep-list h)
 
 -- what placing tells
-step : (p : After-place_list-put) (P : Pattern) (store : List ℕ) (t : ℕ) → Held (Begin p) P store t → let r = p.place_list-put in
-    Stepped Sharing (upper_row P (Begin p).args.n) (lower_row P) (Begin p).args.values (Begin p).args.k.0 store r.new.1.0 r.new.1.1.0 r.new.1.1.1.0 r.result
+step : (p : After-place_list-put) (P : Pattern) (store : List ℕ) (t : ℕ) → Held (goal.at.step p).Start P store t → let r = p.place_list-put in
+    Stepped Sharing (upper_row P p.args.n) (lower_row P) p.args.values p.args.k.0 store r.new.starts r.new.runs r.new.index r.result
 step p P store t h =
-    p.place_list-put.ensures.steps (upper_row P (Begin p).args.n) (lower_row P) (Begin p).args.n store
+    p.place_list-put.ensures.steps (upper_row P p.args.n) (lower_row P) p.args.n store
     (keep-turn h _ _ (keep_row h) (keep-list h))
 
 pub renew_cuts-requires : goal.renew_cuts-requires
 renew_cuts-requires c =
-    let s = Begin (goal.at.renew_cuts-requires c).After-place_list-put in
-    let h = s.pre.keep in
-    let d = stepped-done _ _ _ _ _ _ _ _ _ _ _ c.in-Done.is (step (goal.at.renew_cuts-requires c).After-place_list-put s.pre.pattern s.pre.store s.pre.stamp h) in
-    (next-lists h _ _ _ _ d.1, ((h.below, h.base, h.space), record { stamp = s.pre.stamp; list = keep-members h }))
+    let h = c.pre.keep in
+    let d = stepped-done _ _ _ _ _ _ _ _ _ _ _ c.in-Done.is (step (goal.at.renew_cuts-requires c).After-place_list-put c.pre.pattern c.pre.store c.pre.stamp h) in
+    (next-lists h _ _ _ _ d.1, ((h.below, h.base, h.space), record { stamp = c.pre.stamp; list = keep-members h }))
 
 pub returns-in-Done : goal.returns-in-Done
 returns-in-Done c =
