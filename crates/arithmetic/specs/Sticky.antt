@@ -355,7 +355,7 @@ rest-stays : (t : Float) (js : List ℕ) (us z : List Float) (r : Float) → res
 unfolding rest
 rest-stays t [] us z r e f = rw (← ok-inj e) f
 rest-stays t (j ∷ js) [] z r e f = rw (← ok-inj e) f
-rest-stays t (j ∷ js) (u ∷ us) z r e f = rest-stays _ js us z r e (sub-left binary64 t (mul binary64 u (get_or z j nan)) f)
+rest-stays t (j ∷ js) (u ∷ us) z r e f = rest-stays (sub binary64 t (mul binary64 u (get_or z j nan))) js us z r e (sub-left binary64 t (mul binary64 u (get_or z j nan)) f)
 
 pub rest_at : (k : ℕ) (t : Float) (js : List ℕ) (us z : List Float) (r : Float) → finite t ≡ true → rest any t js us z ≡ ok r
     → rest (at k) t js us z ≡ at k r

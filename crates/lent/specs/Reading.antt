@@ -28,8 +28,8 @@ pub record Distinct (l : List ℕ) : Type 0 where
 -- ---- orders
 
 -- "Row order r: place k takes own row r(k)": an own number from a place, by an order
-abbrev pub field_own : List ℕ → Place → OwnNumber
-field_own order k = record { 0 = get_or order k.0 0 }
+abbrev pub own_at : List ℕ → Place → OwnNumber
+own_at order k = record { 0 = get_or order k.0 0 }
 
 -- a place from an own number, by the inverse of an order
 abbrev pub place_at : List ℕ → OwnNumber → Place

@@ -3,4 +3,4 @@ use borrow.Author.Rules.{rules}
 use Rattle.capi.proofs.lp_read_factors.Goals as goal
 
 pub returns : goal.returns
-returns c = reported _ _ _ _ _ _ c.read_factors-a.ensures c.put_answer.ensures.0 c.put_answer.ensures.1
+returns c = reported _ _ _ _ _ _ c.read_factors-a.ensures c.put_answer.ensures.value c.put_answer.ensures.report_after

@@ -3,4 +3,4 @@ use borrow.Author.Rules.{rules}
 use Rattle.capi.proofs.lp_resolve_shared.Goals as goal
 
 pub returns : goal.returns
-returns c = told _ _ _ _ _ _ c.resolve_shared-a.ensures c.put_end.ensures.0 c.put_end.ensures.1
+returns c = told _ _ _ _ _ _ c.resolve_shared-a.ensures c.put_end.ensures.value c.put_end.ensures.report_after

@@ -3,4 +3,4 @@ use borrow.Author.Rules.{rules}
 use Rattle.capi.proofs.lp_solve_plain.Goals as goal
 
 pub returns : goal.returns
-returns c = told _ _ _ _ _ _ c.solve_plain-a.ensures c.put_answer.ensures.0 c.put_answer.ensures.1
+returns c = told _ _ _ _ _ _ c.solve_plain-a.ensures c.put_answer.ensures.value c.put_answer.ensures.report_after

@@ -8,19 +8,19 @@ use native.Mathlib.Omega.{arith}
 use Rattle.columns.proofs.count_columns.Goals as goal
 
 pub loop-k-init : goal.loop-k-init
-loop-k-init c = (omega arith, tally-start _ c.requires.1)
+loop-k-init c = (omega arith, tally-start _ c.requires.counting)
 
 pub row_of-cols-requires : goal.row_of-cols-requires
 row_of-cols-requires c =
-    let g = c.requires.0 in
-    ((omega (arith, g.long), omega (arith, g.space.small)), g.read c.loop-k.k (omega arith))
+    let g = c.requires.given in
+    record { k_in_bounds = (omega (arith, g.long), omega (arith, g.space.small)); list_in = g.read c.loop-k.k (omega arith) }
 
 pub count_row-requires : goal.count_row-requires
 count_row-requires c =
     let a = c.args in
     let t = c.loop-k.invariant.1 in
     let o = order-kept a.n 0 a.n t.kept in
-    let g = given-kept t.kept.size o c.requires.0 in
+    let g = given-kept t.kept.size o c.requires.given in
     (g.space, (g.order, (row_below c.row_of-cols.ensures (g.below c.loop-k.k (omega arith)), (omega arith, tally-room a.n c.loop-k.k _ t))))
 
 pub loop-k-preserved : goal.loop-k-preserved

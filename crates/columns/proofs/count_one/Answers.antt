@@ -12,4 +12,4 @@ pub bounds-marks-n-4 : goal.bounds-marks-n-4
 bounds-marks-n-4 c = simp length-set (omega arith)
 
 pub returns : goal.returns
-returns c = one-counted c.requires.0 (omega arith) c.if-marks-n.false refl
+returns c = one-counted c.requires.room (omega arith) c.if-marks-n.false refl

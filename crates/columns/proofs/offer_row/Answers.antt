@@ -16,18 +16,18 @@ loop-q-init c = (omega arith, row-start)
 
 pub entry_place-j-requires : goal.entry_place-j-requires
 entry_place-j-requires c =
-    (omega arith, c.requires.1.0 c.loop-q.q (omega arith), c.requires.0.small, omega (arith, c.loop-q.invariant.1.kept.size, c.requires.0.long))
+    (omega arith, c.requires.below.0 c.loop-q.q (omega arith), c.requires.room.small, omega (arith, c.loop-q.invariant.1.kept.size, c.requires.room.long))
 
 pub offer-p-requires : goal.offer-p-requires
 offer-p-requires c =
     let k = c.loop-q.invariant.1.kept in
-    let e = entry_read c.args.n c.loop-q.q _ _ _ c.args.cols.now (omega arith) (order-kept c.args.n c.args.lo c.args.hi k) c.entry_IsPlace.ensures in
-    (room-kept _ _ _ k.size c.requires.0, (c.requires.1.1.0, row_room c.loop-q.q _ e.0 e.1 c.requires.1.1.1 c.loop-q.invariant.1))
+    let e = entry_read c.args.n c.loop-q.q _ _ _ c.args.cols.now (omega arith) (order-kept c.args.n c.args.lo c.args.hi k) c.entry_place.ensures in
+    (room-kept _ _ _ k.size c.requires.room, (c.requires.below.1.0, row_room c.loop-q.q _ e.0 e.1 c.requires.below.1.1 c.loop-q.invariant.1))
 
 pub loop-q-preserved : goal.loop-q-preserved
 loop-q-preserved c =
     let k = c.loop-q.invariant.1.kept in
-    let e = entry_read c.args.n c.loop-q.q _ _ _ c.args.cols.now (omega arith) (order-kept c.args.n c.args.lo c.args.hi k) c.entry_IsPlace.ensures in
+    let e = entry_read c.args.n c.loop-q.q _ _ _ c.args.cols.now (omega arith) (order-kept c.args.n c.args.lo c.args.hi k) c.entry_place.ensures in
     (omega arith, row_more c.loop-q.q _ e.0 e.1 c.loop-q.invariant.1 c.offer-p.ensures)
 
 pub returns : goal.returns

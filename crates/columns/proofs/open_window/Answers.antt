@@ -13,7 +13,7 @@ returns-then-left-count c =
 
 pub loop-hi-preserved : goal.loop-hi-preserved
 loop-hi-preserved c =
-    open_more c.requires.0 (omega arith) c.slot-count.ensures.0 (omega arith) c.loop-hi.invariant
+    open_more c.requires.room (omega arith) c.slot-count.ensures.0 (omega arith) c.loop-hi.invariant
 
 pub returns : goal.returns
 returns c = open-end (omega arith) c.loop-hi.invariant

@@ -5,7 +5,7 @@ use borrow.Author.Rules.{rules}
 use Rattle.columns.proofs.row_of.Goals as goal
 
 pub row_columns-requires : goal.row_columns-requires
-row_columns-requires c = own_in c.own_row-i.ensures c.requires.1
+row_columns-requires c = own_in c.own_row-i.ensures c.requires.list_in
 
 pub returns : goal.returns
 returns c =

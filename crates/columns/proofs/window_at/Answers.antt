@@ -8,11 +8,11 @@ pub fill_window-requires : goal.fill_window-requires
 fill_window-requires c =
     let e = c.open_window-end.ensures in
     let q = order-kept c.args.n _ _ e.kept in (
-      given-kept e.kept.size q c.requires.0,
-      ((e.most, window-fits (rows_same _ _ _ _ _ _ q) (omega arith) c.requires.1.0 e), e.zero),
+      given-kept e.kept.size q c.requires.given,
+      ((e.most, window-fits (rows_same _ _ _ _ _ _ q) (omega arith) c.requires.ready.0 e), e.zero),
     )
 
 pub returns : goal.returns
 returns c =
     let e = c.open_window-end.ensures in
-    window-made _ _ _ _ _ _ (rows_same _ _ _ _ _ _ (order-kept c.args.n _ _ e.kept)) c.requires.1.1 (omega arith) c.requires.1.0 e c.fill_window.ensures
+    window-made _ _ _ _ _ _ (rows_same _ _ _ _ _ _ (order-kept c.args.n _ _ e.kept)) c.requires.ready.1 (omega arith) c.requires.ready.0 e c.fill_window.ensures

@@ -22,7 +22,7 @@ pub overflow_cast-k : goal.overflow_cast-k
 overflow_cast-k c = omega (arith, (done (goal.at.overflow_cast-k c).At-loop-k).given.lent.lent.orders.few)
 
 pub eliminate_row-a-requires : goal.eliminate_row-a-requires
-eliminate_row-a-requires c = (omega arith, (c.pre.0, done (goal.at.eliminate_row-a-requires c).At-loop-k))
+eliminate_row-a-requires c = (omega arith, (c.requires.0, done (goal.at.eliminate_row-a-requires c).At-loop-k))
 
 pub shape_of-lower_values-then-met_fault : goal.shape_of-lower_values-then-met_fault
 shape_of-lower_values-then-met_fault c = c.eliminate_row-a.auto.lower_values ∙ c.loop-k.invariant.1.lower-size

@@ -12,8 +12,8 @@ loop-j-preserved-then-marks-n c =
 
 pub next_block-j-requires : goal.next_block-j-requires
 next_block-j-requires c =
-    let q = c.requires.0 in
-    ((omega arith, q.1, room-kept _ _ _ c.loop-j.invariant.1.long q.2), c.if-marks-n.false)
+    let q = c.requires.from_le_end in
+    record { j_lt_end = (omega arith, q.1, room-kept _ _ _ c.loop-j.invariant.1.long q.2); fact = c.if-marks-n.false }
 
 pub loop-j-smaller : goal.loop-j-smaller
 loop-j-smaller c = omega (arith, c.next_block-j.ensures.above, c.next_block-j.ensures.within)
@@ -21,7 +21,7 @@ loop-j-smaller c = omega (arith, c.next_block-j.ensures.above, c.next_block-j.en
 pub loop-j-preserved : goal.loop-j-preserved
 loop-j-preserved c =
     let r = c.next_block-j.ensures in
-    (r.within, filled-skip _ _ _ _ _ _ _ _ c.loop-j.invariant.1 c.args.n _ _ c.requires.1.1 (omega arith) c.requires.0.1 r)
+    (r.within, filled-skip _ _ _ _ _ _ _ _ c.loop-j.invariant.1 c.args.n _ _ c.requires.n_bound.1 (omega arith) c.requires.from_le_end.1 r)
 
 pub returns : goal.returns
 returns c = filled-all _ _ _ _ _ _ _ _ c.loop-j.invariant.0 (omega arith) c.loop-j.invariant.1

@@ -16,18 +16,18 @@ loop-q-init c = (omega arith, load-start _ _ _ _)
 place : (c : After-entry_place-j)
     → let s = c.args in
     (c.loop-q.q < length (placed (order_of s.n s.marks.now) s.cols.now))
-    × (c.entry_IsPlace.result ≡ get_or (placed (order_of s.n s.marks.now) s.cols.now) c.loop-q.q 0) × (c.entry_IsPlace.result < s.n)
+    × (c.entry_place.result ≡ get_or (placed (order_of s.n s.marks.now) s.cols.now) c.loop-q.q 0) × (c.entry_place.result < s.n)
 place c =
-    let e = entry_read c.args.n c.loop-q.q _ _ _ c.args.cols.now (omega arith) (order-unmarked c.args.n c.loop-q.invariant.1.kept) c.entry_IsPlace.ensures in
-    (e.0, e.1, entry-below c.args.n c.loop-q.q _ _ c.args.cols.now c.requires.1.1 c.requires.0 e.0 e.1)
+    let e = entry_read c.args.n c.loop-q.q _ _ _ c.args.cols.now (omega arith) (order-unmarked c.args.n c.loop-q.invariant.1.kept) c.entry_place.ensures in
+    (e.0, e.1, entry-below c.args.n c.loop-q.q _ _ c.args.cols.now c.requires.room.1 c.requires.below e.0 e.1)
 
 pub entry_place-j-requires : goal.entry_place-j-requires
 entry_place-j-requires c =
-    (omega arith, c.requires.0 c.loop-q.q (omega arith), c.requires.1.0.small, omega (arith, c.loop-q.invariant.1.kept.size, c.requires.1.0.long))
+    (omega arith, c.requires.below c.loop-q.q (omega arith), c.requires.room.0.small, omega (arith, c.loop-q.invariant.1.kept.size, c.requires.room.0.long))
 
 pub mark-requires : goal.mark-requires
 mark-requires c =
-    ((place (goal.at.mark-requires c).After-entry_place-j).2, room-kept _ c.args.marks.now _ c.loop-q.invariant.1.kept.size c.requires.1.0)
+    ((place (goal.at.mark-requires c).After-entry_place-j).2, room-kept _ c.args.marks.now _ c.loop-q.invariant.1.kept.size c.requires.room.0)
 
 pub loop-q-preserved : goal.loop-q-preserved
 loop-q-preserved c =

@@ -8,17 +8,17 @@ use Rattle.marks.proofs.merge_block.Goals as goal
 
 pub loop-i-init : goal.loop-i-init
 loop-i-init c =
-    record { within = c.requires.1.0; most = c.requires.1.1; long = refl; room = c.requires.1.4; parts = c.requires.0; goes = λ z g. g }
+    record { within = c.requires.had_le_from.0; most = c.requires.had_le_from.1; long = refl; room = c.requires.had_le_from.4; parts = c.requires.parts; goes = λ z g. g }
 
 pub merge_run-requires : goal.merge_run-requires
 merge_run-requires c =
-    let b = c.pre.1.3 in
-    let p = listed-parts c.args.n _ _ _ _ _ _ _ c.args.end c.pre.1.2 c.loop-i.marks c.loop-i.i c.loop-i.count (omega arith) c.loop-i.invariant b in
-    ((room-set _ c.loop-i.marks _ _ c.loop-i.invariant.room, b, p.read c.loop-i.i (omega arith)), p.below c.loop-i.i (omega arith))
+    let b = c.requires.had_le_from.3 in
+    let p = listed-parts c.args.n _ _ _ _ _ _ _ c.args.end c.requires.had_le_from.2 c.loop-i.marks c.loop-i.i c.loop-i.count (omega arith) c.loop-i.invariant b in
+    record { room = (room-set _ c.loop-i.marks _ _ c.loop-i.invariant.room, b, p.read c.loop-i.i (omega arith)); below = p.below c.loop-i.i (omega arith) }
 
 pub loop-i-preserved : goal.loop-i-preserved
 loop-i-preserved c =
-    let b = c.pre.1 in
+    let b = c.requires.had_le_from in
     ⊎_elim
     (λ w. along-hit c.args.n _ _ _ _ _ _ _ _ b.2 c.loop-i.marks c.loop-i.i c.loop-i.count (omega arith) c.loop-i.invariant b.3 _ _ (w.5 ∙ w.2.ensures) w.6 w.0.taken)
     (λ w. along-miss c.args.n _ _ _ _ _ _ _ _ b.2 c.loop-i.marks c.loop-i.i c.loop-i.count (omega arith) c.loop-i.invariant _ _ w.1 w.2 w.0.left)

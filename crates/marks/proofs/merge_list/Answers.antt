@@ -10,7 +10,7 @@ use Rattle.marks.proofs.merge_list.Goals as goal
 pub mark-requires : goal.mark-requires
 mark-requires c =
     let h : c.loop-p.p < length c.args.list.now = omega arith in
-    (omega (arith, c.requires.0 c.loop-p.p h, c.wide-j.ensures.0), record { small = omega arith; long = omega arith })
+    (omega (arith, c.requires.below c.loop-p.p h, c.wide-j.ensures.0), record { small = omega arith; long = omega arith })
 
 pub loop-p-preserved : goal.loop-p-preserved
 loop-p-preserved c =

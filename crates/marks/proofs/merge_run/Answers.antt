@@ -5,7 +5,7 @@ use Rattle.marks.proofs.merge_run.Goals as goal
 
 pub merge_list-requires : goal.merge_list-requires
 merge_list-requires c =
-    (rw c.cut_part-list.ensures c.requires.1, c.requires.0.0)
+    record { below = rw c.cut_part-list.ensures c.requires.below; room = c.requires.room.0 }
 
 pub returns : goal.returns
 returns c =

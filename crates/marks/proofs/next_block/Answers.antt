@@ -8,7 +8,7 @@ use Rattle.base.specs.Scratch.{blocks_from}
 use Rattle.marks.proofs.next_block.Goals as goal
 
 pub loop-b-init : goal.loop-b-init
-loop-b-init c = (omega arith, omega arith, λ i a b e. let q : i / 64 ≡ c.args.j / 64 = omega arith in c.requires.1 (rw q at e))
+loop-b-init c = (omega arith, omega arith, λ i a b e. let q : i / 64 ≡ c.args.j / 64 = omega arith in c.requires.fact (rw q at e))
 
 pub returns-then-marks-n : goal.returns-then-marks-n
 returns-then-marks-n c =

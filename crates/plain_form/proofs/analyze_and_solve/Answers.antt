@@ -20,7 +20,7 @@ returns-then-refuses c = leaves-refused Plain _ _ _ _ _ _ _ _ _ c.analyze_plain-
 pub factor_and_solve-fault-requires : goal.factor_and_solve-fault-requires
 factor_and_solve-fault-requires c =
     let p = Earlier (goal.at.factor_and_solve-fault-requires c).After-counts-counts in
-    both-due Plain _ _ _ _ _ _ _ _ _ _ _ _ _ _ _ _ _ p.analyze-plain.ensures (done-with _ _ _ c.refuses.ensures c.if-refuses.false c.counts-counts.ensures) p.pre p.analyze-plain.kept.1.1.1.1.1.1.1.1.1.1.1.0 refl refl refl (λ h. h)
+    both-due Plain _ _ _ _ _ _ _ _ _ _ _ _ _ _ _ _ _ p.analyze-plain.ensures (done-with _ _ _ c.refuses.ensures c.if-refuses.false c.counts-counts.ensures) p.requires p.analyze-plain.kept.1.1.1.1.1.1.1.1.1.1.1.0 refl refl refl (λ h. h)
 
 pub returns : goal.returns
 returns c =

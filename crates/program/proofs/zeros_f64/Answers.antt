@@ -5,4 +5,4 @@ use Rattle.program.proofs.zeros_f64.Goals as goal
 
 pub returns : goal.returns
 unfolding noughts of_bits
-returns c = (refl, refl)
+returns c = record { value = refl; value_2 = refl }

@@ -4,4 +4,4 @@ use Rattle.program.proofs.zeros_index.Goals as goal
 
 pub returns : goal.returns
 unfolding zeros
-returns c = (refl, refl)
+returns c = record { value = refl; value_2 = refl }

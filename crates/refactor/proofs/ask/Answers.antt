@@ -27,7 +27,7 @@ returns-then-stops c = earlier-stop c.args.way (given (goal.at.returns-then-stop
 
 pub compare-same-requires : goal.compare-same-requires
 compare-same-requires c =
-    presenting c.args.way (given (goal.at.compare-same-requires c).Start) _ _ _ _ _ _ _ _ _ _ _ _ _ ((asked (goal.at.compare-same-requires c).After-ask_solve-asked).due (pass_of _ (sym c.stops.ensures ∙ c.if-stops.false))) c.ask_solve-asked.auto.marks c.pre.0 c.pre.1
+    presenting c.args.way (given (goal.at.compare-same-requires c).Start) _ _ _ _ _ _ _ _ _ _ _ _ _ ((asked (goal.at.compare-same-requires c).After-ask_solve-asked).due (pass_of _ (sym c.stops.ensures ∙ c.if-stops.false))) c.ask_solve-asked.auto.marks c.requires.0 c.requires.1
 
 pub returns-then-stops-2 : goal.returns-then-stops-2
 returns-then-stops-2 c =

@@ -3,4 +3,4 @@ use borrow.Author.Rules.{rules}
 use Rattle.report.proofs.put_checked.Goals as goal
 
 pub returns : goal.returns
-returns c = (c.number.ensures, checked-put c.args.a _ c.args.report.now _ c.place.ensures c.put_all.ensures)
+returns c = record { value = c.number.ensures; report_after = checked-put c.args.a _ c.args.report.now _ c.place.ensures c.put_all.ensures }

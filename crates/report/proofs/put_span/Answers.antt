@@ -5,4 +5,4 @@ use Rattle.report.proofs.put_span.Goals as goal
 
 pub returns : goal.returns
 unfolding span_slots
-returns c = (refl, c.put_all.ensures)
+returns c = record { value = refl; report_after = c.put_all.ensures }

@@ -3,4 +3,4 @@ use borrow.Author.Rules.{rules}
 use Rattle.report.proofs.test_load.Goals as goal
 
 pub returns : goal.returns
-returns c = reported _ _ _ _ _ _ c.test_load-a.ensures c.put_made.ensures.0 c.put_made.ensures.1
+returns c = reported _ _ _ _ _ _ c.test_load-a.ensures c.put_made.ensures.value c.put_made.ensures.report_after

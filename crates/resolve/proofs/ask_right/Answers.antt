@@ -17,7 +17,7 @@ returns-then-stops c = asking-stop _ _ _ _ _ _ c.ask_shape-shape.ensures (sym c.
 
 pub ask_right-a-requires : goal.ask_right-a-requires
 ask_right-a-requires c =
-    right-lent c.args.form (given (goal.at.ask_right-a-requires c).Start) c.args.sizes (sym c.ask_shape-shape.ensures ∙ pass_of _ (sym c.stops.ensures ∙ c.if-stops.false)) _ c.pre
+    right-lent c.args.form (given (goal.at.ask_right-a-requires c).Start) c.args.sizes (sym c.ask_shape-shape.ensures ∙ pass_of _ (sym c.stops.ensures ∙ c.if-stops.false)) _ c.requires
 
 pub returns-then-stops-2 : goal.returns-then-stops-2
 returns-then-stops-2 c =

@@ -27,7 +27,7 @@ pub substitute-solved-requires : goal.substitute-solved-requires
 substitute-solved-requires c =
     let a = c.args in
     solvable a.form (given (goal.at.substitute-solved-requires c).Start) a.lower-starts.now a.lower-runs.now a.lower-index.now a.lower-values.now a.upper-starts.now a.upper-runs.now a.upper-index.now
-    a.upper-values.now a.d.now (length a.x.now) (length a.work.now) c.pre c.ask_factors-good.result c.ask_factors-good.ensures (sym c.stops.ensures ∙ c.if-stops.false)
+    a.upper-values.now a.d.now (length a.x.now) (length a.work.now) c.requires c.ask_factors-good.result c.ask_factors-good.ensures (sym c.stops.ensures ∙ c.if-stops.false)
 
 pub returns-then-stops-2 : goal.returns-then-stops-2
 returns-then-stops-2 c =
@@ -39,7 +39,7 @@ pub write_x-requires : goal.write_x-requires
 write_x-requires c =
     let a = c.args in
     solution-due a.form (given (goal.at.write_x-requires c).Start) a.lower-starts.now a.lower-runs.now a.lower-index.now a.lower-values.now a.upper-starts.now a.upper-runs.now a.upper-index.now
-    a.upper-values.now a.d.now (length a.x.now) (length a.work.now) c.pre _ c.substitute-solved.auto.work
+    a.upper-values.now a.d.now (length a.x.now) (length a.work.now) c.requires _ c.substitute-solved.auto.work
 
 pub returns : goal.returns
 returns c =

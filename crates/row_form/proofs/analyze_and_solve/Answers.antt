@@ -20,7 +20,7 @@ returns-then-refuses c = leaves-refused ByRow _ _ _ _ _ _ _ _ _ c.analyze_by_row
 pub factor_and_solve-fault-requires : goal.factor_and_solve-fault-requires
 factor_and_solve-fault-requires c =
     let p = Earlier (goal.at.factor_and_solve-fault-requires c).After-counts-counts in
-    row-due _ _ _ _ _ _ _ _ _ _ _ _ _ _ _ _ p.analyze-by-row.ensures (done-with _ _ _ c.refuses.ensures c.if-refuses.false c.counts-counts.ensures) p.pre p.analyze-by-row.kept.1.1.1.1.1.1.1.1.1.0 refl refl refl refl
+    row-due _ _ _ _ _ _ _ _ _ _ _ _ _ _ _ _ p.analyze-by-row.ensures (done-with _ _ _ c.refuses.ensures c.if-refuses.false c.counts-counts.ensures) p.requires p.analyze-by-row.kept.1.1.1.1.1.1.1.1.1.0 refl refl refl refl
 
 pub returns : goal.returns
 returns c =

@@ -20,7 +20,7 @@ returns-then-refuses c = leaves-refused Shared _ _ _ _ _ _ _ _ _ c.analyze_share
 pub factor_and_solve-fault-requires : goal.factor_and_solve-fault-requires
 factor_and_solve-fault-requires c =
     let p = Earlier (goal.at.factor_and_solve-fault-requires c).After-counts-counts in
-    both-due Shared _ _ _ _ _ _ _ _ _ _ _ _ _ _ _ _ _ p.analyze-shared.ensures (done-with _ _ _ c.refuses.ensures c.if-refuses.false c.counts-counts.ensures) p.pre p.analyze-shared.kept.1.1.1.1.1.1.1.1.1.1.1.1.1.0 refl refl refl (starts-of _ _ _ _ _)
+    both-due Shared _ _ _ _ _ _ _ _ _ _ _ _ _ _ _ _ _ p.analyze-shared.ensures (done-with _ _ _ c.refuses.ensures c.if-refuses.false c.counts-counts.ensures) p.requires p.analyze-shared.kept.1.1.1.1.1.1.1.1.1.1.1.1.1.0 refl refl refl (starts-of _ _ _ _ _)
 
 pub returns : goal.returns
 returns c =

@@ -22,7 +22,7 @@ returns-then-stops c = asking-stop _ _ _ _ _ _ (shaped (goal.at.returns-then-sto
 pub ask_solve-a-requires : goal.ask_solve-a-requires
 ask_solve-a-requires c =
     let h = solve-shaped c.args.form (given (goal.at.ask_solve-a-requires c).Start) c.args.sizes (sym (shaped (goal.at.ask_solve-a-requires c).After-shape_solve-shape) ∙ pass_of _ (sym c.stops.ensures ∙ c.if-stops.false)) in
-    record { lent = lent_of c.args.form (pattern (given (goal.at.ask_solve-a-requires c).Start)) c.args.sizes h.structure _ c.pre; values = h.values; right = h.right }
+    record { lent = lent_of c.args.form (pattern (given (goal.at.ask_solve-a-requires c).Start)) c.args.sizes h.structure _ c.requires; values = h.values; right = h.right }
 
 pub returns-then-stops-2 : goal.returns-then-stops-2
 returns-then-stops-2 c =

@@ -18,7 +18,7 @@ returns-then-stops c = asking-stop _ _ _ _ _ _ c.shape_structure-shape.ensures (
 pub ask_structure-a-requires : goal.ask_structure-a-requires
 ask_structure-a-requires c =
     let h = structure-shaped c.args.form (given (goal.at.ask_structure-a-requires c).Start) c.args.sizes (sym c.shape_structure-shape.ensures ∙ pass_of _ (sym c.stops.ensures ∙ c.if-stops.false)) in
-    lent_of c.args.form (given (goal.at.ask_structure-a-requires c).Start) c.args.sizes h _ c.pre
+    lent_of c.args.form (given (goal.at.ask_structure-a-requires c).Start) c.args.sizes h _ c.requires
 
 pub returns-then-stops-2 : goal.returns-then-stops-2
 returns-then-stops-2 c =

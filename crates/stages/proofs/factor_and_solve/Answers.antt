@@ -12,7 +12,7 @@ returns-then-stops c =
     came-fault _ _ _ _ _ _ _ _ _ (c.factor-factored.ensures _ c.requires.ready) c.fault_of-fault.ensures (sym c.stops.ensures ∙ c.if-stops.true)
 
 pub write_x-requires : goal.write_x-requires
-write_x-requires c = solution-due _ _ _ _ _ _ c.pre c.factor-factored.auto.work
+write_x-requires c = solution-due _ _ _ _ _ _ c.requires c.factor-factored.auto.work
 
 pub returns : goal.returns
 returns c =

@@ -15,7 +15,7 @@ loop-j-init c = let a = c.args in (omega arith, first-zero (full_at a.starts.now
 
 pub has_tail-requires : goal.has_tail-requires
 has_tail-requires c =
-    (c.requires.0 (get_or c.args.row.now c.loop-j.j 0) (mem-at c.args.row.now c.loop-j.j (omega arith)), c.requires.1)
+    record { tailed = c.requires.all_tailed (get_or c.args.row.now c.loop-j.j 0) (mem-at c.args.row.now c.loop-j.j (omega arith)); count_nonzero = c.requires.count_nonzero }
 
 pub returns-then-has_tail : goal.returns-then-has_tail
 unfolding full_at

@@ -3,7 +3,7 @@ use Rattle.storing.specs.TailLaws.{tail-short, tail-told}
 use Rattle.storing.proofs.has_tail.Goals as goal
 
 pub returns-then-length-count : goal.returns-then-length-count
-returns-then-length-count c = tail-short _ _ _ _ _ _ _ c.requires.0 c.list_length-length.ensures.0 c.if-length-count.true
+returns-then-length-count c = tail-short _ _ _ _ _ _ _ c.requires.tailed c.list_length-length.ensures.0 c.if-length-count.true
 
 pub returns : goal.returns
 returns c =

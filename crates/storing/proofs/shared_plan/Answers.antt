@@ -11,7 +11,7 @@ returns-then-list-eq0 c =
     plan-empty a.starts.now a.runs.now a.slots.now a.last a.k.0 a.row.now a.list.now (omega arith)
 
 pub full_tail-found-requires : goal.full_tail-found-requires
-full_tail-found-requires c = (c.requires.readable, omega (arith, c.if-list-eq0.false))
+full_tail-found-requires c = record { all_tailed = c.requires.readable; count_nonzero = omega (arith, c.if-list-eq0.false) }
 
 pub offset_bounds-row-j : goal.offset_bounds-row-j
 offset_bounds-row-j c =

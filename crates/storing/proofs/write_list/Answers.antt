@@ -13,10 +13,7 @@ append-requires c =
     let list = c.args.list.now in
     let have = c.args.have in
     let e = take_rest have list in
-    let l = ap length e in (
-      omega (arith, l, length-drop have list, c.requires.index-room),
-      λ j h. rw (e, get_or-drop have list j 0) (c.requires.small (have + j) (omega (arith, l, length-drop have list))),
-    )
+    let l = ap length e in record { rest_in_bounds = omega (arith, l, length-drop have list, c.requires.index-room); below = λ j h. rw (e, get_or-drop have list j 0) (c.requires.small (have + j) (omega (arith, l, length-drop have list))) }
 
 pub returns : goal.returns
 returns c =

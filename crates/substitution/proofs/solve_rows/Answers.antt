@@ -50,27 +50,27 @@ swept : (r : After-substitute_rows-a)
     → Swept r.args.form r.args.n (Given (goal.at.swept r).Start) (lower (goal.at.swept r).Start) r.substitute_rows-a.result r.substitute_rows-a.new.work
 swept r =
     let a = r.args in
-    r.substitute_rows-a.ensures (Given (goal.at.swept r).Start) (tied a.form a.n a.r.now a.b.now (lower (goal.at.swept r).Start) (upper (goal.at.swept r).Start) a.d.now (length a.work.now) r.pre)
-    (begun a.form a.n a.r.now a.b.now (lower (goal.at.swept r).Start) (upper (goal.at.swept r).Start) a.d.now (length a.work.now) r.pre a.work.now _ _ refl r.clear_f64.ensures r.load_right.ensures)
+    r.substitute_rows-a.ensures (Given (goal.at.swept r).Start) (tied a.form a.n a.r.now a.b.now (lower (goal.at.swept r).Start) (upper (goal.at.swept r).Start) a.d.now (length a.work.now) r.requires)
+    (begun a.form a.n a.r.now a.b.now (lower (goal.at.swept r).Start) (upper (goal.at.swept r).Start) a.d.now (length a.work.now) r.requires a.work.now _ _ refl r.clear_f64.ensures r.load_right.ensures)
 
 pub returns-in-Stopped : goal.returns-in-Stopped
 returns-in-Stopped c =
     let a = c.args in
-    ends-early a.form a.n a.r.now a.b.now (lower (goal.at.returns-in-Stopped c).Start) (upper (goal.at.returns-in-Stopped c).Start) a.d.now (length a.work.now) c.pre _ _ (swept (goal.at.returns-in-Stopped c).After-substitute_rows-a) _ [] c.in-Stopped.is
+    ends-early a.form a.n a.r.now a.b.now (lower (goal.at.returns-in-Stopped c).Start) (upper (goal.at.returns-in-Stopped c).Start) a.d.now (length a.work.now) c.requires _ _ (swept (goal.at.returns-in-Stopped c).After-substitute_rows-a) _ [] c.in-Stopped.is
 
 pub back_steps-requires : goal.back_steps-requires
 back_steps-requires c =
     let a = c.args in (
-      c.substitute_rows-a.auto.work ∙ loaded (goal.at.back_steps-requires c).After-load_right ∙ c.pre.ready.scratch,
-      c.pre.upper,
-      ys-fine a.form a.n a.r.now a.b.now (lower (goal.at.back_steps-requires c).Start) (upper (goal.at.back_steps-requires c).Start) a.d.now (length a.work.now) c.pre _ _ (swept (goal.at.back_steps-requires c).After-substitute_rows-a) c.in_default.is,
+      c.substitute_rows-a.auto.work ∙ loaded (goal.at.back_steps-requires c).After-load_right ∙ c.requires.ready.scratch,
+      c.requires.upper,
+      ys-fine a.form a.n a.r.now a.b.now (lower (goal.at.back_steps-requires c).Start) (upper (goal.at.back_steps-requires c).Start) a.d.now (length a.work.now) c.requires _ _ (swept (goal.at.back_steps-requires c).After-substitute_rows-a) c.in_default.is,
     )
 
 pub returns : goal.returns
 returns c =
     let a = c.args in (
-      ends a.form a.n a.r.now a.b.now (lower (goal.at.returns c).Start) (upper (goal.at.returns c).Start) a.d.now (length a.work.now) c.pre _ _ (swept (goal.at.returns c).After-substitute_rows-a) c.in_default.is c.back_steps.result (drop (z_from a.n) c.back_steps.new.f) c.back_steps.ensures.0,
-      ends-below a.form a.n a.r.now a.b.now (lower (goal.at.returns c).Start) (upper (goal.at.returns c).Start) a.d.now (length a.work.now) c.pre _ _ (swept (goal.at.returns c).After-substitute_rows-a) c.in_default.is c.back_steps.result (drop (z_from a.n) c.back_steps.new.f) c.back_steps.ensures.0,
+      ends a.form a.n a.r.now a.b.now (lower (goal.at.returns c).Start) (upper (goal.at.returns c).Start) a.d.now (length a.work.now) c.requires _ _ (swept (goal.at.returns c).After-substitute_rows-a) c.in_default.is c.back_steps.result (drop (z_from a.n) c.back_steps.new.f) c.back_steps.ensures.0,
+      ends-below a.form a.n a.r.now a.b.now (lower (goal.at.returns c).Start) (upper (goal.at.returns c).Start) a.d.now (length a.work.now) c.requires _ _ (swept (goal.at.returns c).After-substitute_rows-a) c.in_default.is c.back_steps.result (drop (z_from a.n) c.back_steps.new.f) c.back_steps.ensures.0,
     )
 
 -- scratch has as many slots at each end

@@ -16,7 +16,7 @@ side s = let a = s.args in side_buffers a.starts.now a.runs.now a.index.now a.va
 pub substitute_row-requires : goal.substitute_row-requires
 substitute_row-requires c =
     let l = c.loop-k in
-    let h = c.pre in
+    let h = c.requires in
     (search rules, record { few = h.few; sound = h.sound; reciprocals = h.reciprocals; scratch = l.invariant.1 ∙ h.scratch })
 
 pub loop-k-preserved : goal.loop-k-preserved

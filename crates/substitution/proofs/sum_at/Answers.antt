@@ -15,16 +15,16 @@ pub returns-then-by_columns : goal.returns-then-by_columns
 returns-then-by_columns c = sum-columns c.args.form _ c.by_columns.ensures c.args.n c.args.k (side (goal.at.returns-then-by_columns c).Start) c.args.work.now c.if-by_columns.true
 
 pub list_at-row-requires : goal.list_at-row-requires
-list_at-row-requires c = c.pre.2.list c.args.k c.pre.0
+list_at-row-requires c = c.requires.2.list c.args.k c.requires.0
 
 pub values_at-l-requires : goal.values_at-l-requires
-values_at-l-requires c = c.pre.2.values c.args.k c.pre.0
+values_at-l-requires c = c.requires.2.values c.args.k c.requires.0
 
 pub subtract_products-requires : goal.subtract_products-requires
 subtract_products-requires c =
     let a = c.args in
-    let r = ready a.n a.k a.starts.now a.runs.now a.index.now a.values.now _ _ c.pre.2 c.pre.0 c.list_at-row.ensures c.values_at-l.ensures in
-    (r.0, below-tail a.n a.work.now c.list_at-row.result.now c.pre.1 r.1)
+    let r = ready a.n a.k a.starts.now a.runs.now a.index.now a.values.now _ _ c.requires.2 c.requires.0 c.list_at-row.ensures c.values_at-l.ensures in
+    (r.0, below-tail a.n a.work.now c.list_at-row.result.now c.requires.1 r.1)
 
 pub returns : goal.returns
 returns c =

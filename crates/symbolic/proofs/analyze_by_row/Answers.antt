@@ -23,7 +23,7 @@ loop-k-init c = (
 )
 
 pub overflow_cast-place : goal.overflow_cast-place
-overflow_cast-place c = omega (arith, c.pre.matrix.few, c.loop-k-test.true)
+overflow_cast-place c = omega (arith, c.requires.matrix.few, c.loop-k-test.true)
 
 pub analyze_place_by_row-turned-requires : goal.analyze_place_by_row-turned-requires
 analyze_place_by_row-turned-requires c = record { order = _; low = _; up = _; place = c.loop-k-test.true; at = c.loop-k.invariant.0 }
@@ -40,7 +40,7 @@ returns-in-Stopped c =
     (told (TurnEnds ByRow _ _ _ _ _ _ _ _ _ _ _ _ _) c.in-Stopped.is (c.analyze_place_by_row-turned.ensures _ _ _ c.loop-k.invariant.0)) _ _ _ _
 
 pub overflow_add-k : goal.overflow_add-k
-overflow_add-k c = omega (arith, c.loop-k-test.taken, c.pre.matrix.few)
+overflow_add-k c = omega (arith, c.loop-k-test.taken, c.requires.matrix.few)
 
 pub loop-k-smaller : goal.loop-k-smaller
 loop-k-smaller c = omega (arith, c.loop-k-test.taken)

@@ -25,8 +25,8 @@ load-end-requires c =
 pub close_place-below-requires : goal.close_place-below-requires
 close_place-below-requires c =
     let e = c.cuts_of-cuts.ensures in
-    let o = c.pre.due in
-    let i = given (goal.at.close_place-below-requires c).Start c.pre.order in (
+    let o = c.requires.due in
+    let i = given (goal.at.close_place-below-requires c).Start c.requires.order in (
       parts_at _ _ _ _ _ _ _ e (loaded-parts _ i _ _ _ _ _ _ _ o _ _ c.load-end.ensures),
       ((o.below, base-at _ _ _ e (base-of c.args.side c.args.n), loaded-room _ i _ _ _ _ _ _ _ o _ _ c.load-end.ensures), (loaded-marks _ i _ _ _ _ _ _ _ o _ _ c.load-end.ensures).blocks),
     )
@@ -39,7 +39,7 @@ closing p = closing_at _ _ _ _ _ _ _ _ _ _ p.cuts_of-cuts.ensures p.close_place-
 -- scratch has its regions
 room : (p : After-close_place-below) → Room p.args.n p.close_place-below.new.marks
 room p =
-    room-kept _ _ _ p.close_place-below.auto.marks (loaded-room _ (given (goal.at.room p).Start p.pre.order) _ _ _ _ _ _ _ p.pre.due _ _ p.load-end.ensures)
+    room-kept _ _ _ p.close_place-below.auto.marks (loaded-room _ (given (goal.at.room p).Start p.requires.order) _ _ _ _ _ _ _ p.requires.due _ _ p.load-end.ensures)
 
 -- the marks are row k of the fill, for the column order and the list starts that the caller has
 filled_row : (p : After-close_place-below) (order lists : List ℕ) → let s = p.args in
@@ -53,8 +53,8 @@ has_diagonal-requires c =
 
 pub list_upper-above-requires : goal.list_upper-above-requires
 list_upper-above-requires c =
-    let o = c.pre.due in
-    ((o.below, closed-short _ (given (goal.at.list_upper-above-requires c).Start c.pre.order) _ _ _ _ _ _ _ o _ _ c.load-end.ensures _ _ (closing (goal.at.list_upper-above-requires c).After-close_place-below), room (goal.at.list_upper-above-requires c).After-close_place-below), (filled_row (goal.at.list_upper-above-requires c).After-close_place-below c.pre.order c.pre.lists o).blocks)
+    let o = c.requires.due in
+    record { k_lt_n = (o.below, closed-short _ (given (goal.at.list_upper-above-requires c).Start c.requires.order) _ _ _ _ _ _ _ o _ _ c.load-end.ensures _ _ (closing (goal.at.list_upper-above-requires c).After-close_place-below), room (goal.at.list_upper-above-requires c).After-close_place-below); blocks = (filled_row (goal.at.list_upper-above-requires c).After-close_place-below c.requires.order c.requires.lists o).blocks }
 
 pub returns-then-has_diagonal : goal.returns-then-has_diagonal
 returns-then-has_diagonal c =
@@ -62,8 +62,8 @@ returns-then-has_diagonal c =
     let i = given (goal.at.returns-then-has_diagonal c).Start order in
     let h = filled_row (goal.at.returns-then-has_diagonal c).After-close_place-below order lists o in
     row-found _ i _ _ _ _ _ _ _ o _ _ c.load-end.ensures _ _ (closing (goal.at.returns-then-has_diagonal c).After-close_place-below) _ (c.list_upper-above.auto.marks ∙ c.close_place-below.auto.marks) _ (c.list_upper-above.ensures (pattern_of c.args.side i) h)
-    (sym (c.has_diagonal.ensures.1 c.args.n (pattern_of c.args.side i) o.below h) ∙ c.if-has_diagonal.true)
+    (sym (c.has_diagonal.ensures.by_index c.args.n (pattern_of c.args.side i) o.below h) ∙ c.if-has_diagonal.true)
 
 pub returns : goal.returns
 returns c =
-    λ order lists o. sym (c.has_diagonal.ensures.1 c.args.n (pattern_of c.args.side (given (goal.at.returns c).Start order)) o.below (filled_row (goal.at.returns c).After-close_place-below order lists o)) ∙ c.if-has_diagonal.false
+    λ order lists o. sym (c.has_diagonal.ensures.by_index c.args.n (pattern_of c.args.side (given (goal.at.returns c).Start order)) o.below (filled_row (goal.at.returns c).After-close_place-below order lists o)) ∙ c.if-has_diagonal.false

@@ -44,9 +44,9 @@ step p P store t h =
 
 pub renew_cuts-requires : goal.renew_cuts-requires
 renew_cuts-requires c =
-    let h = c.pre.keep in
-    let d = stepped-done _ _ _ _ _ _ _ _ _ _ _ c.in-Done.is (step (goal.at.renew_cuts-requires c).After-place_list-put c.pre.pattern c.pre.store c.pre.stamp h) in
-    (next-lists h _ _ _ _ d.1, ((h.below, h.base, h.space), record { stamp = c.pre.stamp; list = keep-members h }))
+    let h = c.requires.keep in
+    let d = stepped-done _ _ _ _ _ _ _ _ _ _ _ c.in-Done.is (step (goal.at.renew_cuts-requires c).After-place_list-put c.requires.pattern c.requires.store c.requires.stamp h) in
+    (next-lists h _ _ _ _ d.1, ((h.below, h.base, h.space), record { stamp = c.requires.stamp; list = keep-members h }))
 
 pub returns-in-Done : goal.returns-in-Done
 returns-in-Done c =
