@@ -21,14 +21,14 @@ entry_place-j-requires c =
 pub count_one-requires : goal.count_one-requires
 count_one-requires c =
     let k = c.loop-q.invariant.1.kept in
-    let e = entry_read c.args.n c.loop-q.q _ _ _ c.args.cols.now (omega arith) (order-kept c.args.n 0 c.args.n k) c.entry_place.ensures in
+    let e = entry_read c.args.n c.loop-q.q _ _ _ c.args.cols.now (omega arith) (order-kept c.args.n 0 c.args.n k) c.entry_place-j.ensures in
     let b = entry-below c.args.n c.loop-q.q _ _ c.args.cols.now c.requires.order.0 c.requires.order.1.0 e.0 e.1 in
     record { room = room-kept _ _ _ k.size c.requires.room; i_lt_n = (c.requires.order.1.1.0, b, count_room c.requires.order.1.1.0 b c.requires.order.1.1.1 c.loop-q.invariant.1) }
 
 pub loop-q-preserved : goal.loop-q-preserved
 loop-q-preserved c =
     let k = c.loop-q.invariant.1.kept in
-    let e = entry_read c.args.n c.loop-q.q _ _ _ c.args.cols.now (omega arith) (order-kept c.args.n 0 c.args.n k) c.entry_place.ensures in
+    let e = entry_read c.args.n c.loop-q.q _ _ _ c.args.cols.now (omega arith) (order-kept c.args.n 0 c.args.n k) c.entry_place-j.ensures in
     (omega arith, row_more c.loop-q.q _ e.0 e.1 c.loop-q.invariant.1 c.count_one.ensures)
 
 pub returns : goal.returns

@@ -21,13 +21,13 @@ entry_place-j-requires c =
 pub offer-p-requires : goal.offer-p-requires
 offer-p-requires c =
     let k = c.loop-q.invariant.1.kept in
-    let e = entry_read c.args.n c.loop-q.q _ _ _ c.args.cols.now (omega arith) (order-kept c.args.n c.args.lo c.args.hi k) c.entry_place.ensures in
+    let e = entry_read c.args.n c.loop-q.q _ _ _ c.args.cols.now (omega arith) (order-kept c.args.n c.args.lo c.args.hi k) c.entry_place-j.ensures in
     (room-kept _ _ _ k.size c.requires.room, (c.requires.below.1.0, row_room c.loop-q.q _ e.0 e.1 c.requires.below.1.1 c.loop-q.invariant.1))
 
 pub loop-q-preserved : goal.loop-q-preserved
 loop-q-preserved c =
     let k = c.loop-q.invariant.1.kept in
-    let e = entry_read c.args.n c.loop-q.q _ _ _ c.args.cols.now (omega arith) (order-kept c.args.n c.args.lo c.args.hi k) c.entry_place.ensures in
+    let e = entry_read c.args.n c.loop-q.q _ _ _ c.args.cols.now (omega arith) (order-kept c.args.n c.args.lo c.args.hi k) c.entry_place-j.ensures in
     (omega arith, row_more c.loop-q.q _ e.0 e.1 c.loop-q.invariant.1 c.offer-p.ensures)
 
 pub returns : goal.returns

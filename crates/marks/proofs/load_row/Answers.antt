@@ -16,9 +16,9 @@ loop-q-init c = (omega arith, load-start _ _ _ _)
 place : (c : After-entry_place-j)
     → let s = c.args in
     (c.loop-q.q < length (placed (order_of s.n s.marks.now) s.cols.now))
-    × (c.entry_place.result ≡ get_or (placed (order_of s.n s.marks.now) s.cols.now) c.loop-q.q 0) × (c.entry_place.result < s.n)
+    × (c.entry_place-j.result ≡ get_or (placed (order_of s.n s.marks.now) s.cols.now) c.loop-q.q 0) × (c.entry_place-j.result < s.n)
 place c =
-    let e = entry_read c.args.n c.loop-q.q _ _ _ c.args.cols.now (omega arith) (order-unmarked c.args.n c.loop-q.invariant.1.kept) c.entry_place.ensures in
+    let e = entry_read c.args.n c.loop-q.q _ _ _ c.args.cols.now (omega arith) (order-unmarked c.args.n c.loop-q.invariant.1.kept) c.entry_place-j.ensures in
     (e.0, e.1, entry-below c.args.n c.loop-q.q _ _ c.args.cols.now c.requires.room.1 c.requires.below e.0 e.1)
 
 pub entry_place-j-requires : goal.entry_place-j-requires

@@ -16,9 +16,9 @@ entry_place-j-requires c =
     (c.loop-p-test.true, p.known c.loop-p.p c.loop-p-test.true, p.few, p.slots)
 
 -- the place at turn p is in the row, and its value among the values
-inside : (c : After-entry_place-j) → c.entry_place.result < length c.loop-p.w
+inside : (c : After-entry_place-j) → c.entry_place-j.result < length c.loop-p.w
 inside c =
-    rw (c.loop-p.invariant.1 ∙ c.requires.0, c.entry_place.ensures) (c.requires.1.placeable.inside c.loop-p.p c.loop-p-test.true)
+    rw (c.loop-p.invariant.1 ∙ c.requires.0, c.entry_place-j.ensures) (c.requires.1.placeable.inside c.loop-p.p c.loop-p-test.true)
 
 valued : (c : After-entry_place-j) → c.loop-p.p < length c.args.values.now
 valued c = omega (arith, c.loop-p-test.true, c.requires.1.paired)
@@ -47,7 +47,7 @@ loop-p-preserved c =
     let l = c.loop-p in (
       omega arith,
       simp length-set l.invariant.1,
-      enter-turn (order_of a.n a.marks.now) a.columns.now a.values.now l.w l.p c.entry_place.result _ c.entry_place.ensures c.with_value.ensures (omega arith) (valued (goal.at.loop-p-preserved c).After-entry_place-j) ∙ l.invariant.2,
+      enter-turn (order_of a.n a.marks.now) a.columns.now a.values.now l.w l.p c.entry_place-j.result _ c.entry_place-j.ensures c.with_value.ensures (omega arith) (valued (goal.at.loop-p-preserved c).After-entry_place-j) ∙ l.invariant.2,
     )
 
 pub returns : goal.returns

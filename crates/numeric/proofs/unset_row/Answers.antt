@@ -16,9 +16,9 @@ entry_place-j-requires c =
     (c.loop-p-test.true, p.known c.loop-p.p c.loop-p-test.true, p.few, p.slots)
 
 -- the place at turn p is in the row
-inside : (c : After-entry_place-j) → c.entry_place.result < length c.loop-p.w
+inside : (c : After-entry_place-j) → c.entry_place-j.result < length c.loop-p.w
 inside c =
-    rw (c.loop-p.invariant.1 ∙ c.requires.0, c.entry_place.ensures) (c.requires.1.inside c.loop-p.p c.loop-p-test.true)
+    rw (c.loop-p.invariant.1 ∙ c.requires.0, c.entry_place-j.ensures) (c.requires.1.inside c.loop-p.p c.loop-p-test.true)
 
 pub offset_bounds-w-j : goal.offset_bounds-w-j
 offset_bounds-w-j c = omega (arith, inside c)
@@ -32,7 +32,7 @@ loop-p-preserved c =
     let l = c.loop-p in (
       omega arith,
       simp length-set l.invariant.1,
-      unset-turn (order_of a.n a.marks.now) a.columns.now l.w l.p c.entry_place.result _ c.entry_place.ensures c.no_value-none.ensures (omega arith) ∙ l.invariant.2,
+      unset-turn (order_of a.n a.marks.now) a.columns.now l.w l.p c.entry_place-j.result _ c.entry_place-j.ensures c.no_value-none.ensures (omega arith) ∙ l.invariant.2,
     )
 
 pub returns : goal.returns
