@@ -21,7 +21,7 @@ count_row-requires c =
     let t = c.loop-k.invariant.1 in
     let o = order-kept a.n 0 a.n t.kept in
     let g = given-kept t.kept.size o c.requires.given in
-    (g.space, (g.order, (row_below c.row_of-cols.ensures (g.below c.loop-k.k (omega arith)), (omega arith, tally-room a.n c.loop-k.k _ t))))
+    record { room = g.space; order = g.order; below = row_below c.row_of-cols.ensures (g.below c.loop-k.k (omega arith)); i_lt_n = (omega arith, tally-room a.n c.loop-k.k _ t) }
 
 pub loop-k-preserved : goal.loop-k-preserved
 loop-k-preserved c =

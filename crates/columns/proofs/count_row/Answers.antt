@@ -16,14 +16,14 @@ loop-q-init c = (omega arith, row-start)
 
 pub entry_place-j-requires : goal.entry_place-j-requires
 entry_place-j-requires c =
-    (omega arith, c.requires.order.1.0 c.loop-q.q (omega arith), c.requires.room.small, omega (arith, c.loop-q.invariant.1.kept.size, c.requires.room.long))
+    (omega arith, c.requires.below c.loop-q.q (omega arith), c.requires.room.small, omega (arith, c.loop-q.invariant.1.kept.size, c.requires.room.long))
 
 pub count_one-requires : goal.count_one-requires
 count_one-requires c =
     let k = c.loop-q.invariant.1.kept in
     let e = entry_read c.args.n c.loop-q.q _ _ _ c.args.cols.now (omega arith) (order-kept c.args.n 0 c.args.n k) c.entry_place-j.ensures in
-    let b = entry-below c.args.n c.loop-q.q _ _ c.args.cols.now c.requires.order.0 c.requires.order.1.0 e.0 e.1 in
-    record { room = room-kept _ _ _ k.size c.requires.room; i_lt_n = (c.requires.order.1.1.0, b, count_room c.requires.order.1.1.0 b c.requires.order.1.1.1 c.loop-q.invariant.1) }
+    let b = entry-below c.args.n c.loop-q.q _ _ c.args.cols.now c.requires.order c.requires.below e.0 e.1 in
+    record { room = room-kept _ _ _ k.size c.requires.room; i_lt_n = (c.requires.i_lt_n, b, count_room c.requires.i_lt_n b c.requires.order.1.1.1 c.loop-q.invariant.1) }
 
 pub loop-q-preserved : goal.loop-q-preserved
 loop-q-preserved c =

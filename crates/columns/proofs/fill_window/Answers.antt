@@ -8,7 +8,7 @@ use native.Mathlib.Omega.{arith}
 use Rattle.columns.proofs.fill_window.Goals as goal
 
 pub loop-k-init : goal.loop-k-init
-loop-k-init c = (omega arith, fill_start _ _ _ _ _ c.requires.hi_le_n.1)
+loop-k-init c = (omega arith, fill_start _ _ _ _ _ c.requires.by_index)
 
 pub row_of-cols-requires : goal.row_of-cols-requires
 row_of-cols-requires c =
@@ -22,7 +22,7 @@ offer_row-p-requires c =
     let o = order-kept a.n a.lo a.hi f.kept in
     let g = given-kept f.kept.size o c.requires.given in
     let e = row_is a.n c.loop-k.k _ _ a.r.now _ _ _ c.row_of-cols.ensures o in
-    (g.space, (row_below c.row_of-cols.ensures (g.below c.loop-k.k (omega arith)), ((c.requires.hi_le_n.0.0, omega arith), fill-room (omega arith) c.requires.hi_le_n.0.1 e f)))
+    record { room = g.space; below = row_below c.row_of-cols.ensures (g.below c.loop-k.k (omega arith)); hi_le_n = (c.requires.hi_le_n.0, omega arith); roomy = fill-room (omega arith) c.requires.hi_le_n.1 e f }
 
 pub loop-k-preserved : goal.loop-k-preserved
 loop-k-preserved c =
@@ -33,4 +33,4 @@ loop-k-preserved c =
 
 pub returns : goal.returns
 returns c =
-    fill_end (omega arith) c.requires.hi_le_n.0.1 c.loop-k.invariant.1
+    fill_end (omega arith) c.requires.hi_le_n.1 c.loop-k.invariant.1

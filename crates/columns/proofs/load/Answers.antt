@@ -7,17 +7,17 @@ use Rattle.columns.proofs.load.Goals as goal
 
 pub load_column-requires : goal.load_column-requires
 load_column-requires c =
-    (c.requires.given, (lower-ready _ _ _ _ _ c.in-Lower.is c.requires.side_ready.0, c.requires.side_ready.1))
+    record { given = c.requires.given; ready = lower-ready _ _ _ _ _ c.in-Lower.is c.requires.side_ready; k_lt_n = c.requires.k_lt_n }
 
 pub row_of-cols-requires : goal.row_of-cols-requires
 row_of-cols-requires c =
     let g = c.requires.given in
-    record { k_in_bounds = (omega (arith, g.long), omega (arith, g.space.small)); list_in = g.read c.args.k c.requires.side_ready.1 }
+    record { k_in_bounds = (omega (arith, g.long), omega (arith, g.space.small)); list_in = g.read c.args.k c.requires.k_lt_n }
 
 pub load_row-requires : goal.load_row-requires
 load_row-requires c =
     let g = c.requires.given in
-    (row_below c.row_of-cols.ensures (g.below c.args.k c.requires.side_ready.1), (g.space, g.order))
+    record { below = row_below c.row_of-cols.ensures (g.below c.args.k c.requires.k_lt_n); room = g.space; order = g.order }
 
 pub returns-in-Lower : goal.returns-in-Lower
 returns-in-Lower c =

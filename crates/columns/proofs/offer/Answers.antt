@@ -11,20 +11,20 @@ returns-then-hi-j c = offer-out _ _ _ _ _ _ _ (λ x a b e. omega arith)
 
 pub leads_with-requires : goal.leads_with-requires
 leads_with-requires c =
-    record { room = c.requires.room; j_lt_n = (omega arith, offer-list (omega arith) (omega arith) c.requires.hi_le_n.1) }
+    record { room = c.requires.room; j_lt_n = (omega arith, offer-list (omega arith) (omega arith) c.requires.roomy) }
 
 pub returns-then-leads_with : goal.returns-then-leads_with
 returns-then-leads_with c = offer-again (omega arith) (omega arith) c.leads_with.ensures c.if-leads_with.true
 
 pub push_node-requires : goal.push_node-requires
 push_node-requires c =
-    record { room = c.requires.room; p_lt_n = (offer-room (omega arith) (omega arith) c.leads_with.ensures c.if-leads_with.false c.requires.hi_le_n.1, c.requires.hi_le_n.0.1, omega arith) }
+    record { room = c.requires.room; p_lt_n = (offer-room (omega arith) (omega arith) c.leads_with.ensures c.if-leads_with.false c.requires.roomy, c.requires.hi_le_n.1, omega arith) }
 
 pub overflow_add-result : goal.overflow_add-result
 overflow_add-result c =
-    omega (arith, offer-room (omega arith) (omega arith) c.leads_with.ensures c.if-leads_with.false c.requires.hi_le_n.1)
+    omega (arith, offer-room (omega arith) (omega arith) c.leads_with.ensures c.if-leads_with.false c.requires.roomy)
 
 pub returns : goal.returns
 returns c =
     let d = c.leads_with.ensures in
-    offer-push c.requires.room (offer-room (omega arith) (omega arith) d c.if-leads_with.false c.requires.hi_le_n.1) c.requires.hi_le_n.0.0 c.requires.hi_le_n.0.1 (omega arith) (omega arith) d c.if-leads_with.false c.push_node.ensures
+    offer-push c.requires.room (offer-room (omega arith) (omega arith) d c.if-leads_with.false c.requires.roomy) c.requires.hi_le_n.0 c.requires.hi_le_n.1 (omega arith) (omega arith) d c.if-leads_with.false c.push_node.ensures

@@ -16,13 +16,13 @@ loop-q-init c = (omega arith, row-start)
 
 pub entry_place-j-requires : goal.entry_place-j-requires
 entry_place-j-requires c =
-    (omega arith, c.requires.below.0 c.loop-q.q (omega arith), c.requires.room.small, omega (arith, c.loop-q.invariant.1.kept.size, c.requires.room.long))
+    (omega arith, c.requires.below c.loop-q.q (omega arith), c.requires.room.small, omega (arith, c.loop-q.invariant.1.kept.size, c.requires.room.long))
 
 pub offer-p-requires : goal.offer-p-requires
 offer-p-requires c =
     let k = c.loop-q.invariant.1.kept in
     let e = entry_read c.args.n c.loop-q.q _ _ _ c.args.cols.now (omega arith) (order-kept c.args.n c.args.lo c.args.hi k) c.entry_place-j.ensures in
-    (room-kept _ _ _ k.size c.requires.room, (c.requires.below.1.0, row_room c.loop-q.q _ e.0 e.1 c.requires.below.1.1 c.loop-q.invariant.1))
+    record { room = room-kept _ _ _ k.size c.requires.room; hi_le_n = c.requires.hi_le_n; roomy = row_room c.loop-q.q _ e.0 e.1 c.requires.roomy c.loop-q.invariant.1 }
 
 pub loop-q-preserved : goal.loop-q-preserved
 loop-q-preserved c =

@@ -49,7 +49,7 @@ pub renew_cuts-requires : goal.renew_cuts-requires
 renew_cuts-requires c =
     let d = c.requires in
     let h = d.keep in
-    (next-lists h _ _ _ _ (same (goal.at.renew_cuts-requires c).In-Same-2 d.pattern d.stamp h).1, ((h.below, h.base, h.space), record { stamp = d.stamp; list = keep-members h }))
+    record { by_index = next-lists h _ _ _ _ (same (goal.at.renew_cuts-requires c).In-Same-2 d.pattern d.stamp h).1; k_lt_n = (h.below, h.base, h.space); walk = record { stamp = d.stamp; list = keep-members h } }
 
 pub returns-in-Same : goal.returns-in-Same
 returns-in-Same c = λ P t h. list_same h _ (same (goal.at.returns-in-Same c).In-Same-2 P t h) _ (c.renew_cuts.ensures t (keep-members h))

@@ -1,7 +1,7 @@
 use Rattle.lent.specs.Reading.{order_of}
 use Rattle.lent.specs.ReadingLaws.{place_is}
 use borrow.Author.Rules.{rules}
-use Rattle.lent.proofs.entry_place-j.Goals as goal
+use Rattle.lent.proofs.entry_place.Goals as goal
 
 pub returns : goal.returns
 returns c =

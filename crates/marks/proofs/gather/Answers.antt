@@ -21,7 +21,7 @@ loop-j-smaller c = omega (arith, c.next_block-j.ensures.above, c.next_block-j.en
 pub loop-j-preserved : goal.loop-j-preserved
 loop-j-preserved c =
     let r = c.next_block-j.ensures in
-    (r.within, filled-skip _ _ _ _ _ _ _ _ c.loop-j.invariant.1 c.args.n _ _ c.requires.n_bound.1 (omega arith) c.requires.from_le_end.1 r)
+    (r.within, filled-skip _ _ _ _ _ _ _ _ c.loop-j.invariant.1 c.args.n _ _ c.requires.blocks (omega arith) c.requires.from_le_end.1 r)
 
 pub returns : goal.returns
 returns c = filled-all _ _ _ _ _ _ _ _ c.loop-j.invariant.0 (omega arith) c.loop-j.invariant.1

@@ -9,7 +9,7 @@ overflow_add-n c = let q = c.requires.k_lt_n in omega (arith, q.0, q.1, q.2.smal
 pub gather-requires : goal.gather-requires
 gather-requires c =
     let q = c.requires.k_lt_n in
-    ((omega arith, omega arith, q.2), ((omega arith, omega (arith, q.0, q.1, q.2.long)), c.requires.blocks))
+    record { from_le_end = (omega arith, omega arith, q.2); n_bound = (omega arith, omega (arith, q.0, q.1, q.2.long)); blocks = c.requires.blocks }
 
 pub returns : goal.returns
 returns c =

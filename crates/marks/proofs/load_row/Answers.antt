@@ -19,15 +19,15 @@ place : (c : After-entry_place-j)
     × (c.entry_place-j.result ≡ get_or (placed (order_of s.n s.marks.now) s.cols.now) c.loop-q.q 0) × (c.entry_place-j.result < s.n)
 place c =
     let e = entry_read c.args.n c.loop-q.q _ _ _ c.args.cols.now (omega arith) (order-unmarked c.args.n c.loop-q.invariant.1.kept) c.entry_place-j.ensures in
-    (e.0, e.1, entry-below c.args.n c.loop-q.q _ _ c.args.cols.now c.requires.room.1 c.requires.below e.0 e.1)
+    (e.0, e.1, entry-below c.args.n c.loop-q.q _ _ c.args.cols.now c.requires.order c.requires.below e.0 e.1)
 
 pub entry_place-j-requires : goal.entry_place-j-requires
 entry_place-j-requires c =
-    (omega arith, c.requires.below c.loop-q.q (omega arith), c.requires.room.0.small, omega (arith, c.loop-q.invariant.1.kept.size, c.requires.room.0.long))
+    (omega arith, c.requires.below c.loop-q.q (omega arith), c.requires.room.small, omega (arith, c.loop-q.invariant.1.kept.size, c.requires.room.long))
 
 pub mark-requires : goal.mark-requires
 mark-requires c =
-    ((place (goal.at.mark-requires c).After-entry_place-j).2, room-kept _ c.args.marks.now _ c.loop-q.invariant.1.kept.size c.requires.room.0)
+    ((place (goal.at.mark-requires c).After-entry_place-j).2, room-kept _ c.args.marks.now _ c.loop-q.invariant.1.kept.size c.requires.room)
 
 pub loop-q-preserved : goal.loop-q-preserved
 loop-q-preserved c =

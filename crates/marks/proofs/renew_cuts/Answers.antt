@@ -10,11 +10,11 @@ close_cuts-requires c =
 
 pub open_cut-requires : goal.open_cut-requires
 open_cut-requires c =
-    let q = c.requires.k_lt_n.0 in
+    let q = c.requires.k_lt_n in
     let r = c.requires.by_index c.args.k.0 (omega arith) in
     (omega (arith, q.0, q.1.high, q.2.long, c.close_cuts.auto.marks), r.has-start, r.rise)
 
 pub returns : goal.returns
 returns c =
-    let q = c.requires.k_lt_n.0 in
+    let q = c.requires.k_lt_n in
     λ t e. renewed-is _ _ _ _ _ _ _ _ _ q.0 q.1 q.2 (renewed _ _ _ _ _ _ _ _ (c.close_cuts.ensures t e) c.open_cut.ensures)

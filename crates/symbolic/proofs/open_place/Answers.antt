@@ -20,7 +20,7 @@ given s c = input_of s.args.n s.args.starts.now s.args.columns.now [] s.args.r.n
 pub load-end-requires : goal.load-end-requires
 load-end-requires c =
     let o = c.requires.due in
-    (open-given _ (given (goal.at.load-end-requires c).Start c.requires.order) _ _ _ _ _ _ _ o, (o.ready, o.below))
+    record { given = open-given _ (given (goal.at.load-end-requires c).Start c.requires.order) _ _ _ _ _ _ _ o; side_ready = o.ready; k_lt_n = o.below }
 
 pub close_place-below-requires : goal.close_place-below-requires
 close_place-below-requires c =

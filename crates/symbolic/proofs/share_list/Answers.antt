@@ -46,7 +46,7 @@ pub renew_cuts-requires : goal.renew_cuts-requires
 renew_cuts-requires c =
     let h = c.requires.keep in
     let d = stepped-done _ _ _ _ _ _ _ _ _ _ _ c.in-Done.is (step (goal.at.renew_cuts-requires c).After-place_list-put c.requires.pattern c.requires.store c.requires.stamp h) in
-    (next-lists h _ _ _ _ d.1, ((h.below, h.base, h.space), record { stamp = c.requires.stamp; list = keep-members h }))
+    record { by_index = next-lists h _ _ _ _ d.1; k_lt_n = (h.below, h.base, h.space); walk = record { stamp = c.requires.stamp; list = keep-members h } }
 
 pub returns-in-Done : goal.returns-in-Done
 returns-in-Done c =
