@@ -1,15 +1,17 @@
+use Rattle.std.proofs.Common.{ap}
+use mathlib.Core.Bool.{not}
 use Rattle.blocks.proofs.FileLaws.{asked-16, block-fits, asked-17, asked-pass}
 use borrow.Author.Rules.{rules}
 use Rattle.blocks.proofs.ask_blocks.Goals as goal
 
 pub returns-then-not-n : goal.returns-then-not-n
-returns-then-not-n c = asked-16 _ c.if-not-n.true
+returns-then-not-n c = asked-16 _ (ap not c.if-not-n.true)
 
 pub overflow_cast-result : goal.overflow_cast-result
-overflow_cast-result c = record { fits = block-fits _ _ c.if-not-n.false c.first_wrong-wrong.ensures _ c.in-At.is }
+overflow_cast-result c = record { fits = block-fits _ _ (ap not c.if-not-n.false) c.first_wrong-wrong.ensures _ c.in-At.is }
 
 pub returns-in-At : goal.returns-in-At
-returns-in-At c = asked-17 _ _ c.if-not-n.false c.first_wrong-wrong.ensures _ c.in-At.is
+returns-in-At c = asked-17 _ _ (ap not c.if-not-n.false) c.first_wrong-wrong.ensures _ c.in-At.is
 
 pub returns-in-Nothing : goal.returns-in-Nothing
-returns-in-Nothing c = asked-pass _ _ c.if-not-n.false c.first_wrong-wrong.ensures c.in-Nothing.is
+returns-in-Nothing c = asked-pass _ _ (ap not c.if-not-n.false) c.first_wrong-wrong.ensures c.in-Nothing.is

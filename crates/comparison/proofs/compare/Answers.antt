@@ -1,3 +1,5 @@
+use Rattle.std.proofs.Common.{ap}
+use mathlib.Core.Bool.{not}
 use Rattle.comparison.proofs.Ends.{met_start, compared-first, compared-stop, compared-pass}
 use Rattle.comparison.specs.Comparing.{Met, PlaceEnds}
 use Rattle.symbolic.proofs.Keeping.{told}
@@ -14,10 +16,10 @@ pub start_right-requires : goal.start_right-requires
 start_right-requires c = let d = c.requires in (omega (arith, d.lower.starts-size), omega (arith, d.upper.starts-size))
 
 pub returns-then-not-start_right : goal.returns-then-not-start_right
-returns-then-not-start_right c = compared-first c.requires _ c.start_right.ensures c.if-not-start_right.true _
+returns-then-not-start_right c = compared-first c.requires _ c.start_right.ensures (ap not c.if-not-start_right.true) _
 
 pub loop-k-init : goal.loop-k-init
-loop-k-init c = (met_start c.requires _ c.start_right.ensures c.if-not-start_right.false _ c.begin.ensures _ c.nothing_met-g.ensures, refl)
+loop-k-init c = (met_start c.requires _ c.start_right.ensures (ap not c.if-not-start_right.false) _ c.begin.ensures _ c.nothing_met-g.ensures, refl)
 
 pub overflow_cast-place : goal.overflow_cast-place
 overflow_cast-place c = omega (arith, c.requires.matrix.few, c.loop-k-test.true)

@@ -1,3 +1,5 @@
+use Rattle.std.proofs.Common.{ap}
+use mathlib.Core.Bool.{not}
 use mathlib.Core.Path.{refl, sym, ◌∙◌}
 use native.Mathlib.Omega.{arith}
 use Rattle.factor_contents.proofs.JudgingLaws.{runs-alike}
@@ -20,9 +22,9 @@ returns-in-Stop c = ask15-stop _ _ _ _ _ (c.ask_factors-asked.ensures ∙ runs-a
 pub returns-then-not-lower_end-lower_index : goal.returns-then-not-lower_end-lower_index
 returns-then-not-lower_end-lower_index c =
     ask15-end _ _ _ _ _ (c.ask_factors-asked.ensures ∙ runs-alike _ _ _ _ _ _ _ _) c.in_default.is _ _
-    (sym c.slot-lower_end.ensures.0) (sym c.slot-upper_end.ensures.0) c.if-not-lower_end-lower_index.true
+    (sym c.slot-lower_end.ensures.0) (sym c.slot-upper_end.ensures.0) (ap not c.if-not-lower_end-lower_index.true)
 
 pub returns : goal.returns
 returns c =
     ask15-pass _ _ _ _ _ (c.ask_factors-asked.ensures ∙ runs-alike _ _ _ _ _ _ _ _) c.in_default.is _ _
-    (sym c.slot-lower_end.ensures.0) (sym c.slot-upper_end.ensures.0) c.if-not-lower_end-lower_index.false
+    (sym c.slot-lower_end.ensures.0) (sym c.slot-upper_end.ensures.0) (ap not c.if-not-lower_end-lower_index.false)

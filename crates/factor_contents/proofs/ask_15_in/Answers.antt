@@ -1,3 +1,5 @@
+use Rattle.std.proofs.Common.{ap}
+use mathlib.Core.Bool.{not}
 use native.Mathlib.Omega.{arith}
 use Rattle.factor_contents.specs.FactorFile.{lists_at}
 use Rattle.factor_contents.proofs.JudgingLaws.{start_is, start-there}
@@ -12,10 +14,10 @@ pub returns-then-not-lower_end-lower : goal.returns-then-not-lower_end-lower
 unfolding lists_at
 returns-then-not-lower_end-lower c =
     ask15-end _ _ _ _ _ c.ask_lists_in-asked.ensures c.in_default.is _ _
-    (start_is _ _ 20 _ _ (omega arith) c.start_at-lower_end.ensures.0) (start-there _ _ _ _ _ _ c.offsets_of-at.ensures.0 (omega arith) c.start_at-upper_end.ensures.0) c.if-not-lower_end-lower.true
+    (start_is _ _ 20 _ _ (omega arith) c.start_at-lower_end.ensures.0) (start-there _ _ _ _ _ _ c.offsets_of-at.ensures.0 (omega arith) c.start_at-upper_end.ensures.0) (ap not c.if-not-lower_end-lower.true)
 
 pub returns : goal.returns
 unfolding lists_at
 returns c =
     ask15-pass _ _ _ _ _ c.ask_lists_in-asked.ensures c.in_default.is _ _
-    (start_is _ _ 20 _ _ (omega arith) c.start_at-lower_end.ensures.0) (start-there _ _ _ _ _ _ c.offsets_of-at.ensures.0 (omega arith) c.start_at-upper_end.ensures.0) c.if-not-lower_end-lower.false
+    (start_is _ _ 20 _ _ (omega arith) c.start_at-lower_end.ensures.0) (start-there _ _ _ _ _ _ c.offsets_of-at.ensures.0 (omega arith) c.start_at-upper_end.ensures.0) (ap not c.if-not-lower_end-lower.false)

@@ -15,11 +15,11 @@ loop-p-init c = (search rules, first-zero _)
 
 pub returns-then-not-is_finite : goal.returns-then-not-is_finite
 unfolding ask_finite not_finite
-returns-then-not-is_finite c = ask-at _ _ _ _ _ (search rules) c.loop-p.invariant.1 (ap not (sym c.is_finite.ensures) ∙ c.if-not-is_finite.true) refl
+returns-then-not-is_finite c = ask-at _ _ _ _ _ (search rules) c.loop-p.invariant.1 (ap not (sym c.is_finite.ensures) ∙ (ap not c.if-not-is_finite.true)) refl
 
 pub loop-p-preserved : goal.loop-p-preserved
 unfolding not_finite
-loop-p-preserved c = (search rules, first_more _ _ c.loop-p.invariant.1 (ap not (sym c.is_finite.ensures) ∙ c.if-not-is_finite.false))
+loop-p-preserved c = (search rules, first_more _ _ c.loop-p.invariant.1 (ap not (sym c.is_finite.ensures) ∙ (ap not c.if-not-is_finite.false)))
 
 pub returns : goal.returns
 unfolding ask_finite
