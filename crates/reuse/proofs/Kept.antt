@@ -11,7 +11,6 @@ use Rattle.base.specs.Lists.{padded, pairs, nought}
 use Rattle.base.specs.First.{first}
 use Rattle.base.specs.FirstLaws.{first-all}
 use Rattle.base.specs.TableLaws.{get_or-table}
-use Rattle.base.specs.All.{all}
 use Rattle.base.specs.Answers.{number_of_answer, number_of_end}
 use Rattle.base.specs.declared.Form.{Form}
 use Rattle.base.specs.declared.Form.TheVariants.{Plain, Shared, ByRow}

@@ -2,7 +2,7 @@
 use mathlib.Core.Path.{◌≡◌, refl, sym, ap, ◌∙◌}
 use mathlib.Core.Bool.{Bool, true}
 use mathlib.Core.List.{List, [], ◌∷◌, ◌++◌, map}
-use Prim.Native.Nat.{ℕ, ◌+◌}
+use Prim.Native.Nat.{ℕ}
 use native.Mathlib.Omega.{arith}
 use lib.ListN.{length, get_or, length-replicate}
 use lib.Ieee.{Float, nan}
@@ -26,7 +26,7 @@ use Rattle.base.specs.declared.Found.TheVariants.{Nothing}
 use Rattle.base.specs.declared.Asked.{Asked}
 use Rattle.base.specs.declared.Asked.TheVariants.{Pass, Stop}
 use Rattle.base.specs.declared.Answer.{Answer}
-use Rattle.base.specs.declared.Answer.TheVariants.{Done, Refused}
+use Rattle.base.specs.declared.Answer.TheVariants.{Done}
 use Rattle.base.specs.declared.Ended.TheVariants as ends
 use Rattle.base.specs.declared.Sizes.{Sizes}
 use Rattle.fill.specs.Fill.{Pattern, flip, lower_row, upper_row}

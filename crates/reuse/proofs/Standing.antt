@@ -26,7 +26,7 @@ use Rattle.base.specs.declared.Found.{Found}
 use Rattle.base.specs.declared.Found.TheVariants.{At, Nothing}
 use Rattle.base.specs.declared.SideSizes.{SideSizes}
 use Rattle.base.specs.declared.Sizes.{Sizes}
-use Rattle.fill.specs.Fill.{Pattern, filled}
+use Rattle.fill.specs.Fill.{Pattern}
 use Rattle.placement.specs.Placing.{run_of, same}
 use Rattle.placement.specs.ListLaws.{part-append}
 use Rattle.placement.specs.PlacingLaws.{plain-starts}
