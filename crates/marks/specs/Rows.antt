@@ -1,6 +1,6 @@
 -- One place of one side of the symbolic elimination: what its steps find and leave. P is the side's pattern: M' for the upper side,
 -- M' with rows and columns exchanged for the lower one. Definitions only.
-use Rattle.std.specs.Prelude.{◌≡◌, List, ◌++◌, map, ℕ, ◌+◌, ◌-◌, ◌<◌, ◌≤◌, length, get_or}
+use Rattle.std.specs.Prelude.{◌≡◌, List, ◌++◌, map, ℕ, ◌+◌, ◌<◌, ◌≤◌, length, get_or}
 use Rattle.std.proofs.lemmas.List.Edits.{sets}
 use Rattle.base.specs.Lists.{list_at, row_of, has, total}
 use Rattle.fill.specs.Fill.{Pattern, filled, upper_row, lower_row}

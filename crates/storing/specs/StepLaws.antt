@@ -6,7 +6,7 @@ use Rattle.std.proofs.Math.ListN.{length}
 use Rattle.std.proofs.Math.Seq.{paste, drop-append-add}
 use Rattle.std.proofs.lemmas.List.{take-set-le}
 use Rattle.std.proofs.lemmas.Bool.{eqb-false}
-use Rattle.base.specs.Lists.{asc, list_at, table}
+use Rattle.base.specs.Lists.{list_at, table}
 use Rattle.base.specs.Tests.{by-test}
 use Rattle.placement.specs.Placing.{count_above, tails, Tail, best, meets, overlap, tail_or, shared, plain, append_all, after, plan_at, placed, start_of}
 use Rattle.placement.specs.PlacingLaws.{best-at, best-same, Nested, Kept, after-length, room, plain-starts}

@@ -12,7 +12,7 @@ overflow_cast-result c =
     omega (
       arith,
       c.requires.few,
-      stopped-below (store_given a.n a.work.now a.upper-starts.now a.upper-runs.now a.upper-index.now a.upper-values.now) a.n c.in-Stopped.k (drop (z_from a.n) a.work.now)
+      stopped-below (store_given a.n a.work.now a.upper_starts.now a.upper_runs.now a.upper_index.now a.upper_values.now) a.n c.in-Stopped.k (drop (z_from a.n) a.work.now)
           (stopped-at _ _ c.back_steps-z.result _ c.in-Stopped.is c.back_steps-z.ensures.0),
     )
 
