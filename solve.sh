@@ -13,7 +13,7 @@ fail() {
     exit 2
 }
 
-# The program has no exit status, so the lines themselves tell whether they are all there.
+# The program's exit status tells of a failed write alone, so the lines themselves tell whether they are all there.
 whole() {
     printf '%s\n' "$1" | awk '
         NR == 1 && (/^refused [0-9]+ [0-9]+$/ || /^too large$/) { due = 1; next }
