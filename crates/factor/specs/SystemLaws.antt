@@ -14,9 +14,9 @@ use Rattle.base.specs.AscLaws.{has-asc, has-append, asc-ascends, length-asc}
 use Rattle.base.specs.declared.Form.{Form}
 use Rattle.base.specs.declared.Side.TheVariants.{Upper}
 use Rattle.fill.specs.Fill.{Pattern, filled, upper, upper_row, lower_row}
-use Rattle.fill.specs.RowRule.{filled-stored, filled-through}
+use Rattle.fill.proofs.RowRule.{filled-stored, filled-through}
 use Rattle.matrix.specs.Input.{Input, ic, stored, entries, right_at}
-use Rattle.matrix.specs.OrderLaws.{place-hits}
+use Rattle.matrix.proofs.OrderLaws.{place-hits}
 use Rattle.outcome.specs.Solve.{system}
 use Rattle.outcome.specs.Placed.{PlacedSide, starts-long, size-at, values-at, run_at, run_inside, list_at-is}
 use Rattle.questions.specs.Settled.{Finite, places_at}
