@@ -6,7 +6,7 @@ use Rattle.symbolic.specs.Pass.{At}
 use Rattle.base.specs.declared.Form.TheVariants.{ByRow}
 use Rattle.base.specs.declared.Side.TheVariants.{Upper}
 use Rattle.storing.specs.declared.Way.TheVariants.{Sharing}
-use Rattle.matrix.specs.Input.{Input, input_of, stored}
+use Rattle.matrix.specs.Input.{input_of, stored}
 use mathlib.Core.Path.{◌≡◌, refl}
 use Rattle.symbolic.specs.declared.SidePlace.{SidePlace}
 use Rattle.symbolic.specs.declared.SideEnd.TheVariants.{Placed}
@@ -14,7 +14,6 @@ use mathlib.Core.List.{List, []}
 use Prim.Native.Nat.{ℕ, ◌+◌}
 use native.Mathlib.Omega.{arith}
 use native.Mathlib.Numerals.{add-one}
-use borrow.Author.Rules.{rules}
 use Rattle.symbolic.proofs.analyze_place_by_row.Goals as goal
 use Rattle.symbolic.proofs.analyze_place_by_row.Goals.{After-place_side-side}
 

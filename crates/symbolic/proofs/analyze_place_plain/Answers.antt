@@ -5,14 +5,13 @@ use Rattle.symbolic.specs.Pass.{At}
 use Rattle.base.specs.declared.Form.TheVariants.{Plain}
 use Rattle.base.specs.declared.Side.TheVariants.{Upper}
 use Rattle.storing.specs.declared.Way.TheVariants.{OneAfterAnother}
-use Rattle.matrix.specs.Input.{Input, input_of, stored}
+use Rattle.matrix.specs.Input.{input_of, stored}
 use Rattle.symbolic.specs.declared.OpenRow.{OpenRow}
 use Rattle.symbolic.specs.declared.Opened.TheVariants.{Row}
 use mathlib.Core.Path.{◌≡◌, ◌∙◌}
 use mathlib.Core.List.{List, []}
 use Prim.Native.Nat.{ℕ, ◌+◌}
 use lib.ListN.{length}
-use borrow.Author.Rules.{rules}
 use Rattle.base.specs.Scratch.{upper_cuts}
 use Rattle.symbolic.proofs.analyze_place_plain.Goals as goal
 use Rattle.symbolic.proofs.analyze_place_plain.Goals.{After-append_lower-low, After-append_upper-up, After-open_place-opened}

@@ -5,14 +5,13 @@ use Rattle.symbolic.specs.Pass.{At}
 use Rattle.base.specs.declared.Form.TheVariants.{Shared}
 use Rattle.base.specs.declared.Side.TheVariants.{Lower, Upper}
 use Rattle.storing.specs.declared.Way.TheVariants.{Sharing}
-use Rattle.matrix.specs.Input.{Input, input_of, stored}
+use Rattle.matrix.specs.Input.{input_of, stored}
 use mathlib.Core.Path.{◌≡◌, refl}
 use Rattle.symbolic.specs.declared.SidePlace.{SidePlace}
 use Rattle.symbolic.specs.declared.SideEnd.TheVariants.{Placed}
 use mathlib.Core.List.{List, []}
 use Prim.Native.Nat.{ℕ, ◌+◌}
 use native.Mathlib.Omega.{arith}
-use borrow.Author.Rules.{rules}
 use Rattle.symbolic.proofs.analyze_place_shared.Goals as goal
 use Rattle.symbolic.proofs.analyze_place_shared.Goals.{After-place_side-low, After-place_side-up}
 

@@ -6,7 +6,6 @@ use Rattle.storing.specs.declared.Way.TheVariants.{OneAfterAnother}
 use mathlib.Core.List.{List}
 use Prim.Native.Nat.{ℕ}
 use native.Mathlib.Omega.{arith}
-use borrow.Author.Rules.{rules}
 use Rattle.base.specs.Scratch.{upper_cuts}
 use Rattle.symbolic.proofs.append_upper.Goals as goal
 use Rattle.symbolic.proofs.append_upper.Goals.{After-append_list-put}

@@ -1,7 +1,7 @@
 use Rattle.symbolic.proofs.Opening.{open-given, loaded-room, loaded-marks, loaded-parts, closed-marks, closed-short, row-found, base-of, base-at, parts_at, closing_at}
 use Rattle.symbolic.specs.Places.{pattern_of, cuts_of, Open}
 use Rattle.fill.specs.Fill.{filled}
-use Rattle.matrix.specs.Input.{Input, input_of}
+use Rattle.matrix.specs.Input.{input_of}
 use Rattle.marks.specs.Rows.{Closing}
 use Rattle.marks.specs.Marks.{Room, Holds}
 use Rattle.marks.specs.MarkLaws.{room-kept}
@@ -9,7 +9,6 @@ use mathlib.Core.Path.{sym, ◌∙◌}
 use mathlib.Core.List.{List, []}
 use Prim.Native.Nat.{ℕ}
 use native.Mathlib.Omega.{arith}
-use borrow.Author.Rules.{rules}
 use Rattle.symbolic.proofs.open_place.Goals as goal
 use Rattle.symbolic.proofs.open_place.Goals.{After-close_place-below}
 

@@ -2,10 +2,9 @@ use Rattle.symbolic.proofs.Sides.{side-open, side-keep, side-next}
 use Rattle.symbolic.proofs.Keeping.{told}
 use Rattle.symbolic.specs.Places.{pattern_of, OpenEnds, RowFound, KeepEnds, SideAt}
 use Rattle.storing.specs.declared.Way.TheVariants.{Sharing}
-use Rattle.matrix.specs.Input.{Input, input_of}
+use Rattle.matrix.specs.Input.{input_of}
 use mathlib.Core.List.{List, []}
 use Prim.Native.Nat.{ℕ}
-use borrow.Author.Rules.{rules}
 use mathlib.Core.Path.{◌≡◌}
 use Rattle.symbolic.specs.declared.OpenRow.{OpenRow}
 use Rattle.symbolic.specs.declared.Opened.TheVariants.{Row}

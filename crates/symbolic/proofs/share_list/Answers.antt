@@ -6,7 +6,6 @@ use Rattle.storing.specs.declared.Way.TheVariants.{Sharing}
 use mathlib.Core.List.{List}
 use Prim.Native.Nat.{ℕ}
 use native.Mathlib.Omega.{arith}
-use borrow.Author.Rules.{rules}
 use Rattle.symbolic.proofs.share_list.Goals as goal
 use Rattle.symbolic.proofs.share_list.Goals.{After-place_list-put}
 
