@@ -6,7 +6,6 @@ use Rattle.stages.specs.Shaped.{pattern}
 use Rattle.stages.specs.ShapedLaws.{shape-floor, solve-shaped, lent_of}
 use Rattle.stages.specs.Ends.{blank_of}
 use Rattle.stages.specs.Asking.{asking-stop, asking-on, solve-due}
-use borrow.Author.Rules.{rules}
 use Rattle.stages.proofs.ask_solve.Goals as goal
 use Rattle.stages.proofs.ask_solve.Goals.{After-shape_solve-shape}
 

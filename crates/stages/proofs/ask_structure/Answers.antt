@@ -5,7 +5,6 @@ use Rattle.stages.specs.Branches.{never, pass_of}
 use Rattle.stages.specs.ShapedLaws.{structure-shaped, lent_of}
 use Rattle.stages.specs.Ends.{blank_of}
 use Rattle.stages.specs.Asking.{asking-stop, asking-on, structure-due}
-use borrow.Author.Rules.{rules}
 use Rattle.stages.proofs.ask_structure.Goals as goal
 use Rattle.stages.proofs.ask_structure.Goals.{Start}
 
