@@ -4,7 +4,6 @@ use Rattle.questions.specs.SettledLaws.{settled}
 use Rattle.stages.specs.ShapedLaws.{plain-lent, pattern-structured}
 use Rattle.stages.specs.Branches.{done-with}
 use Rattle.stages.specs.Ends.{leaves-refused, both-due, both-leaves}
-use borrow.Author.Rules.{rules}
 use Rattle.plain_form.proofs.analyze_and_solve.Goals as goal
 
 pub analyze_plain-a-requires : goal.analyze_plain-a-requires

@@ -7,7 +7,6 @@ use Rattle.stages.specs.ShapedLaws.{shaped-again, plain-lent}
 use Rattle.stages.specs.Branches.{pass_of}
 use Rattle.stages.specs.Asking.{structure-stops}
 use Rattle.stages.specs.Ends.{none-if, structure-ends}
-use borrow.Author.Rules.{rules}
 use Rattle.plain_form.proofs.structure_plain.Goals as goal
 use Rattle.plain_form.proofs.structure_plain.Goals.{After-analyze_plain-a}
 
