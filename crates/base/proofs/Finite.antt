@@ -1,6 +1,6 @@
 -- The code's test of a float: x - x is zero exactly where x is finite.
 use mathlib.Core.Path.{◌≡◌, refl, sym, ◌∙◌}
-use Prim.Native.Nat.{ℕ, ◌-◌, ◌*◌, ◌<◌}
+use Prim.Native.Nat.{ℕ, ◌*◌, ◌<◌}
 use native.Mathlib.Nat.{sub_self, zero-mul, mul-one, mul-pos, le_refl, eq_of_mul-eq-mul_right}
 use mathlib.Core.Bool.{Bool, true, false, ◌&&◌, beq}
 use borrow.Author.Tests.{le-ltb}

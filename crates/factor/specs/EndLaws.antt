@@ -195,7 +195,7 @@ start-zero f P n starts runs index size h = start-at f Upper P n starts runs ind
 joined-none : {A : Type 0} (n : ℕ) → joined {A = A} (λ (k : ℕ). []) n ≡ []
 unfolding joined
 joined-none zero = refl
-joined-none (suc n) = rw (joined-none n)
+joined-none {A} (suc n) = ap (λ (l : List A). l ++ []) (joined-none n)
 
 -- L by form
 lower-kept : (f : Form) (i : Input) (L : PlacedLists) (rows : List Row) (cursors : List ℕ) (l : List Float) → LowerPlaced f (stored i) i.n L l

@@ -1,3 +1,2 @@
 // The theory of the fill: definitions in specs/Fill, laws beside it. No code.
 #![tactic(auto)]
-

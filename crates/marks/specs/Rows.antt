@@ -1,10 +1,10 @@
 -- One place of one side of the symbolic elimination: what its steps find and leave. P is the side's pattern: M' for the upper side,
 -- M' with rows and columns exchanged for the lower one. Definitions only.
-use Rattle.std.specs.Prelude.{◌≡◌, List, ◌++◌, map, ℕ, ◌+◌, ◌-◌, ◌<◌, ◌≤◌, length, get_or}
+use Rattle.std.specs.Prelude.{◌≡◌, List, ◌++◌, map, ℕ, ◌+◌, ◌<◌, ◌≤◌, length, get_or}
 use Rattle.std.proofs.lemmas.List.Edits.{sets}
 use Rattle.base.specs.Lists.{list_at, row_of, has, total}
 use Rattle.fill.specs.Fill.{Pattern, filled, upper_row, lower_row}
-use Rattle.fill.specs.Prune.{Pair}
+use Rattle.fill.proofs.Prune.{Pair}
 use Rattle.lent.specs.Reading.{ListIn, order_of, placed, But}
 use Rattle.marks.specs.Marks.{Fresh, Holds, Unmarked, upto}
 use Rattle.base.specs.Scratch.{list_from}

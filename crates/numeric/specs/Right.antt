@@ -10,7 +10,7 @@ use Rattle.base.specs.Tests.{by-test, or_right}
 use Rattle.lent.specs.Reading.{Below}
 use Rattle.arithmetic.specs.Arith.{ok}
 use Rattle.arithmetic.specs.Stopping.{any, subtract, rest}
-use Rattle.arithmetic.specs.Sticky.{ok-inj}
+use Rattle.arithmetic.proofs.Sticky.{ok-inj}
 use Rattle.numeric.specs.Stores.{Ascending}
 use Rattle.numeric.specs.Rows.{only, beside}
 use Rattle.numeric.specs.RowLaws.{asc-head, asc-tail, mem-has}
@@ -66,14 +66,14 @@ unfolding rest
 rest-snoc t [] [] z j u r l e = rw (← ok-inj e)
 rest-snoc t [] (v ∷ us) z j u r l e = absurd (omega arith)
 rest-snoc t (i ∷ js) [] z j u r l e = absurd (omega arith)
-rest-snoc t (i ∷ js) (v ∷ us) z j u r l e = rest-snoc _ js us z j u r (omega arith) e
+rest-snoc t (i ∷ js) (v ∷ us) z j u r l e = rest-snoc (sub binary64 t (mul binary64 v (get_or z i nan))) js us z j u r (omega arith) e
 
 -- only the z at the listed places count
 pub rest-same : (t : Float) (js : List ℕ) (us z x : List Float) → ((j : ℕ) → has js j ≡ true → get_or z j nan ≡ get_or x j nan) → rest any t js us z ≡ rest any t js us x
 unfolding rest has
 rest-same t [] us z x e = refl
 rest-same t (j ∷ js) [] z x e = refl
-rest-same t (j ∷ js) (u ∷ us) z x e = rw (e j (rw (eq-eqb j j refl))) (rest-same _ js us z x (λ i m. e i (or_right (eqb j i) (has js i) m)))
+rest-same t (j ∷ js) (u ∷ us) z x e = rw (e j (rw (eq-eqb j j refl))) (rest-same (sub binary64 t (mul binary64 u (get_or x j nan))) js us z x (λ i m. e i (or_right (eqb j i) (has js i) m)))
 
 across-length : (column : ℕ → List ℕ) (ls : ℕ → List Float) (j k : ℕ) → length (asc (λ i. has (column i) j) k) ≡ length (across column ls j k)
 unfolding across asc

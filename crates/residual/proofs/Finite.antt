@@ -9,7 +9,7 @@ use lib.Ieee.Scale.{finite}
 use Rattle.base.specs.Magnitude.{magnitude}
 use Rattle.base.specs.Tests.{and_cases, true-ext}
 use Rattle.arithmetic.specs.RowEnd.{finite_all}
-use Rattle.arithmetic.specs.Sticky.{mul_left, mul_right, add_left, add_right, sub-left, sub-right}
+use Rattle.arithmetic.proofs.Sticky.{mul_left, mul_right, add_left, add_right, sub-left, sub-right}
 use Rattle.residual.proofs.Run.{results-parts, width-parts}
 use Rattle.residual.specs.Residual.{Entry, product, residual_from, total_from, share, least, width_from, width_of, results_from, results}
 
@@ -24,12 +24,12 @@ both a b p q = rw (p, q)
 residual-starts : (r : Float) (l : List Entry) → finite (residual_from r l) ≡ true → finite r ≡ true
 unfolding residual_from
 residual-starts r [] h = h
-residual-starts r (e ∷ l) h = back _ _ (sub-left binary64 r (product e)) (residual-starts _ l h)
+residual-starts r (e ∷ l) h = back _ _ (sub-left binary64 r (product e)) (residual-starts (sub binary64 r (product e)) l h)
 
 total-starts : (t : Float) (l : List Entry) → finite (total_from t l) ≡ true → finite t ≡ true
 unfolding total_from
 total-starts t [] h = h
-total-starts t (e ∷ l) h = back _ _ (add_left binary64 t (magnitude (product e))) (total-starts _ l h)
+total-starts t (e ∷ l) h = back _ _ (add_left binary64 t (magnitude (product e))) (total-starts (add binary64 t (magnitude (product e))) l h)
 
 -- the product in a width that is finite
 scaled-ends : (t : Float) (q : ℕ) → finite (width_from t q) ≡ true → finite (mul binary64 t (share q)) ≡ true
@@ -45,12 +45,12 @@ ends-all r t q (e ∷ l) h k =
     let s = residual-starts (sub binary64 r (product e)) l h in
     let T = total_from (add binary64 t (magnitude (product e))) l in
     let u = total-starts _ l (back _ _ (mul_left binary64 T (share q)) (scaled-ends T q k)) in
-    both _ _ (back _ _ (sub-right binary64 r (product e)) s) (both _ _ s (both _ _ u (ends-all _ _ q l h k)))
+    both _ _ (back _ _ (sub-right binary64 r (product e)) s) (both _ _ s (both _ _ u (ends-all (sub binary64 r (product e)) (add binary64 t (magnitude (product e))) q l h k)))
 
 all-ends : (r t : Float) (q : ℕ) (l : List Entry) → finite r ≡ true → finite_all (results_from r t q l) ≡ true → (finite (residual_from r l) && finite (width_from (total_from t l) q)) ≡ true
 unfolding residual_from total_from
 all-ends r t q [] h g = both _ _ h (width-parts r t q g).3
-all-ends r t q (e ∷ l) h g = let f = results-parts r t q e l g in all-ends _ _ q l f.1 f.3
+all-ends r t q (e ∷ l) h g = let f = results-parts r t q e l g in all-ends (sub binary64 r (product e)) (add binary64 t (magnitude (product e))) q l f.1 f.3
 
 -- the two tests of the code
 pub results-finite : (b : Float) (l : List Entry) → finite b ≡ true → finite_all (results b l) ≡ (finite (residual_from b l) && finite (width_of b l))

@@ -6,17 +6,18 @@ use Prim.Native.Nat.{ℕ, ◌+◌, ◌*◌, ◌^◌, ◌≤◌}
 use native.Mathlib.Nat.{zero-mul, mul-one, add-mul, mul_assoc, mul_left_comm, mul_right_comm}
 use native.Mathlib.Omega.{arith}
 use lib.IntN.{pos, negsuc}
-use lib.Ieee.{Float, nan, inf, fin, binary64, mul, of_int, up, down, unlike, fits}
+use lib.Ieee.{Float, nan, inf, fin, binary64, add, sub, mul, of_int, up, down, unlike, fits}
 use lib.Ieee.Fits.{of_int-fits}
 use lib.Ieee.Exact.{HasValue}
 use lib.Ieee.Back.{round_whole}
 use lib.Ieee.Bits.{is_true}
 use lib.Ieee.Scale.{finite}
+use Rattle.base.specs.Magnitude.{magnitude}
 use Rattle.arithmetic.specs.RowEnd.{finite_all}
 use Rattle.rounding.specs.Values.{Held, ulps, unit, negative, over, under}
 use Rattle.rounding.proofs.Operations.{Is, is-value}
 use Rattle.rounding.proofs.Bounds.{fl, fl-exact, parts, add-upward, mul_is, mul-held, over-is}
-use Rattle.residual.specs.Residual.{Entry, longest_row, residual_from, total_from, number, share, least, width_from, results_from}
+use Rattle.residual.specs.Residual.{Entry, longest_row, product, residual_from, total_from, number, share, least, width_from, results_from}
 use Rattle.residual.proofs.Run.{results-parts, width-parts}
 
 -- ---- the two factors: nothing is lost in them
@@ -110,7 +111,7 @@ upward-size x u = let p = parts x in omega arith
 pub last-results : (r t : Float) (q : ℕ) (l : List Entry) → finite_all (results_from r t q l) ≡ true → finite_all (results_from (residual_from r l) (total_from t l) q []) ≡ true
 unfolding residual_from total_from
 last-results r t q [] g = g
-last-results r t q (e ∷ l) g = last-results _ _ q l (results-parts r t q e l g).3
+last-results r t q (e ∷ l) g = last-results (sub binary64 r (product e)) (add binary64 t (magnitude (product e))) q l (results-parts r t q e l g).3
 
 pub width_is : (r t : Float) (q : ℕ) → q ≤ longest_row → Held t → under t ≡ 0 → finite_all (results_from r t q []) ≡ true
     → (over (width_from t q) ≡ ulps (width_from t q)) × (ulps (width_from t q) ≡ fl ((fl (scaled (ulps t) q) + q) * unit))

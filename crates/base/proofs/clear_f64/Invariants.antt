@@ -1,8 +1,7 @@
 use Prim.Native.Nat.{◌≤◌, ◌-◌}
 use mathlib.Core.Path.{◌≡◌}
-use borrow.Author.Rules.{rules}
-use lib.ListN.{length, length-set}
-use Rattle.base.specs.ZerosLaws.{filling, filling-none, filling-more, filling-all}
+use lib.ListN.{length}
+use Rattle.base.specs.ZerosLaws.{filling}
 use Rattle.base.specs.Lists.{nought}
 use Rattle.base.proofs.clear_f64.Given as goal
 

@@ -1,8 +1,6 @@
-use Prim.Native.Nat.{◌≤◌, ◌-◌}
-use mathlib.Core.Path.{◌≡◌}
 use borrow.Author.Rules.{rules}
-use lib.ListN.{length, length-set}
-use Rattle.base.specs.ZerosLaws.{filling, filling-none, filling-more, filling-all}
+use lib.ListN.{length-set}
+use Rattle.base.specs.ZerosLaws.{filling-none, filling-more, filling-all}
 use Rattle.base.proofs.clear_u32.Goals as goal
 
 pub loop-i-init : goal.loop-i-init

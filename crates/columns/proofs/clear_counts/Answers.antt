@@ -1,7 +1,5 @@
 use lib.ListN.{length-set}
-use Prim.Native.Nat.{◌-◌, ◌≤◌}
-use Rattle.columns.proofs.WindowLaws.{Clearing, clear-start, clear-more, clear-end}
-use borrow.Author.Rules.{rules}
+use Rattle.columns.proofs.WindowLaws.{clear-start, clear-more, clear-end}
 use native.Mathlib.Omega.{arith}
 use Rattle.columns.proofs.clear_counts.Goals as goal
 

@@ -1,8 +1,5 @@
-use lib.ListN.{length-set}
 use Prim.Native.Nat.{◌-◌, ◌≤◌}
-use Rattle.columns.proofs.WindowLaws.{Clearing, clear-start, clear-more, clear-end}
-use borrow.Author.Rules.{rules}
-use native.Mathlib.Omega.{arith}
+use Rattle.columns.proofs.WindowLaws.{Clearing}
 use Rattle.columns.proofs.clear_counts.Given as goal
 
 abbrev pub invariant-loop-j : goal.invariant-loop-j

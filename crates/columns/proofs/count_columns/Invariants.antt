@@ -1,10 +1,6 @@
 use Prim.Native.Nat.{◌-◌, ◌≤◌}
 use Rattle.lent.specs.Reading.{order_of}
 use Rattle.columns.specs.Columns.{places_by_row, column, Tally}
-use Rattle.columns.proofs.WindowLaws.{tally-start, tally-room, tally-more, tally-end}
-use Rattle.columns.proofs.Keeps.{row_is, row_below, order-kept, given-kept}
-use borrow.Author.Rules.{rules}
-use native.Mathlib.Omega.{arith}
 use Rattle.columns.proofs.count_columns.Given as goal
 
 abbrev pub invariant-loop-k : goal.invariant-loop-k

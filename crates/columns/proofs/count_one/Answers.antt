@@ -2,7 +2,6 @@ use mathlib.Core.Path.{refl}
 use lib.ListN.{length-set}
 use Rattle.columns.proofs.WindowLaws.{one-counted, counted-before}
 use native.Mathlib.Omega.{arith}
-use borrow.Author.Rules.{rules}
 use Rattle.columns.proofs.count_one.Goals as goal
 
 pub returns-then-marks-n : goal.returns-then-marks-n

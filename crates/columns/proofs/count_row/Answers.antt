@@ -1,13 +1,9 @@
-use Rattle.columns.specs.Columns.{Counted}
 use Rattle.columns.proofs.WindowLaws.{count_room}
 use Rattle.columns.proofs.ColumnLaws.{row-start, row_more, row-end}
 use Rattle.lent.specs.ReadingLaws.{placed-length}
 use Rattle.marks.specs.MarkLaws.{entry_read, entry-below, room-kept}
-use Rattle.lent.specs.Reading.{order_of, placed}
-use lib.ListN.{length, take}
-use Prim.Native.Nat.{◌-◌, ◌≤◌}
+use Rattle.lent.specs.Reading.{order_of}
 use Rattle.columns.proofs.Keeps.{order-kept}
-use borrow.Author.Rules.{rules}
 use native.Mathlib.Omega.{arith}
 use Rattle.columns.proofs.count_row.Goals as goal
 
@@ -23,7 +19,7 @@ count_one-requires c =
     let k = c.loop-q.invariant.1.kept in
     let e = entry_read c.args.n c.loop-q.q _ _ _ c.args.cols.now (omega arith) (order-kept c.args.n 0 c.args.n k) c.entry_place-j.ensures in
     let b = entry-below c.args.n c.loop-q.q _ _ c.args.cols.now c.requires.order c.requires.below e.0 e.1 in
-    record { room = room-kept _ _ _ k.size c.requires.room; i_lt_n = (c.requires.i_lt_n, b, count_room c.requires.i_lt_n b c.requires.order.1.1.1 c.loop-q.invariant.1) }
+    record { room = room-kept _ _ _ k.size c.requires.room; i_lt_n = (c.requires.i_lt_n.0, b, count_room c.requires.i_lt_n.0 b c.requires.i_lt_n.1 c.loop-q.invariant.1) }
 
 pub loop-q-preserved : goal.loop-q-preserved
 loop-q-preserved c =

@@ -1,14 +1,7 @@
 use Rattle.columns.specs.Columns.{Counted}
-use Rattle.columns.proofs.WindowLaws.{count_room}
-use Rattle.columns.proofs.ColumnLaws.{row-start, row_more, row-end}
-use Rattle.lent.specs.ReadingLaws.{placed-length}
-use Rattle.marks.specs.MarkLaws.{entry_read, entry-below, room-kept}
 use Rattle.lent.specs.Reading.{order_of, placed}
 use lib.ListN.{length, take}
 use Prim.Native.Nat.{◌-◌, ◌≤◌}
-use Rattle.columns.proofs.Keeps.{order-kept}
-use borrow.Author.Rules.{rules}
-use native.Mathlib.Omega.{arith}
 use Rattle.columns.proofs.count_row.Given as goal
 
 abbrev pub invariant-loop-q : goal.invariant-loop-q

@@ -1,10 +1,7 @@
 use Prim.Native.Nat.{◌-◌, ◌≤◌}
 use Rattle.lent.specs.Reading.{order_of}
 use Rattle.columns.specs.Columns.{places_by_row}
-use Rattle.columns.proofs.WindowLaws.{Filling, fill_start, fill-room, fill_more, fill_end}
-use Rattle.columns.proofs.Keeps.{row_is, row_below, order-kept, given-kept}
-use borrow.Author.Rules.{rules}
-use native.Mathlib.Omega.{arith}
+use Rattle.columns.proofs.WindowLaws.{Filling}
 use Rattle.columns.proofs.fill_window.Given as goal
 
 abbrev pub invariant-loop-k : goal.invariant-loop-k

@@ -1,6 +1,5 @@
 use Rattle.columns.proofs.ListLaws.{leads-none, leads-node}
 use native.Mathlib.Omega.{arith}
-use borrow.Author.Rules.{rules}
 use Rattle.columns.proofs.leads_with.Goals as goal
 
 pub returns-then-head-eq0 : goal.returns-then-head-eq0

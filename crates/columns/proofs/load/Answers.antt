@@ -2,7 +2,6 @@ use mathlib.Core.Path.{refl}
 use Rattle.columns.proofs.SideLaws.{lower-ready, lower-loaded, upper-loaded}
 use Rattle.columns.proofs.Keeps.{row_is, row_below}
 use native.Mathlib.Omega.{arith}
-use borrow.Author.Rules.{rules}
 use Rattle.columns.proofs.load.Goals as goal
 
 pub load_column-requires : goal.load_column-requires

@@ -1,6 +1,5 @@
 use Rattle.columns.proofs.WindowLaws.{loaded, window-list, window-head}
 use Rattle.marks.specs.MarkLaws.{room-kept}
-use borrow.Author.Rules.{rules}
 use Rattle.columns.proofs.load_column.Goals as goal
 
 pub stamp_list-requires : goal.stamp_list-requires

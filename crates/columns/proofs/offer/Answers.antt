@@ -1,6 +1,5 @@
 use Rattle.columns.proofs.ListLaws.{offer-out, offer-list, offer-again, offer-room, offer-push}
 use native.Mathlib.Omega.{arith}
-use borrow.Author.Rules.{rules}
 use Rattle.columns.proofs.offer.Goals as goal
 
 pub returns-then-j-lo : goal.returns-then-j-lo

@@ -1,14 +1,7 @@
-use Rattle.lent.specs.ReadingLaws.{placed-length}
-use Rattle.marks.specs.MarkLaws.{entry_read, room-kept}
 use Rattle.lent.specs.Reading.{order_of, placed}
 use Rattle.columns.specs.Columns.{Offered}
 use lib.ListN.{length, take}
 use Prim.Native.Nat.{◌-◌, ◌≤◌}
-use Rattle.columns.proofs.ListLaws.{row_room}
-use Rattle.columns.proofs.ColumnLaws.{row-start, row_more, row-end}
-use Rattle.columns.proofs.Keeps.{order-kept}
-use borrow.Author.Rules.{rules}
-use native.Mathlib.Omega.{arith}
 use Rattle.columns.proofs.offer_row.Given as goal
 
 abbrev pub invariant-loop-q : goal.invariant-loop-q

@@ -1,6 +1,4 @@
-use Prim.Native.Nat.{◌-◌}
-use Rattle.columns.proofs.WindowLaws.{Opening, open-start, open_more, open-stop, open-end}
-use borrow.Author.Rules.{rules}
+use Rattle.columns.proofs.WindowLaws.{open-start, open_more, open-stop, open-end}
 use native.Mathlib.Omega.{arith}
 use Rattle.columns.proofs.open_window.Goals as goal
 

@@ -1,7 +1,5 @@
 use Prim.Native.Nat.{◌-◌}
-use Rattle.columns.proofs.WindowLaws.{Opening, open-start, open_more, open-stop, open-end}
-use borrow.Author.Rules.{rules}
-use native.Mathlib.Omega.{arith}
+use Rattle.columns.proofs.WindowLaws.{Opening}
 use Rattle.columns.proofs.open_window.Given as goal
 
 abbrev pub invariant-loop-hi : goal.invariant-loop-hi

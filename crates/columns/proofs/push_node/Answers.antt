@@ -1,6 +1,5 @@
 use lib.ListN.{length-set}
 use native.Mathlib.Omega.{arith}
-use borrow.Author.Rules.{rules}
 use Rattle.columns.proofs.push_node.Goals as goal
 
 pub bounds-marks-b-2 : goal.bounds-marks-b-2

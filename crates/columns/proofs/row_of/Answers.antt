@@ -1,7 +1,6 @@
 use mathlib.Core.Path.{◌∙◌, ap}
 use Rattle.base.specs.Lists.{row_of}
 use Rattle.lent.specs.ReadingLaws.{own_in}
-use borrow.Author.Rules.{rules}
 use Rattle.columns.proofs.row_of.Goals as goal
 
 pub row_columns-requires : goal.row_columns-requires

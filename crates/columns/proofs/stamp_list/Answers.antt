@@ -1,6 +1,5 @@
 use Rattle.marks.specs.MarkLaws.{room-kept}
-use Rattle.columns.proofs.ListLaws.{Walk, walk_start, walk-node, walk_more, left_end}
-use borrow.Author.Rules.{rules}
+use Rattle.columns.proofs.ListLaws.{walk_start, walk-node, walk_more, left_end}
 use native.Mathlib.Omega.{arith}
 use Rattle.columns.proofs.stamp_list.Goals as goal
 

@@ -1,7 +1,4 @@
-use Rattle.marks.specs.MarkLaws.{room-kept}
-use Rattle.columns.proofs.ListLaws.{Walk, walk_start, walk-node, walk_more, left_end}
-use borrow.Author.Rules.{rules}
-use native.Mathlib.Omega.{arith}
+use Rattle.columns.proofs.ListLaws.{Walk}
 use Rattle.columns.proofs.stamp_list.Given as goal
 
 abbrev pub invariant-loop-h : goal.invariant-loop-h

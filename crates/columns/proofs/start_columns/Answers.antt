@@ -1,6 +1,5 @@
 use Rattle.columns.proofs.WindowLaws.{started}
 use Rattle.columns.proofs.Keeps.{order-kept, given-kept}
-use borrow.Author.Rules.{rules}
 use Rattle.columns.proofs.start_columns.Goals as goal
 
 pub count_columns-requires : goal.count_columns-requires

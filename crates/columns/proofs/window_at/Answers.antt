@@ -1,7 +1,6 @@
 use Rattle.columns.proofs.WindowLaws.{window-fits, window-made}
 use Rattle.columns.proofs.Keeps.{order-kept, given-kept, rows_same}
 use native.Mathlib.Omega.{arith}
-use borrow.Author.Rules.{rules}
 use Rattle.columns.proofs.window_at.Goals as goal
 
 pub fill_window-requires : goal.fill_window-requires

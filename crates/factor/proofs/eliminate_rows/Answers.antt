@@ -1,18 +1,15 @@
 use mathlib.Core.Path.{◌∙◌}
-use Rattle.factor.specs.TurnLaws.{SameSizes, sizes-none, sizes-then, came-on, came-off, came-done}
+use Rattle.factor.specs.TurnLaws.{sizes-none, sizes-then, came-on, came-off, came-done}
 use Rattle.factor.specs.Factoring.{written, lists, Going}
 use Rattle.matrix.specs.Input.{input_of, with_floor}
-use mathlib.Core.List.{List}
-use Prim.Native.Nat.{ℕ, ◌≤◌, ◌-◌}
-use borrow.Author.Rules.{rules}
 use native.Mathlib.Omega.{arith}
 use Rattle.factor.proofs.eliminate_rows.Goals as goal
 use Rattle.factor.proofs.eliminate_rows.Goals.{At-loop-k}
 
 -- the rows are done, for the column order that is lent
 done : (l : At-loop-k) → Going l.args.form (with_floor l.args.floor (input_of l.args.n l.args.starts.now l.args.columns.now l.args.values.now l.args.r.now l.requires.0 l.args.b.now))
-    (lists l.args.lower-starts.now l.args.lower-index.now l.args.upper-starts.now l.args.upper-runs.now l.args.upper-index.now) l.loop-k.k
-    (written l.loop-k.lower-values l.loop-k.upper-values l.loop-k.d l.loop-k.work l.loop-k.marks)
+    (lists l.args.lower_starts.now l.args.lower_index.now l.args.upper_starts.now l.args.upper_runs.now l.args.upper_index.now) l.loop-k.k
+    (written l.loop-k.lower_values l.loop-k.upper_values l.loop-k.d l.loop-k.work l.loop-k.marks)
 done l = l.loop-k.invariant.2 l.requires.0 l.requires.1
 
 pub loop-k-init : goal.loop-k-init

@@ -5,21 +5,20 @@ use Rattle.matrix.specs.Input.{Input, input_of, with_floor}
 use mathlib.Core.Path.{refl}
 use mathlib.Core.List.{List}
 use Prim.Native.Nat.{ℕ}
-use borrow.Author.Rules.{rules}
 use Rattle.factor.proofs.factor.Goals as goal
-use Rattle.factor.proofs.factor.Goals.{After-clear_for_rows, Start}
+use Rattle.factor.proofs.factor.Goals.{After-clear_for_rows}
 
 -- the input with some column order, and the lists
-abbrev given : Start → List ℕ → Input
-given s o = with_floor s.args.floor (input_of s.args.n s.args.starts.now s.args.columns.now s.args.values.now s.args.r.now o s.args.b.now)
+abbrev given : After-clear_for_rows → List ℕ → Input
+given q o = with_floor q.args.floor (input_of q.args.n q.args.starts.now q.args.columns.now q.args.values.now q.args.r.now o q.args.b.now)
 
-abbrev stores : Start → PlacedLists
-stores s = lists s.args.lower-starts.now s.args.lower-index.now s.args.upper-starts.now s.args.upper-runs.now s.args.upper-index.now
+abbrev stores : After-clear_for_rows → PlacedLists
+stores q = lists q.args.lower_starts.now q.args.lower_index.now q.args.upper_starts.now q.args.upper_runs.now q.args.upper_index.now
 
 -- no row is done yet
 begun : (q : After-clear_for_rows) (o : List ℕ)
-    → Factorable q.args.form (given (goal.at.begun q).Start o) (stores (goal.at.begun q).Start) (written q.args.lower-values.now q.args.upper-values.now q.args.d.now q.args.work.now q.args.marks.now)
-    → Going q.args.form (given (goal.at.begun q).Start o) (stores (goal.at.begun q).Start) 0
+    → Factorable q.args.form (given q o) (stores q) (written q.args.lower_values.now q.args.upper_values.now q.args.d.now q.args.work.now q.args.marks.now)
+    → Going q.args.form (given q o) (stores q) 0
     (written q.clear_for_rows.new.lower_values q.clear_for_rows.new.upper_values q.args.d.now q.clear_for_rows.new.work q.clear_for_rows.new.marks)
 begun q o F =
     let e = q.clear_for_rows in

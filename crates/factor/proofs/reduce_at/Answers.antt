@@ -7,21 +7,20 @@ use Rattle.matrix.specs.Input.{input_of, with_floor}
 use mathlib.Core.List.{List}
 use Prim.Native.Nat.{ℕ}
 use lib.ListN.{length}
-use borrow.Author.Rules.{rules}
 use Rattle.factor.proofs.reduce_at.Goals as goal
 use Rattle.factor.proofs.reduce_at.Goals.{After-lower_at-below}
 
 -- the row once its lower row stands in the marks, for any column order that fits
 stands : (c : After-lower_at-below) (o : List ℕ)
-    → RowReady c.args.form (with_floor c.args.floor (input_of c.args.n c.args.starts.now c.args.columns.now c.args.values.now c.args.r.now o c.args.b.now)) (lists c.args.lower-starts.now c.args.lower-index.now c.args.upper-starts.now c.args.upper-runs.now c.args.upper-index.now)
-    c.args.k.0 (length c.args.upper-values.now) (length c.args.work.now) c.args.marks.now
-    → RowAt (with_floor c.args.floor (input_of c.args.n c.args.starts.now c.args.columns.now c.args.values.now c.args.r.now o c.args.b.now)) c.args.k.0 c.lower_at-below.result c.args.upper-starts.now c.args.upper-runs.now c.args.upper-index.now
-    c.lower_at-below.new.marks (length c.args.upper-values.now) (length c.args.work.now)
+    → RowReady c.args.form (with_floor c.args.floor (input_of c.args.n c.args.starts.now c.args.columns.now c.args.values.now c.args.r.now o c.args.b.now)) (lists c.args.lower_starts.now c.args.lower_index.now c.args.upper_starts.now c.args.upper_runs.now c.args.upper_index.now)
+    c.args.k.0 (length c.args.upper_values.now) (length c.args.work.now) c.args.marks.now
+    → RowAt (with_floor c.args.floor (input_of c.args.n c.args.starts.now c.args.columns.now c.args.values.now c.args.r.now o c.args.b.now)) c.args.k.0 c.lower_at-below.result c.args.upper_starts.now c.args.upper_runs.now c.args.upper_index.now
+    c.lower_at-below.new.marks (length c.args.upper_values.now) (length c.args.work.now)
 stands c o h = h.row c.lower_at-below.new.marks c.lower_at-below.result c.lower_at-below.auto.marks c.lower_at-below.ensures
 
 here : (c : After-lower_at-below) → RowAt (with_floor c.args.floor (input_of c.args.n c.args.starts.now c.args.columns.now c.args.values.now c.args.r.now c.requires.0 c.args.b.now))
-    c.args.k.0 c.lower_at-below.result c.args.upper-starts.now c.args.upper-runs.now c.args.upper-index.now
-    c.lower_at-below.new.marks (length c.args.upper-values.now) (length c.args.work.now)
+    c.args.k.0 c.lower_at-below.result c.args.upper_starts.now c.args.upper_runs.now c.args.upper_index.now
+    c.lower_at-below.new.marks (length c.args.upper_values.now) (length c.args.work.now)
 here c = stands c c.requires.0 c.requires.1
 
 pub row_columns-own-requires : goal.row_columns-own-requires
@@ -42,7 +41,7 @@ row_right-right-requires c =
 pub reduce_row-pivot-requires : goal.reduce_row-pivot-requires
 reduce_row-pivot-requires c =
     let a = c.args in
-    row-reducible _ a.k.0 c.lower_at-below.result a.upper-starts.now a.upper-runs.now a.upper-index.now c.lower_at-below.new.marks (length a.upper-values.now) (length a.work.now) (here (goal.at.reduce_row-pivot-requires c).After-lower_at-below)
+    row-reducible _ a.k.0 c.lower_at-below.result a.upper_starts.now a.upper_runs.now a.upper_index.now c.lower_at-below.new.marks (length a.upper_values.now) (length a.work.now) (here (goal.at.reduce_row-pivot-requires c).After-lower_at-below)
     c.own_row-row.result c.row_columns-own.result.now c.lower_part-lower.result.now c.row_values-entries.result.now c.row_right-right.result
     c.own_row-row.ensures c.row_columns-own.ensures c.row_values-entries.ensures c.row_right-right.ensures c.lower_part-lower.ensures
 
@@ -53,7 +52,7 @@ returns c =
       λ o rows h H.
           let i = (with_floor a.floor (input_of a.n a.starts.now a.columns.now a.values.now a.r.now o a.b.now)) in
           c.reduce_row-pivot.ensures (system i) rows H
-          (row-lent i a.k.0 c.lower_at-below.result a.upper-starts.now a.upper-runs.now a.upper-index.now c.lower_at-below.new.marks (length a.upper-values.now) (length a.work.now) (stands (goal.at.returns c).After-lower_at-below o h)
+          (row-lent i a.k.0 c.lower_at-below.result a.upper_starts.now a.upper_runs.now a.upper_index.now c.lower_at-below.new.marks (length a.upper_values.now) (length a.work.now) (stands (goal.at.returns c).After-lower_at-below o h)
           c.own_row-row.result c.row_columns-own.result.now c.lower_part-lower.result.now c.row_values-entries.result.now c.row_right-right.result
           c.own_row-row.ensures c.row_columns-own.ensures c.row_values-entries.ensures c.row_right-right.ensures c.lower_part-lower.ensures)
           (system-closed i a.k.0 (stands (goal.at.returns c).After-lower_at-below o h).place),

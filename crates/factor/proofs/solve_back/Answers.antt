@@ -2,7 +2,6 @@ use Rattle.factor.specs.EndLaws.{stopped-below, complete-at, stopped-at}
 use Rattle.numeric.specs.Stores.{store_given}
 use lib.ListN.{drop}
 use native.Mathlib.Omega.{arith}
-use borrow.Author.Rules.{rules}
 use Rattle.base.specs.Scratch.{z_from}
 use Rattle.factor.proofs.solve_back.Goals as goal
 
@@ -12,7 +11,7 @@ overflow_cast-result c =
     omega (
       arith,
       c.requires.few,
-      stopped-below (store_given a.n a.work.now a.upper-starts.now a.upper-runs.now a.upper-index.now a.upper-values.now) a.n c.in-Stopped.k (drop (z_from a.n) a.work.now)
+      stopped-below (store_given a.n a.work.now a.upper_starts.now a.upper_runs.now a.upper_index.now a.upper_values.now) a.n c.in-Stopped.k (drop (z_from a.n) a.work.now)
           (stopped-at _ _ c.back_steps-z.result _ c.in-Stopped.is c.back_steps-z.ensures.0),
     )
 

@@ -1,9 +1,9 @@
 use Rattle.std.proofs.Common.{ap}
 use mathlib.Core.Bool.{not}
+use borrow.Author.Tests.{eq-eqb, ne_eqb}
 use native.Mathlib.Omega.{arith}
 use Rattle.factor_contents.specs.FactorFile.{lists_at}
 use Rattle.factor_contents.proofs.CallLaws.{orders-there, products-there, contents-5, contents-15, contents-21, contents-pass}
-use borrow.Author.Rules.{rules}
 use Rattle.factor_contents.proofs.ask_contents_in.Goals as goal
 
 pub returns-in-Stop : goal.returns-in-Stop
@@ -26,10 +26,10 @@ pub returns-then-not-products-sum : goal.returns-then-not-products-sum
 unfolding lists_at
 returns-then-not-products-sum c =
     let o = c.offsets_of-at.ensures in
-    contents-21 _ _ _ _ (orders-there _ _ _ _ _ _ _ o.6 o.7 c.ask_orders_in-orders.ensures) c.in_default.is _ c.ask_15_in-lists.ensures c.in_default-lists.is _ (products-there _ _ _ _ _ _ _ _ o.1 o.0 c.products_in-sum.ensures) (ap not c.if-not-products-sum.true)
+    contents-21 _ _ _ _ (orders-there _ _ _ _ _ _ _ o.6 o.7 c.ask_orders_in-orders.ensures) c.in_default.is _ c.ask_15_in-lists.ensures c.in_default-lists.is _ (products-there _ _ _ _ _ _ _ _ o.1 o.0 c.products_in-sum.ensures) (ap not (ne_eqb _ _ c.if-not-products-sum.true))
 
 pub returns : goal.returns
 unfolding lists_at
 returns c =
     let o = c.offsets_of-at.ensures in
-    contents-pass _ _ _ _ (orders-there _ _ _ _ _ _ _ o.6 o.7 c.ask_orders_in-orders.ensures) c.in_default.is _ c.ask_15_in-lists.ensures c.in_default-lists.is _ (products-there _ _ _ _ _ _ _ _ o.1 o.0 c.products_in-sum.ensures) (ap not c.if-not-products-sum.false)
+    contents-pass _ _ _ _ (orders-there _ _ _ _ _ _ _ o.6 o.7 c.ask_orders_in-orders.ensures) c.in_default.is _ c.ask_15_in-lists.ensures c.in_default-lists.is _ (products-there _ _ _ _ _ _ _ _ o.1 o.0 c.products_in-sum.ensures) (ap not (eq-eqb _ _ c.if-not-products-sum.false))

@@ -1,10 +1,6 @@
-use mathlib.Core.Path.{◌≡◌, sym, ◌∙◌}
-use Prim.Native.Nat.{◌-◌, ◌≤◌}
+use mathlib.Core.Path.{sym, ◌∙◌}
 use native.Mathlib.Omega.{arith}
-use lib.ListN.{length, drop}
-use Rattle.arithmetic.specs.RowEnd.{finite_all}
 use Rattle.factors.specs.PresentedLaws.{finite-more, finite-stop, finite-end}
-use borrow.Author.Rules.{rules}
 use Rattle.factors.proofs.all_finite.Goals as goal
 
 pub loop-p-preserved : goal.loop-p-preserved

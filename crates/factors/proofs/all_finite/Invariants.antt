@@ -1,10 +1,7 @@
-use mathlib.Core.Path.{◌≡◌, sym, ◌∙◌}
+use mathlib.Core.Path.{◌≡◌}
 use Prim.Native.Nat.{◌-◌, ◌≤◌}
-use native.Mathlib.Omega.{arith}
 use lib.ListN.{length, drop}
 use Rattle.arithmetic.specs.RowEnd.{finite_all}
-use Rattle.factors.specs.PresentedLaws.{finite-more, finite-stop, finite-end}
-use borrow.Author.Rules.{rules}
 use Rattle.factors.proofs.all_finite.Given as goal
 
 abbrev pub invariant-loop-p : goal.invariant-loop-p

@@ -1,12 +1,7 @@
-use mathlib.Core.Path.{◌≡◌, refl}
-use Prim.Native.Nat.{◌-◌, ◌≤◌}
-use Rattle.base.specs.First.{first}
+use mathlib.Core.Path.{refl}
 use Rattle.base.specs.FirstLaws.{first-zero, first_more}
-use Rattle.base.specs.declared.Found.TheVariants.{Nothing}
 use Rattle.questions.specs.AskLaws.{ask-at, ask-pass}
-use Rattle.outcome.specs.Buffers.{side_buffers}
-use Rattle.outcome.specs.Resolve.{bad_at, ask_factors}
-use Rattle.factors.specs.Presented.{presented}
+use Rattle.outcome.specs.Resolve.{ask_factors}
 use Rattle.factors.specs.PresentedLaws.{was-bad, was-good}
 use borrow.Author.Rules.{rules}
 use Rattle.factors.proofs.ask_factors.Goals as goal

@@ -1,14 +1,10 @@
-use mathlib.Core.Path.{◌≡◌, refl}
+use mathlib.Core.Path.{◌≡◌}
 use Prim.Native.Nat.{◌-◌, ◌≤◌}
 use Rattle.base.specs.First.{first}
-use Rattle.base.specs.FirstLaws.{first-zero, first_more}
 use Rattle.base.specs.declared.Found.TheVariants.{Nothing}
-use Rattle.questions.specs.AskLaws.{ask-at, ask-pass}
 use Rattle.outcome.specs.Buffers.{side_buffers}
-use Rattle.outcome.specs.Resolve.{bad_at, ask_factors}
+use Rattle.outcome.specs.Resolve.{bad_at}
 use Rattle.factors.specs.Presented.{presented}
-use Rattle.factors.specs.PresentedLaws.{was-bad, was-good}
-use borrow.Author.Rules.{rules}
 use Rattle.factors.proofs.ask_factors.Given as goal
 
 abbrev pub invariant-loop-k : goal.invariant-loop-k

@@ -1,7 +1,6 @@
 use mathlib.Core.Path.{refl}
 use native.Mathlib.Numerals.{add-one}
 use Rattle.factors.specs.PresentedLaws.{on-side}
-use borrow.Author.Rules.{rules}
 use Rattle.factors.proofs.on_side.Goals as goal
 
 pub returns-in-Upper : goal.returns-in-Upper

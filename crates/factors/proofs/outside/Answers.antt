@@ -1,6 +1,5 @@
 use mathlib.Core.Path.{refl}
 use Rattle.factors.specs.PresentedLaws.{outside-falls, outside-else}
-use borrow.Author.Rules.{rules}
 use Rattle.factors.proofs.outside.Goals as goal
 
 pub returns-then-hi-lo : goal.returns-then-hi-lo

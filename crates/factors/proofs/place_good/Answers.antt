@@ -1,5 +1,4 @@
 use Rattle.factors.specs.PresentedLaws.{place-good}
-use borrow.Author.Rules.{rules}
 use Rattle.factors.proofs.place_good.Goals as goal
 
 pub returns : goal.returns

@@ -1,10 +1,6 @@
-use mathlib.Core.Path.{◌≡◌, refl, sym, ◌∙◌}
-use Prim.Native.Nat.{◌-◌, ◌≤◌}
+use mathlib.Core.Path.{refl, sym, ◌∙◌}
 use native.Mathlib.Omega.{arith}
-use lib.ListN.{length, drop}
-use Rattle.outcome.specs.Resolve.{rises_in}
 use Rattle.factors.specs.PresentedLaws.{rises-more, rises-stop, rises-end}
-use borrow.Author.Rules.{rules}
 use Rattle.factors.proofs.rises_in.Goals as goal
 
 pub loop-p-preserved : goal.loop-p-preserved

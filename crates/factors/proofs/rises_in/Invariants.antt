@@ -1,10 +1,7 @@
-use mathlib.Core.Path.{◌≡◌, refl, sym, ◌∙◌}
+use mathlib.Core.Path.{◌≡◌}
 use Prim.Native.Nat.{◌-◌, ◌≤◌}
-use native.Mathlib.Omega.{arith}
 use lib.ListN.{length, drop}
 use Rattle.outcome.specs.Resolve.{rises_in}
-use Rattle.factors.specs.PresentedLaws.{rises-more, rises-stop, rises-end}
-use borrow.Author.Rules.{rules}
 use Rattle.factors.proofs.rises_in.Given as goal
 
 abbrev pub invariant-loop-p : goal.invariant-loop-p

@@ -1,7 +1,6 @@
 use mathlib.Core.Path.{sym, ◌∙◌}
 use native.Mathlib.Omega.{arith}
 use Rattle.factors.specs.PresentedLaws.{inside, good-outside, good-aside, good-values}
-use borrow.Author.Rules.{rules}
 use Rattle.factors.proofs.side_good.Goals as goal
 
 pub returns-then-outside : goal.returns-then-outside

@@ -1,4 +1,3 @@
-use borrow.Author.Rules.{rules}
 use mathlib.Core.Path.{sym, ap, ◌∙◌}
 use lib.Ieee.{binary64, to_bits}
 use Rattle.fields.proofs.FloatLaws.{ne-nan, no_nan, to_bits_nan}

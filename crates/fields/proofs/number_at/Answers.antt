@@ -1,8 +1,5 @@
-use borrow.Author.Rules.{rules}
 use native.Mathlib.Omega.{arith}
-use Prim.Native.Nat.{◌-◌}
-use Rattle.fields.specs.Payload.{payload}
-use Rattle.fields.proofs.NumberLaws.{Reading, read-start, read_more, read-room, read-end}
+use Rattle.fields.proofs.NumberLaws.{read-start, read_more, read-room, read-end}
 use Rattle.fields.proofs.number_at.Goals as goal
 
 pub loop-left-init : goal.loop-left-init

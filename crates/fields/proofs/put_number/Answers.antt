@@ -1,7 +1,5 @@
-use Prim.Native.Nat.{◌-◌}
 use mathlib.Core.Path.{refl}
-use Rattle.fields.proofs.PutLaws.{Putting, put-start, put-more, put-end}
-use borrow.Author.Rules.{rules}
+use Rattle.fields.proofs.PutLaws.{put-start, put-more, put-end}
 use native.Mathlib.Omega.{arith}
 use Rattle.fields.proofs.put_number.Goals as goal
 

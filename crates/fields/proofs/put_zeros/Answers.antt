@@ -1,6 +1,4 @@
-use Prim.Native.Nat.{◌-◌}
-use Rattle.fields.proofs.PutLaws.{Zeroing, zero-start, zero_more, zero-end}
-use borrow.Author.Rules.{rules}
+use Rattle.fields.proofs.PutLaws.{zero-start, zero_more, zero-end}
 use native.Mathlib.Omega.{arith}
 use Rattle.fields.proofs.put_zeros.Goals as goal
 

@@ -1,9 +1,8 @@
 use Rattle.base.specs.Lists.{table}
 use mathlib.Core.Path.{ap, sym, ◌∙◌}
-use Prim.Native.Nat.{◌-◌}
 use lib.Ieee.{binary64, of_bits}
-use Rattle.base.specs.TableLaws.{Filling, fill_more, fill_end}
-use Rattle.fields.specs.Payload.{field_at, fields_at, floats_at}
+use Rattle.base.specs.TableLaws.{fill_more, fill_end}
+use Rattle.fields.specs.Payload.{fields_at, floats_at}
 use Rattle.fields.proofs.PartLaws.{map-table}
 use borrow.Author.Rules.{rules}
 use Rattle.fields.proofs.read_f64s.Goals as goal

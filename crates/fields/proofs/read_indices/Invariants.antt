@@ -1,8 +1,6 @@
-use Rattle.base.specs.Lists.{table}
 use Prim.Native.Nat.{◌-◌}
-use Rattle.base.specs.TableLaws.{Filling, fill_more, fill_end}
-use Rattle.fields.specs.Payload.{field_at, fields_at}
-use borrow.Author.Rules.{rules}
+use Rattle.base.specs.TableLaws.{Filling}
+use Rattle.fields.specs.Payload.{field_at}
 use Rattle.fields.proofs.read_indices.Given as goal
 
 abbrev pub invariant-loop-i : goal.invariant-loop-i

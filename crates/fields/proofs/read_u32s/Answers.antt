@@ -1,7 +1,6 @@
 use Rattle.base.specs.Lists.{table}
-use Prim.Native.Nat.{◌-◌}
-use Rattle.base.specs.TableLaws.{Filling, fill_more, fill_end}
-use Rattle.fields.specs.Payload.{field_at, fields_at}
+use Rattle.base.specs.TableLaws.{fill_more, fill_end}
+use Rattle.fields.specs.Payload.{fields_at}
 use borrow.Author.Rules.{rules}
 use Rattle.fields.proofs.read_u32s.Goals as goal
 

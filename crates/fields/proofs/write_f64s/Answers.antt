@@ -1,11 +1,8 @@
-use Prim.Native.Nat.{◌-◌}
 use mathlib.Core.Path.{◌∙◌}
-use lib.ListN.{length, length-map}
+use lib.ListN.{length-map}
 use lib.Ieee.{binary64, to_bits, nan}
 use Rattle.base.specs.TableLaws.{get_or-map-lt}
-use Rattle.fields.specs.Payload.{bits_of}
-use Rattle.fields.proofs.PutLaws.{Writing, write-start, write-more, write-end}
-use borrow.Author.Rules.{rules}
+use Rattle.fields.proofs.PutLaws.{write-start, write-more, write-end}
 use Rattle.fields.proofs.write_f64s.Goals as goal
 
 pub loop-i-init : goal.loop-i-init

@@ -1,11 +1,7 @@
 use Prim.Native.Nat.{◌-◌}
-use mathlib.Core.Path.{◌∙◌}
-use lib.ListN.{length, length-map}
-use lib.Ieee.{binary64, to_bits, nan}
-use Rattle.base.specs.TableLaws.{get_or-map-lt}
+use lib.ListN.{length}
 use Rattle.fields.specs.Payload.{bits_of}
-use Rattle.fields.proofs.PutLaws.{Writing, write-start, write-more, write-end}
-use borrow.Author.Rules.{rules}
+use Rattle.fields.proofs.PutLaws.{Writing}
 use Rattle.fields.proofs.write_f64s.Given as goal
 
 abbrev pub invariant-loop-i : goal.invariant-loop-i

@@ -1,8 +1,5 @@
-use Prim.Native.Nat.{◌-◌}
 use mathlib.Core.Path.{refl}
-use lib.ListN.{length}
-use Rattle.fields.proofs.PutLaws.{Writing, write-start, write-more, write-end}
-use borrow.Author.Rules.{rules}
+use Rattle.fields.proofs.PutLaws.{write-start, write-more, write-end}
 use native.Mathlib.Omega.{arith}
 use Rattle.fields.proofs.write_indices.Goals as goal
 

@@ -1,9 +1,6 @@
 use Prim.Native.Nat.{◌-◌}
-use mathlib.Core.Path.{refl}
 use lib.ListN.{length}
-use Rattle.fields.proofs.PutLaws.{Writing, write-start, write-more, write-end}
-use borrow.Author.Rules.{rules}
-use native.Mathlib.Omega.{arith}
+use Rattle.fields.proofs.PutLaws.{Writing}
 use Rattle.fields.proofs.write_u32s.Given as goal
 
 abbrev pub invariant-loop-i : goal.invariant-loop-i

@@ -1,9 +1,4 @@
-use Prim.Native.Nat.{◌-◌, ◌≤◌}
-use mathlib.Core.Path.{◌≡◌}
-use Rattle.base.specs.First.{first}
 use Rattle.base.specs.FirstLaws.{first-zero}
-use Rattle.base.specs.declared.Found.TheVariants.{Nothing}
-use Rattle.fields.specs.Payload.{marked}
 use Rattle.fields.proofs.ZeroLaws.{zero-hit, zero-on, zero-all}
 use borrow.Author.Rules.{rules}
 use Rattle.fields.proofs.zero_from.Goals as goal

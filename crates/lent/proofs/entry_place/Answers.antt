@@ -1,6 +1,5 @@
 use Rattle.lent.specs.Reading.{order_of}
 use Rattle.lent.specs.ReadingLaws.{place_is}
-use borrow.Author.Rules.{rules}
 use Rattle.lent.proofs.entry_place.Goals as goal
 
 pub returns : goal.returns

@@ -1,5 +1,4 @@
 use Rattle.lent.specs.ReadingLaws.{part-is}
-use borrow.Author.Rules.{rules}
 use Rattle.lent.proofs.list_at.Goals as goal
 
 pub returns : goal.returns

@@ -1,7 +1,6 @@
 use mathlib.Core.Path.{ap}
 use Prim.Native.Nat.{ℕ}
 use Rattle.base.specs.declared.OwnNumber.{OwnNumber}
-use borrow.Author.Rules.{rules}
 use Rattle.lent.proofs.own_row.Goals as goal
 
 abbrev as_own : ℕ → OwnNumber

@@ -1,6 +1,5 @@
 use Rattle.lent.specs.ReadingLaws.{place_read}
 use native.Mathlib.Omega.{arith}
-use borrow.Author.Rules.{rules}
 use Rattle.lent.proofs.place_of.Goals as goal
 
 pub returns : goal.returns

@@ -1,5 +1,4 @@
 use Rattle.base.specs.Lists.{list_at}
-use borrow.Author.Rules.{rules}
 use Rattle.lent.proofs.values_at.Goals as goal
 
 pub returns : goal.returns

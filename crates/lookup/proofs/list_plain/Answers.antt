@@ -1,4 +1,3 @@
-use borrow.Author.Rules.{rules}
 use Rattle.lookup.specs.LookupLaws.{part-fits, part-handed}
 use Rattle.lookup.proofs.list_plain.Goals as goal
 
@@ -6,4 +5,4 @@ pub part-requires : goal.part-requires
 part-requires c = part-fits _ _ _ _ _ _ _ _ _ _ _ c.span_plain-s.ensures
 
 pub returns : goal.returns
-returns c = part-handed _ _ _ _ _ _ _ _ _ _ _ _ c.span_plain-s.ensures c.part.ensures
+returns c = let p = part-handed _ _ _ _ _ _ _ _ _ _ _ _ c.span_plain-s.ensures c.part.ensures in record { result_value = p.0; part_of = p.1 }

@@ -1,4 +1,3 @@
-use borrow.Author.Rules.{rules}
 use native.Mathlib.Omega.{arith}
 use Rattle.lookup.specs.LookupLaws.{span-taken, span-high, span-unfit}
 use Rattle.lookup.proofs.list_span.Goals as goal

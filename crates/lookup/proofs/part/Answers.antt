@@ -19,8 +19,8 @@ slice_bounds-result-end-in-Upper c = (inside-named _ _ _ _ _ c.in-Upper.is c.req
 
 pub returns-in-Lower : goal.returns-in-Lower
 unfolding within
-returns-in-Lower c = part-named _ _ _ _ _ _ c.in-Lower.is (record { holds = refl; count = c.result-1.given.2; block = refl; offset = omega arith })
+returns-in-Lower c = part-named _ _ _ _ _ _ c.in-Lower.is (record { holds = refl; count = omega arith; block = refl; offset = omega arith })
 
 pub returns-in-Upper : goal.returns-in-Upper
 unfolding within
-returns-in-Upper c = part-named _ _ _ _ _ _ c.in-Upper.is (record { holds = refl; count = c.result-in-Upper-1.given.2; block = refl; offset = omega arith })
+returns-in-Upper c = part-named _ _ _ _ _ _ c.in-Upper.is (record { holds = refl; count = omega arith; block = refl; offset = omega arith })

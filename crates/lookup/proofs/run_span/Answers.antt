@@ -1,5 +1,4 @@
 use Rattle.lookup.specs.LookupLaws.{run-taken, run-over, run-falls}
-use borrow.Author.Rules.{rules}
 use Rattle.lookup.proofs.run_span.Goals as goal
 
 pub returns-then-run-b : goal.returns-then-run-b

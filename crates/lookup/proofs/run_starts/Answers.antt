@@ -1,4 +1,3 @@
-use borrow.Author.Rules.{rules}
 use Rattle.lookup.proofs.run_starts.Goals as goal
 
 pub returns-in-Plain : goal.returns-in-Plain

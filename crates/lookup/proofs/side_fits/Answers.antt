@@ -1,6 +1,5 @@
 use mathlib.Core.Path.{sym, ◌∙◌}
 use native.Mathlib.Omega.{arith}
-use borrow.Author.Rules.{rules}
 use Rattle.lookup.specs.LookupLaws.{rows_few, sized-yes, sized-no}
 use Rattle.lookup.proofs.side_fits.Goals as goal
 

@@ -1,4 +1,3 @@
-use borrow.Author.Rules.{rules}
 use Rattle.lookup.specs.LookupLaws.{span-named, lower-lent, upper-lent}
 use Rattle.lookup.proofs.span_of.Goals as goal
 

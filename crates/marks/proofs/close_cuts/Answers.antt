@@ -1,7 +1,4 @@
-use Rattle.base.specs.Lists.{list_at}
-use Rattle.marks.specs.ListedLaws.{Listed, listed_start, listed-fit, listed_below, listed_more, listed-end}
-use Prim.Native.Nat.{◌-◌, ◌≤◌}
-use borrow.Author.Rules.{rules}
+use Rattle.marks.specs.ListedLaws.{listed_start, listed-fit, listed_below, listed_more, listed-end}
 use native.Mathlib.Omega.{arith}
 use Rattle.marks.proofs.close_cuts.Goals as goal
 

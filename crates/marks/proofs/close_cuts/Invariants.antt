@@ -1,8 +1,6 @@
 use Rattle.base.specs.Lists.{list_at}
-use Rattle.marks.specs.ListedLaws.{Listed, listed_start, listed-fit, listed_below, listed_more, listed-end}
+use Rattle.marks.specs.ListedLaws.{Listed}
 use Prim.Native.Nat.{◌-◌, ◌≤◌}
-use borrow.Author.Rules.{rules}
-use native.Mathlib.Omega.{arith}
 use Rattle.marks.proofs.close_cuts.Given as goal
 
 abbrev pub invariant-loop-p : goal.invariant-loop-p

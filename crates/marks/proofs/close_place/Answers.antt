@@ -1,6 +1,5 @@
 use Rattle.marks.specs.ListLaws.{closing-is}
 use native.Mathlib.Omega.{arith}
-use borrow.Author.Rules.{rules}
 use Rattle.marks.proofs.close_place.Goals as goal
 
 pub merge_lower-requires : goal.merge_lower-requires

@@ -1,6 +1,5 @@
 use Rattle.marks.specs.CutLaws.{cut-yes, cut-no}
 use mathlib.Core.Path.{sym, ◌∙◌}
-use borrow.Author.Rules.{rules}
 use Rattle.marks.proofs.cut_list.Goals as goal
 
 pub returns-then-slot-list : goal.returns-then-slot-list

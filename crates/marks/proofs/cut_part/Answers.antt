@@ -1,5 +1,4 @@
 use Rattle.marks.specs.CutLaws.{cut-is}
-use borrow.Author.Rules.{rules}
 use Rattle.marks.proofs.cut_part.Goals as goal
 
 pub returns : goal.returns

@@ -1,7 +1,5 @@
-use Rattle.marks.specs.BlockLaws.{Filled, filled-start, filled_more, filled-skip, filled-all}
+use Rattle.marks.specs.BlockLaws.{filled-start, filled_more, filled-skip, filled-all}
 use Rattle.marks.specs.MarkLaws.{room-kept}
-use Prim.Native.Nat.{◌≤◌, ◌-◌}
-use borrow.Author.Rules.{rules}
 use native.Mathlib.Omega.{arith}
 use Rattle.marks.proofs.gather.Goals as goal
 

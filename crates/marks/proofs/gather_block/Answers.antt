@@ -1,9 +1,7 @@
-use Rattle.marks.specs.BlockLaws.{Filled, filled-start, filled-hit, filled-miss, filled-end}
-use mathlib.Core.Logic.{⊎_elim}
-use Prim.Native.Nat.{◌≤◌, ◌-◌}
-use borrow.Author.Rules.{rules}
+use Rattle.marks.specs.BlockLaws.{filled-start, filled-hit, filled-miss, filled-end}
 use native.Mathlib.Omega.{arith}
 use Rattle.marks.proofs.gather_block.Goals as goal
+use Rattle.marks.proofs.gather_block.Goals.{then-marks-q, else-marks-q}
 
 pub loop-q-init : goal.loop-q-init
 loop-q-init c = (omega arith, filled-start _ _ _ _ _)
@@ -12,8 +10,10 @@ pub loop-q-preserved : goal.loop-q-preserved
 loop-q-preserved c =
     let f = c.loop-q.invariant.1 in (
       omega arith,
-      ⊎_elim (λ w. filled-hit _ _ _ _ _ _ _ _ f _ _ (omega arith) w.0.taken w.1 w.2)
-          (λ w. filled-miss _ _ _ _ _ _ _ _ f _ _ (omega arith) w.0.left w.1 w.2) c.if-marks-q.branch,
+      elim c.if-marks-q.branch [
+        | then-marks-q w ↦ filled-hit _ _ _ _ _ _ _ _ f _ _ (omega arith) w.if-marks-q.true w.marks-is w.count-is
+        | else-marks-q w ↦ filled-miss _ _ _ _ _ _ _ _ f _ _ (omega arith) w.if-marks-q.false w.marks-is w.count-is
+      ],
     )
 
 pub returns : goal.returns

@@ -1,8 +1,5 @@
-use Rattle.marks.specs.BlockLaws.{Filled, filled-start, filled-hit, filled-miss, filled-end}
-use mathlib.Core.Logic.{⊎_elim}
+use Rattle.marks.specs.BlockLaws.{Filled}
 use Prim.Native.Nat.{◌≤◌, ◌-◌}
-use borrow.Author.Rules.{rules}
-use native.Mathlib.Omega.{arith}
 use Rattle.marks.proofs.gather_block.Given as goal
 
 abbrev pub invariant-loop-q : goal.invariant-loop-q

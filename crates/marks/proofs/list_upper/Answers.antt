@@ -1,6 +1,5 @@
 use Rattle.marks.specs.ListLaws.{upper-listed}
 use native.Mathlib.Omega.{arith}
-use borrow.Author.Rules.{rules}
 use Rattle.marks.proofs.list_upper.Goals as goal
 
 pub overflow_add-n : goal.overflow_add-n

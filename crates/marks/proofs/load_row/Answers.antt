@@ -2,9 +2,8 @@ use Rattle.lent.specs.Reading.{order_of, placed}
 use Rattle.lent.specs.ReadingLaws.{placed-length}
 use lib.ListN.{length, get_or}
 use mathlib.Core.Path.{◌≡◌}
-use Prim.Native.Nat.{◌-◌, ◌<◌, ◌≤◌}
-use Rattle.marks.specs.MarkLaws.{Load, load-start, load-more, load-end, order-unmarked, room-kept, entry_read, entry-below}
-use borrow.Author.Rules.{rules}
+use Prim.Native.Nat.{◌<◌}
+use Rattle.marks.specs.MarkLaws.{load-start, load-more, load-end, order-unmarked, room-kept, entry_read, entry-below}
 use native.Mathlib.Omega.{arith}
 use Rattle.marks.proofs.load_row.Goals as goal
 use Rattle.marks.proofs.load_row.Goals.{After-entry_place-j}

@@ -1,11 +1,7 @@
 use Rattle.lent.specs.Reading.{order_of, placed}
-use Rattle.lent.specs.ReadingLaws.{placed-length}
-use lib.ListN.{length, get_or}
-use mathlib.Core.Path.{◌≡◌}
-use Prim.Native.Nat.{◌-◌, ◌<◌, ◌≤◌}
-use Rattle.marks.specs.MarkLaws.{Load, load-start, load-more, load-end, order-unmarked, room-kept, entry_read, entry-below}
-use borrow.Author.Rules.{rules}
-use native.Mathlib.Omega.{arith}
+use lib.ListN.{length}
+use Prim.Native.Nat.{◌-◌, ◌≤◌}
+use Rattle.marks.specs.MarkLaws.{Load}
 use Rattle.marks.proofs.load_row.Given as goal
 
 abbrev pub invariant-loop-q : goal.invariant-loop-q

@@ -3,7 +3,6 @@ use lib.ListN.{get_or}
 use Rattle.base.specs.Lists.{row_of}
 use Rattle.lent.specs.ReadingLaws.{own_in}
 use Rattle.marks.specs.FillLaws.{loaded-is}
-use borrow.Author.Rules.{rules}
 use Rattle.marks.proofs.load_row_place.Goals as goal
 use Rattle.marks.proofs.load_row_place.Goals.{After-row_columns-cols}
 

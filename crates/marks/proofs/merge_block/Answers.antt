@@ -1,10 +1,8 @@
-use Rattle.marks.specs.MergeLaws.{Along, along-miss, along-hit, along-end, listed-parts, room-set}
+use Rattle.marks.specs.MergeLaws.{along-miss, along-hit, along-end, listed-parts, room-set}
 use mathlib.Core.Path.{refl, ◌∙◌}
-use mathlib.Core.Logic.{⊎_elim}
-use Prim.Native.Nat.{◌-◌}
-use borrow.Author.Rules.{rules}
 use native.Mathlib.Omega.{arith}
 use Rattle.marks.proofs.merge_block.Goals as goal
+use Rattle.marks.proofs.merge_block.Goals.{then-marks-i, else-marks-i}
 
 pub loop-i-init : goal.loop-i-init
 loop-i-init c =
@@ -19,10 +17,10 @@ merge_run-requires c =
 pub loop-i-preserved : goal.loop-i-preserved
 loop-i-preserved c =
     let b = c.requires.had_le_from in
-    ⊎_elim
-    (λ w. along-hit c.args.n _ _ _ _ _ _ _ _ b.2 c.loop-i.marks c.loop-i.i c.loop-i.count (omega arith) c.loop-i.invariant b.3 _ _ (w.5 ∙ w.2.ensures) w.6 w.0.taken)
-    (λ w. along-miss c.args.n _ _ _ _ _ _ _ _ b.2 c.loop-i.marks c.loop-i.i c.loop-i.count (omega arith) c.loop-i.invariant _ _ w.1 w.2 w.0.left)
-    c.if-marks-i.branch
+    elim c.if-marks-i.branch [
+      | then-marks-i w ↦ along-hit c.args.n _ _ _ _ _ _ _ _ b.2 c.loop-i.marks c.loop-i.i c.loop-i.count (omega arith) c.loop-i.invariant b.3 _ _ (w.marks-is ∙ w.merge_run.ensures) w.count-is w.if-marks-i.true
+      | else-marks-i w ↦ along-miss c.args.n _ _ _ _ _ _ _ _ b.2 c.loop-i.marks c.loop-i.i c.loop-i.count (omega arith) c.loop-i.invariant _ _ w.marks-is w.count-is w.if-marks-i.false
+    ]
 
 pub returns : goal.returns
 returns c = along-end _ _ _ _ _ _ _ _ _ _ c.loop-i.i _ (omega arith) c.loop-i.invariant

@@ -1,9 +1,5 @@
-use Rattle.marks.specs.MergeLaws.{Along, along-miss, along-hit, along-end, listed-parts, room-set}
-use mathlib.Core.Path.{refl, ◌∙◌}
-use mathlib.Core.Logic.{⊎_elim}
+use Rattle.marks.specs.MergeLaws.{Along}
 use Prim.Native.Nat.{◌-◌}
-use borrow.Author.Rules.{rules}
-use native.Mathlib.Omega.{arith}
 use Rattle.marks.proofs.merge_block.Given as goal
 
 abbrev pub invariant-loop-i : goal.invariant-loop-i

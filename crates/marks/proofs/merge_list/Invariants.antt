@@ -1,10 +1,7 @@
-use Rattle.marks.specs.MarkLaws.{stamped-turn, stamped-end}
 use Rattle.marks.specs.Marks.{stamped}
 use lib.ListN.{length, drop}
-use native.Mathlib.Omega.{arith}
-use mathlib.Core.Path.{◌≡◌, sym, ◌∙◌}
-use Prim.Native.Nat.{◌≤◌, ◌-◌, ◌<◌}
-use borrow.Author.Rules.{rules}
+use mathlib.Core.Path.{◌≡◌}
+use Prim.Native.Nat.{◌≤◌, ◌-◌}
 use Rattle.marks.proofs.merge_list.Given as goal
 
 abbrev pub invariant-loop-p : goal.invariant-loop-p

@@ -1,8 +1,6 @@
-use Rattle.marks.specs.Marks.{part_at}
 use Rattle.marks.specs.MarkLaws.{room-kept}
-use Rattle.marks.specs.MergeLaws.{Going, going_start, going-past, going_end, parts-kept}
-use Prim.Native.Nat.{◌≤◌, ◌-◌}
-use borrow.Author.Rules.{rules}
+use Rattle.marks.specs.MergeLaws.{going_start, going-past, going_end, parts-kept}
+use Prim.Native.Nat.{◌≤◌}
 use native.Mathlib.Omega.{arith}
 use Rattle.marks.proofs.merge_lower.Goals as goal
 

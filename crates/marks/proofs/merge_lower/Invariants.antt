@@ -1,9 +1,6 @@
 use Rattle.marks.specs.Marks.{part_at}
-use Rattle.marks.specs.MarkLaws.{room-kept}
-use Rattle.marks.specs.MergeLaws.{Going, going_start, going-past, going_end, parts-kept}
+use Rattle.marks.specs.MergeLaws.{Going}
 use Prim.Native.Nat.{◌≤◌, ◌-◌}
-use borrow.Author.Rules.{rules}
-use native.Mathlib.Omega.{arith}
 use Rattle.marks.proofs.merge_lower.Given as goal
 
 abbrev pub invariant-loop-i : goal.invariant-loop-i

@@ -1,6 +1,5 @@
 use Rattle.marks.specs.Marks.{stamped}
 use mathlib.Core.Path.{◌∙◌, ap}
-use borrow.Author.Rules.{rules}
 use Rattle.marks.proofs.merge_run.Goals as goal
 
 pub merge_list-requires : goal.merge_list-requires

@@ -1,9 +1,5 @@
 use Rattle.marks.specs.CutLaws.{upto-hit, upto-miss, upto-end}
-use Rattle.marks.specs.Marks.{upto}
-use mathlib.Core.Path.{◌≡◌, sym, ◌∙◌}
-use Prim.Native.Nat.{◌≤◌, ◌-◌, ◌+◌}
-use lib.ListN.{length, drop}
-use borrow.Author.Rules.{rules}
+use mathlib.Core.Path.{sym, ◌∙◌}
 use native.Mathlib.Omega.{arith}
 use Rattle.marks.proofs.reach_of.Goals as goal
 

@@ -1,10 +1,7 @@
-use Rattle.marks.specs.CutLaws.{upto-hit, upto-miss, upto-end}
 use Rattle.marks.specs.Marks.{upto}
-use mathlib.Core.Path.{◌≡◌, sym, ◌∙◌}
+use mathlib.Core.Path.{◌≡◌}
 use Prim.Native.Nat.{◌≤◌, ◌-◌, ◌+◌}
 use lib.ListN.{length, drop}
-use borrow.Author.Rules.{rules}
-use native.Mathlib.Omega.{arith}
 use Rattle.marks.proofs.reach_of.Given as goal
 
 abbrev pub invariant-loop-p : goal.invariant-loop-p

@@ -1,12 +1,11 @@
 use Rattle.marks.specs.CutLaws.{renewed}
 use Rattle.marks.specs.RenewLaws.{renewed-is}
 use native.Mathlib.Omega.{arith}
-use borrow.Author.Rules.{rules}
 use Rattle.marks.proofs.renew_cuts.Goals as goal
 
 pub close_cuts-requires : goal.close_cuts-requires
 close_cuts-requires c =
-    ((λ i l. c.requires.by_index i (omega arith)), c.requires.k_lt_n)
+    record { by_index = λ i l. c.requires.by_index i (omega arith); k_lt_n = c.requires.k_lt_n; walk = c.requires.walk }
 
 pub open_cut-requires : goal.open_cut-requires
 open_cut-requires c =

@@ -1,8 +1,5 @@
-use Rattle.marks.specs.ListLaws.{Added, added-start, added_more, added-end, countable-at}
-use Prim.Native.Nat.{◌-◌}
-use lib.ListN.{length}
+use Rattle.marks.specs.ListLaws.{added-start, added_more, added-end, countable-at}
 use native.Mathlib.Omega.{arith}
-use borrow.Author.Rules.{rules}
 use Rattle.marks.proofs.row_products.Goals as goal
 
 pub list_length-requires : goal.list_length-requires

@@ -1,8 +1,6 @@
-use Rattle.marks.specs.ListLaws.{Added, added-start, added_more, added-end, countable-at}
+use Rattle.marks.specs.ListLaws.{Added}
 use Prim.Native.Nat.{◌-◌}
 use lib.ListN.{length}
-use native.Mathlib.Omega.{arith}
-use borrow.Author.Rules.{rules}
 use Rattle.marks.proofs.row_products.Given as goal
 
 abbrev pub invariant-loop-p : goal.invariant-loop-p

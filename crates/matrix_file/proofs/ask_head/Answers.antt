@@ -3,7 +3,6 @@ use mathlib.Core.Bool.{not}
 use Rattle.matrix_file.specs.MatrixFile.{ask_head}
 use Rattle.blocks.proofs.AskLaws.{then-no, then-yes, holds-no, holds-yes}
 use Rattle.matrix.specs.ListsLaws.{range-of}
-use borrow.Author.Rules.{rules}
 use Rattle.matrix_file.proofs.ask_head.Goals as goal
 
 pub returns-then-not-rows_within : goal.returns-then-not-rows_within

@@ -3,7 +3,6 @@ use mathlib.Core.Bool.{not}
 use Rattle.matrix.specs.ListsLaws.{range-of}
 use Rattle.matrix_file.proofs.CallLaws.{ask-1, ask-18, ask-2, ask-pass}
 use native.Mathlib.Omega.{arith}
-use borrow.Author.Rules.{rules}
 use Rattle.matrix_file.proofs.ask_write.Goals as goal
 
 pub returns-then-not-rows_within : goal.returns-then-not-rows_within

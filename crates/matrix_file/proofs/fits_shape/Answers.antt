@@ -1,6 +1,5 @@
 use borrow.Author.Tests.{le-leb, lt-leb}
 use Rattle.base.specs.Limits.{max_entries}
-use borrow.Author.Rules.{rules}
 use Rattle.matrix_file.proofs.fits_shape.Goals as goal
 
 pub returns-then-e-gt-MAX_ENTRIES : goal.returns-then-e-gt-MAX_ENTRIES

@@ -1,5 +1,4 @@
 use Rattle.matrix_file.proofs.CallLaws.{head-pass, head-stop}
-use borrow.Author.Rules.{rules}
 use Rattle.matrix_file.proofs.head_shape.Goals as goal
 
 pub returns-in-Pass : goal.returns-in-Pass

@@ -1,6 +1,5 @@
 use Rattle.matrix_file.proofs.CallLaws.{laid-matrix, none-laid}
 use native.Mathlib.Omega.{arith}
-use borrow.Author.Rules.{rules}
 use Rattle.matrix_file.proofs.lay_matrix.Goals as goal
 
 pub returns : goal.returns

@@ -1,7 +1,6 @@
 use Rattle.fields.specs.Payload.{payloads}
 use Rattle.matrix_file.proofs.CallLaws.{laid-orders}
 use native.Mathlib.Omega.{arith}
-use borrow.Author.Rules.{rules}
 use Rattle.matrix_file.proofs.lay_orders.Goals as goal
 
 pub returns : goal.returns

@@ -1,5 +1,4 @@
 use Rattle.matrix_file.proofs.CallLaws.{loaded}
-use borrow.Author.Rules.{rules}
 use Rattle.matrix_file.proofs.load.Goals as goal
 
 pub returns : goal.returns

@@ -1,5 +1,4 @@
 use Rattle.matrix_file.proofs.CallLaws.{head-room, shape-head, shape-stop}
-use borrow.Author.Rules.{rules}
 use Rattle.matrix_file.proofs.matrix_file_shape.Goals as goal
 
 pub head_shape-requires : goal.head_shape-requires

@@ -2,7 +2,6 @@ use Rattle.std.proofs.Common.{ap}
 use mathlib.Core.Bool.{not}
 use Rattle.matrix.specs.Lists.{matrix_lists}
 use Rattle.matrix_file.proofs.CallLaws.{rows-most, read-stop, read-lengths, read-room, read_done}
-use borrow.Author.Rules.{rules}
 use Rattle.matrix_file.proofs.read_matrix.Goals as goal
 
 pub lengths_right-requires : goal.lengths_right-requires

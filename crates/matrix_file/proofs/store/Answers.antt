@@ -1,5 +1,4 @@
 use Rattle.matrix_file.proofs.CallLaws.{matrix-room, orders-room, whole-file, all_laid}
-use borrow.Author.Rules.{rules}
 use Rattle.matrix_file.proofs.store.Goals as goal
 
 pub lay_matrix-at-requires : goal.lay_matrix-at-requires

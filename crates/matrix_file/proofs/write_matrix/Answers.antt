@@ -1,7 +1,6 @@
 use mathlib.Core.Path.{sym, ◌∙◌}
 use Rattle.matrix_file.specs.MatrixFile.{ask_write}
 use Rattle.matrix_file.proofs.CallLaws.{write-stop, write_done}
-use borrow.Author.Rules.{rules}
 use Rattle.matrix_file.proofs.write_matrix.Goals as goal
 
 pub store-requires : goal.store-requires

@@ -1,9 +1,7 @@
 use Rattle.numeric.proofs.Turns.{finite_on-pass, finite_on-fail, finite_on-end}
-use Rattle.arithmetic.specs.RowEnd.{finite_on}
-use lib.ListN.{length, get_or, drop}
-use mathlib.Core.Path.{◌≡◌, sym, ◌∙◌}
-use Prim.Native.Nat.{◌≤◌, ◌<◌, ◌-◌}
-use borrow.Author.Rules.{rules}
+use lib.ListN.{length, get_or}
+use mathlib.Core.Path.{sym, ◌∙◌}
+use Prim.Native.Nat.{◌<◌}
 use native.Mathlib.Omega.{arith}
 use Rattle.numeric.proofs.all_finite.Goals as goal
 use Rattle.numeric.proofs.all_finite.Goals.{In-loop-p}

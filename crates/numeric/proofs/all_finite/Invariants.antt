@@ -1,10 +1,7 @@
-use Rattle.numeric.proofs.Turns.{finite_on-pass, finite_on-fail, finite_on-end}
 use Rattle.arithmetic.specs.RowEnd.{finite_on}
-use lib.ListN.{length, get_or, drop}
-use mathlib.Core.Path.{◌≡◌, sym, ◌∙◌}
-use Prim.Native.Nat.{◌≤◌, ◌<◌, ◌-◌}
-use borrow.Author.Rules.{rules}
-use native.Mathlib.Omega.{arith}
+use lib.ListN.{length, drop}
+use mathlib.Core.Path.{◌≡◌}
+use Prim.Native.Nat.{◌≤◌, ◌-◌}
 use Rattle.numeric.proofs.all_finite.Given as goal
 
 abbrev pub invariant-loop-p : goal.invariant-loop-p

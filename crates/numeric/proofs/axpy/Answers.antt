@@ -1,9 +1,7 @@
 use Rattle.numeric.proofs.Turns.{subtract-turn, subtract-end}
-use Rattle.arithmetic.specs.Stopping.{any, subtract}
-use lib.ListN.{length, drop, length-set}
-use mathlib.Core.Path.{◌≡◌, refl, sym, ◌∙◌}
-use Prim.Native.Nat.{◌≤◌, ◌<◌, ◌-◌}
-use borrow.Author.Rules.{rules}
+use lib.ListN.{length, length-set}
+use mathlib.Core.Path.{refl, sym, ◌∙◌}
+use Prim.Native.Nat.{◌<◌}
 use native.Mathlib.Omega.{arith}
 use Rattle.numeric.proofs.axpy.Goals as goal
 use Rattle.numeric.proofs.axpy.Goals.{After-wide-j}

@@ -1,10 +1,7 @@
-use Rattle.numeric.proofs.Turns.{subtract-turn, subtract-end}
 use Rattle.arithmetic.specs.Stopping.{any, subtract}
-use lib.ListN.{length, drop, length-set}
-use mathlib.Core.Path.{◌≡◌, refl, sym, ◌∙◌}
-use Prim.Native.Nat.{◌≤◌, ◌<◌, ◌-◌}
-use borrow.Author.Rules.{rules}
-use native.Mathlib.Omega.{arith}
+use lib.ListN.{length, drop}
+use mathlib.Core.Path.{◌≡◌}
+use Prim.Native.Nat.{◌≤◌, ◌-◌}
 use Rattle.numeric.proofs.axpy.Given as goal
 
 abbrev pub invariant-loop-p : goal.invariant-loop-p

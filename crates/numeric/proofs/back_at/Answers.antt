@@ -1,7 +1,6 @@
 use Rattle.lent.specs.ReadingLaws.{take_rest}
 use Rattle.numeric.proofs.Turns.{tail-length, rest-is}
 use Rattle.numeric.specs.StoreLaws.{ready}
-use borrow.Author.Rules.{rules}
 use Rattle.base.specs.Scratch.{z_from}
 use Rattle.numeric.proofs.back_at.Goals as goal
 

@@ -1,11 +1,8 @@
 use Rattle.numeric.proofs.Turns.{scratch-turn, scratch-stop, back_end}
-use Rattle.numeric.specs.Stores.{store_given}
-use Rattle.arithmetic.specs.Stopping.{back}
 use lib.Seq.{take-set-le}
-use lib.ListN.{length, take, drop, length-set}
-use Prim.Native.Nat.{◌-◌, ◌≤◌, ◌+◌}
-use mathlib.Core.Path.{◌≡◌, refl, sym, ◌∙◌}
-use borrow.Author.Rules.{rules}
+use lib.ListN.{length-set}
+use Prim.Native.Nat.{◌-◌, ◌+◌}
+use mathlib.Core.Path.{refl, sym, ◌∙◌}
 use native.Mathlib.Omega.{arith}
 use Rattle.base.specs.Scratch.{z_from}
 use Rattle.numeric.proofs.back_steps.Goals as goal

@@ -1,9 +1,6 @@
 use Rattle.numeric.proofs.Turns.{zero_turn, zero-end}
-use Rattle.numeric.specs.Stores.{zeroed}
-use lib.ListN.{length, drop, length-set}
-use mathlib.Core.Path.{◌≡◌, sym, ◌∙◌}
-use Prim.Native.Nat.{◌≤◌, ◌-◌}
-use borrow.Author.Rules.{rules}
+use lib.ListN.{length-set}
+use mathlib.Core.Path.{sym, ◌∙◌}
 use native.Mathlib.Omega.{arith}
 use Rattle.numeric.proofs.clear_upper.Goals as goal
 

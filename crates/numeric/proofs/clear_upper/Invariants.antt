@@ -1,10 +1,7 @@
-use Rattle.numeric.proofs.Turns.{zero_turn, zero-end}
 use Rattle.numeric.specs.Stores.{zeroed}
-use lib.ListN.{length, drop, length-set}
-use mathlib.Core.Path.{◌≡◌, sym, ◌∙◌}
+use lib.ListN.{length, drop}
+use mathlib.Core.Path.{◌≡◌}
 use Prim.Native.Nat.{◌≤◌, ◌-◌}
-use borrow.Author.Rules.{rules}
-use native.Mathlib.Omega.{arith}
 use Rattle.numeric.proofs.clear_upper.Given as goal
 
 abbrev pub invariant-loop-p : goal.invariant-loop-p

@@ -3,7 +3,6 @@ use Rattle.numeric.specs.StoreLaws.{below-is}
 use lib.ListN.{length-set}
 use mathlib.Core.Path.{◌∙◌}
 use native.Mathlib.Omega.{arith}
-use borrow.Author.Rules.{rules}
 use Rattle.numeric.proofs.close_row.Goals as goal
 
 pub list_at-above-requires : goal.list_at-above-requires

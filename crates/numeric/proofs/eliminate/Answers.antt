@@ -1,10 +1,6 @@
-use Rattle.numeric.proofs.Turns.{Eliminating, eliminating-more, steps-end}
-use Rattle.numeric.specs.Stores.{store_given}
+use Rattle.numeric.proofs.Turns.{eliminating-more, steps-end}
 use mathlib.Core.List.{[]}
-use lib.ListN.{length}
 use mathlib.Core.Path.{refl, sym, ◌∙◌}
-use Prim.Native.Nat.{◌-◌}
-use borrow.Author.Rules.{rules}
 use native.Mathlib.Omega.{arith}
 use Rattle.numeric.proofs.eliminate.Goals as goal
 

@@ -1,11 +1,7 @@
-use Rattle.numeric.proofs.Turns.{Eliminating, eliminating-more, steps-end}
+use Rattle.numeric.proofs.Turns.{Eliminating}
 use Rattle.numeric.specs.Stores.{store_given}
-use mathlib.Core.List.{[]}
 use lib.ListN.{length}
-use mathlib.Core.Path.{refl, sym, ◌∙◌}
 use Prim.Native.Nat.{◌-◌}
-use borrow.Author.Rules.{rules}
-use native.Mathlib.Omega.{arith}
 use Rattle.numeric.proofs.eliminate.Given as goal
 
 abbrev pub invariant-loop-p : goal.invariant-loop-p

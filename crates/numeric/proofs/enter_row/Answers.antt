@@ -1,11 +1,8 @@
 use Rattle.numeric.proofs.Turns.{enter-turn, enter-end}
-use Rattle.numeric.specs.Stores.{entering}
-use Rattle.lent.specs.Reading.{order_of, placed}
-use Rattle.base.specs.Lists.{pairs}
-use lib.ListN.{length, drop, length-set}
-use mathlib.Core.Path.{◌≡◌, sym, ◌∙◌}
-use Prim.Native.Nat.{◌≤◌, ◌<◌, ◌-◌}
-use borrow.Author.Rules.{rules}
+use Rattle.lent.specs.Reading.{order_of}
+use lib.ListN.{length, length-set}
+use mathlib.Core.Path.{sym, ◌∙◌}
+use Prim.Native.Nat.{◌<◌}
 use native.Mathlib.Omega.{arith}
 use Rattle.numeric.proofs.enter_row.Goals as goal
 use Rattle.numeric.proofs.enter_row.Goals.{After-entry_place-j}

@@ -1,12 +1,9 @@
-use Rattle.numeric.proofs.Turns.{enter-turn, enter-end}
 use Rattle.numeric.specs.Stores.{entering}
 use Rattle.lent.specs.Reading.{order_of, placed}
 use Rattle.base.specs.Lists.{pairs}
-use lib.ListN.{length, drop, length-set}
-use mathlib.Core.Path.{◌≡◌, sym, ◌∙◌}
-use Prim.Native.Nat.{◌≤◌, ◌<◌, ◌-◌}
-use borrow.Author.Rules.{rules}
-use native.Mathlib.Omega.{arith}
+use lib.ListN.{length, drop}
+use mathlib.Core.Path.{◌≡◌}
+use Prim.Native.Nat.{◌≤◌, ◌-◌}
 use Rattle.numeric.proofs.enter_row.Given as goal
 
 abbrev pub invariant-loop-p : goal.invariant-loop-p

@@ -1,7 +1,6 @@
 use Rattle.numeric.proofs.Ends.{end-loud, end-zero, end-d, end-y, end-u, end_kept}
 use lib.Ieee.{of_bits}
 use native.Mathlib.Omega.{arith}
-use borrow.Author.Rules.{rules}
 use Rattle.numeric.proofs.finish_row.Goals as goal
 
 pub returns-then-at_most : goal.returns-then-at_most

@@ -1,11 +1,7 @@
 use Rattle.numeric.proofs.Turns.{gather-turn, gather-end}
-use Rattle.numeric.specs.Stores.{gathered}
-use lib.Seq.{sets}
-use lib.ListN.{length, drop, length-set}
-use mathlib.Core.Path.{◌≡◌, refl, sym, ◌∙◌}
+use lib.ListN.{length-set}
+use mathlib.Core.Path.{refl, sym, ◌∙◌}
 use native.Mathlib.Nat.{add-zero}
-use Prim.Native.Nat.{◌≤◌, ◌-◌, ◌+◌}
-use borrow.Author.Rules.{rules}
 use native.Mathlib.Omega.{arith}
 use Rattle.numeric.proofs.keep_by_rows.Goals as goal
 

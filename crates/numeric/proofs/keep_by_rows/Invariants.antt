@@ -1,12 +1,8 @@
-use Rattle.numeric.proofs.Turns.{gather-turn, gather-end}
 use Rattle.numeric.specs.Stores.{gathered}
 use lib.Seq.{sets}
-use lib.ListN.{length, drop, length-set}
-use mathlib.Core.Path.{◌≡◌, refl, sym, ◌∙◌}
-use native.Mathlib.Nat.{add-zero}
+use lib.ListN.{length, drop}
+use mathlib.Core.Path.{◌≡◌}
 use Prim.Native.Nat.{◌≤◌, ◌-◌, ◌+◌}
-use borrow.Author.Rules.{rules}
-use native.Mathlib.Omega.{arith}
 use Rattle.numeric.proofs.keep_by_rows.Given as goal
 
 abbrev pub invariant-loop-p : goal.invariant-loop-p

@@ -2,7 +2,6 @@ use Rattle.numeric.specs.Stores.{entering}
 use Rattle.lent.specs.Reading.{order_of, placed}
 use Rattle.base.specs.Lists.{pairs}
 use mathlib.Core.Path.{ap, ◌∙◌}
-use borrow.Author.Rules.{rules}
 use Rattle.numeric.proofs.load_row.Goals as goal
 
 pub unset_row-requires : goal.unset_row-requires

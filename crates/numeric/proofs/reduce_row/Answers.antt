@@ -6,7 +6,6 @@ use lib.ListN.{length}
 use lib.Seq.{length-take-le, length_front}
 use mathlib.Core.Path.{◌≡◌, refl, sym, ◌∙◌}
 use native.Mathlib.Omega.{arith}
-use borrow.Author.Rules.{rules}
 use Rattle.numeric.proofs.reduce_row.Goals as goal
 use Rattle.numeric.proofs.reduce_row.Goals.{After-eliminate-row}
 

@@ -1,5 +1,4 @@
 use mathlib.Core.Path.{sym, ◌∙◌}
-use borrow.Author.Rules.{rules}
 use Rattle.numeric.proofs.row_finite.Goals as goal
 
 pub returns-then-is_finite-2 : goal.returns-then-is_finite-2

@@ -1,12 +1,9 @@
 use native.Mathlib.Nat.{add-zero}
 use Rattle.numeric.proofs.Turns.{scale-pass, scale-fail, scale-end}
-use Rattle.arithmetic.specs.RowEnd.{finite_all, products}
-use lib.Seq.{sets}
-use lib.ListN.{length, get_or, drop, length-set}
+use lib.ListN.{length, get_or, length-set}
 use mathlib.Core.Bool.{true≢false}
-use mathlib.Core.Path.{◌≡◌, refl, sym, ◌∙◌}
-use Prim.Native.Nat.{◌≤◌, ◌<◌, ◌-◌, ◌+◌}
-use borrow.Author.Rules.{rules}
+use mathlib.Core.Path.{refl, sym, ◌∙◌}
+use Prim.Native.Nat.{◌<◌}
 use native.Mathlib.Omega.{arith}
 use Rattle.numeric.proofs.scale.Goals as goal
 use Rattle.numeric.proofs.scale.Goals.{In-loop-p}

@@ -1,13 +1,8 @@
-use native.Mathlib.Nat.{add-zero}
-use Rattle.numeric.proofs.Turns.{scale-pass, scale-fail, scale-end}
 use Rattle.arithmetic.specs.RowEnd.{finite_all, products}
 use lib.Seq.{sets}
-use lib.ListN.{length, get_or, drop, length-set}
-use mathlib.Core.Bool.{true≢false}
-use mathlib.Core.Path.{◌≡◌, refl, sym, ◌∙◌}
-use Prim.Native.Nat.{◌≤◌, ◌<◌, ◌-◌, ◌+◌}
-use borrow.Author.Rules.{rules}
-use native.Mathlib.Omega.{arith}
+use lib.ListN.{length, drop}
+use mathlib.Core.Path.{◌≡◌}
+use Prim.Native.Nat.{◌≤◌, ◌-◌, ◌+◌}
 use Rattle.numeric.proofs.scale.Given as goal
 
 abbrev pub invariant-loop-p : goal.invariant-loop-p

@@ -1,9 +1,5 @@
 use Rattle.numeric.proofs.Turns.{rest-turn, rest_end}
-use Rattle.arithmetic.specs.Stopping.{any, rest}
-use lib.ListN.{length, drop}
-use mathlib.Core.Path.{◌≡◌, sym, ◌∙◌}
-use Prim.Native.Nat.{◌≤◌, ◌-◌}
-use borrow.Author.Rules.{rules}
+use mathlib.Core.Path.{sym, ◌∙◌}
 use native.Mathlib.Omega.{arith}
 use Rattle.numeric.proofs.subtract_products.Goals as goal
 

@@ -1,10 +1,7 @@
-use Rattle.numeric.proofs.Turns.{rest-turn, rest_end}
 use Rattle.arithmetic.specs.Stopping.{any, rest}
 use lib.ListN.{length, drop}
-use mathlib.Core.Path.{◌≡◌, sym, ◌∙◌}
+use mathlib.Core.Path.{◌≡◌}
 use Prim.Native.Nat.{◌≤◌, ◌-◌}
-use borrow.Author.Rules.{rules}
-use native.Mathlib.Omega.{arith}
 use Rattle.numeric.proofs.subtract_products.Given as goal
 
 abbrev pub invariant-loop-p : goal.invariant-loop-p

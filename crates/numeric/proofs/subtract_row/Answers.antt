@@ -3,7 +3,6 @@ use Rattle.numeric.proofs.Turns.{stepped}
 use lib.Seq.{length-take-le}
 use mathlib.Core.Path.{sym}
 use native.Mathlib.Omega.{arith}
-use borrow.Author.Rules.{rules}
 use Rattle.numeric.proofs.subtract_row.Goals as goal
 
 pub list_at-above-requires : goal.list_at-above-requires

@@ -1,11 +1,8 @@
 use Rattle.numeric.proofs.Turns.{unset-turn, unset-end}
-use Rattle.numeric.specs.Stores.{set_all}
-use Rattle.lent.specs.Reading.{order_of, placed}
-use lib.ListN.{length, drop, length-set}
-use lib.Ieee.{nan}
-use mathlib.Core.Path.{◌≡◌, sym, ◌∙◌}
-use Prim.Native.Nat.{◌≤◌, ◌<◌, ◌-◌}
-use borrow.Author.Rules.{rules}
+use Rattle.lent.specs.Reading.{order_of}
+use lib.ListN.{length, length-set}
+use mathlib.Core.Path.{sym, ◌∙◌}
+use Prim.Native.Nat.{◌<◌}
 use native.Mathlib.Omega.{arith}
 use Rattle.numeric.proofs.unset_row.Goals as goal
 use Rattle.numeric.proofs.unset_row.Goals.{After-entry_place-j}

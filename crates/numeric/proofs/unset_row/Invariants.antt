@@ -1,12 +1,9 @@
-use Rattle.numeric.proofs.Turns.{unset-turn, unset-end}
 use Rattle.numeric.specs.Stores.{set_all}
 use Rattle.lent.specs.Reading.{order_of, placed}
-use lib.ListN.{length, drop, length-set}
+use lib.ListN.{length, drop}
 use lib.Ieee.{nan}
-use mathlib.Core.Path.{◌≡◌, sym, ◌∙◌}
-use Prim.Native.Nat.{◌≤◌, ◌<◌, ◌-◌}
-use borrow.Author.Rules.{rules}
-use native.Mathlib.Omega.{arith}
+use mathlib.Core.Path.{◌≡◌}
+use Prim.Native.Nat.{◌≤◌, ◌-◌}
 use Rattle.numeric.proofs.unset_row.Given as goal
 
 abbrev pub invariant-loop-p : goal.invariant-loop-p

@@ -5,7 +5,6 @@ use Prim.Native.Nat.{ℕ, ◌+◌, ◌*◌, ◌/◌, ◌<◌}
 use Rattle.base.specs.Tests.{by-test}
 use Rattle.printing.specs.Print.{digit}
 use native.Mathlib.Omega.{arith}
-use borrow.Author.Rules.{rules}
 use Rattle.printing.proofs.digit_of.Goals as goal
 
 by-arithmetic : (d : ℕ) → d < 16 → 48 + d + 7 * ((d + 6) / 16) ≡ digit d

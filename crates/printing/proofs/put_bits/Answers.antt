@@ -2,7 +2,6 @@ use Rattle.printing.specs.Written.{then-written}
 use Rattle.printing.specs.Print.{hexadecimal, bits_end}
 use Rattle.printing.proofs.Laws.{digits-length}
 use native.Mathlib.Omega.{arith}
-use borrow.Author.Rules.{rules}
 use Rattle.printing.proofs.put_bits.Goals as goal
 
 pub put_text-requires : goal.put_text-requires

@@ -1,5 +1,4 @@
 use Rattle.printing.proofs.Laws.{column-written}
-use borrow.Author.Rules.{rules}
 use Rattle.printing.proofs.put_column.Goals as goal
 
 pub returns : goal.returns

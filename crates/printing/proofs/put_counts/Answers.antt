@@ -1,7 +1,6 @@
 use Rattle.printing.specs.Written.{then-written}
 use Rattle.printing.specs.Print.{counts_line}
 use native.Mathlib.Omega.{arith}
-use borrow.Author.Rules.{rules}
 use Rattle.printing.proofs.put_counts.Goals as goal
 
 pub returns : goal.returns

@@ -1,7 +1,6 @@
 use Rattle.printing.proofs.Laws.{digits-length}
 use Rattle.printing.specs.Print.{decimal}
 use native.Mathlib.Omega.{arith}
-use borrow.Author.Rules.{rules}
 use Rattle.printing.proofs.put_decimal.Goals as goal
 
 pub returns : goal.returns

@@ -1,9 +1,5 @@
 use native.Mathlib.Nat.{mod-lt}
-use mathlib.Core.Path.{◌≡◌, refl, ◌∙◌}
-use Prim.Native.Nat.{◌≤◌}
-use lib.ListN.{length}
-use lib.Seq.{sets}
-use Rattle.printing.specs.Print.{digits}
+use mathlib.Core.Path.{refl, ◌∙◌}
 use Rattle.printing.proofs.Laws.{digits-turn, digits-none, digits-length}
 use borrow.Author.Rules.{rules}
 use native.Mathlib.Omega.{arith}

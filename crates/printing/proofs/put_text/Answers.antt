@@ -1,8 +1,5 @@
 use native.Mathlib.Nat.{add-zero}
-use mathlib.Core.Path.{◌≡◌, ◌∙◌}
-use Prim.Native.Nat.{◌+◌, ◌-◌, ◌≤◌}
-use lib.ListN.{length, drop}
-use lib.Seq.{sets}
+use mathlib.Core.Path.{◌∙◌}
 use Rattle.printing.proofs.Laws.{text-turn, text-end}
 use borrow.Author.Rules.{rules}
 use native.Mathlib.Omega.{arith}

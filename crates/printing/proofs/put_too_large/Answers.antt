@@ -1,6 +1,5 @@
 use Rattle.printing.specs.Print.{too_large_line}
 use native.Mathlib.Omega.{arith}
-use borrow.Author.Rules.{rules}
 use Rattle.printing.proofs.put_too_large.Goals as goal
 
 pub returns : goal.returns

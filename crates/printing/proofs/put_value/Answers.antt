@@ -2,7 +2,6 @@ use Rattle.printing.specs.Written.{then-written}
 use Rattle.printing.specs.Print.{value_line}
 use Rattle.printing.proofs.Laws.{bits-length}
 use native.Mathlib.Omega.{arith}
-use borrow.Author.Rules.{rules}
 use Rattle.printing.proofs.put_value.Goals as goal
 
 pub returns : goal.returns

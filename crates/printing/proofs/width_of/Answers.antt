@@ -1,5 +1,4 @@
-use Rattle.printing.proofs.Laws.{Counting, counting-start, counting-turn, counting-end}
-use borrow.Author.Rules.{rules}
+use Rattle.printing.proofs.Laws.{counting-start, counting-turn, counting-end}
 use native.Mathlib.Omega.{arith}
 use Rattle.printing.proofs.width_of.Goals as goal
 

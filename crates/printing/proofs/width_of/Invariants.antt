@@ -1,6 +1,4 @@
-use Rattle.printing.proofs.Laws.{Counting, counting-start, counting-turn, counting-end}
-use borrow.Author.Rules.{rules}
-use native.Mathlib.Omega.{arith}
+use Rattle.printing.proofs.Laws.{Counting}
 use Rattle.printing.proofs.width_of.Given as goal
 
 abbrev pub invariant-loop-rest : goal.invariant-loop-rest

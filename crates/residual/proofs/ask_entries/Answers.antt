@@ -1,7 +1,6 @@
 use Rattle.questions.specs.AskLaws.{then-stop, then-pass}
 use Rattle.residual.specs.Answer.{ask_entries}
 use Rattle.residual.proofs.Asking.{out-stop, out-pass, entry-stop, entry-pass}
-use borrow.Author.Rules.{rules}
 use Rattle.residual.proofs.ask_entries.Goals as goal
 
 pub returns-in-Stop : goal.returns-in-Stop

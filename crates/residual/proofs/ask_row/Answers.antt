@@ -1,7 +1,6 @@
 use Rattle.questions.specs.AskLaws.{then-stop, then-pass}
 use Rattle.residual.specs.Answer.{ask_row}
 use Rattle.residual.proofs.Asking.{sized-by}
-use borrow.Author.Rules.{rules}
 use Rattle.residual.proofs.ask_row.Goals as goal
 
 pub returns-in-Stop : goal.returns-in-Stop

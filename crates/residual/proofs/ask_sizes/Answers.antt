@@ -1,6 +1,5 @@
 use mathlib.Core.Bool.{true, false}
 use native.Mathlib.Omega.{arith}
-use borrow.Author.Rules.{rules}
 use Rattle.outcome.proofs.Making.{made-few, made-stop, made-on}
 use Rattle.residual.specs.Answer.{ask_sizes}
 use Rattle.residual.proofs.Asking.{e-first}

@@ -2,7 +2,6 @@ use mathlib.Core.Bool.{true, false}
 use mathlib.Core.List.{[]}
 use Rattle.matrix.specs.Input.{Input, input_of}
 use Rattle.residual.proofs.Rows.{few, row-lent, row_is}
-use borrow.Author.Rules.{rules}
 use Rattle.residual.proofs.check_row.Goals as goal
 use Rattle.residual.proofs.check_row.Goals.{Start}
 

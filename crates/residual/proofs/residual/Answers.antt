@@ -3,7 +3,6 @@ use Rattle.matrix.specs.Input.{Input, input_of}
 use Rattle.residual.specs.Answer.{checked}
 use Rattle.residual.proofs.Promises.{promised}
 use Rattle.residual.proofs.Calls.{answer-stop, answer-pass, readable-by}
-use borrow.Author.Rules.{rules}
 use Rattle.residual.proofs.residual.Goals as goal
 use Rattle.residual.proofs.residual.Goals.{Start}
 

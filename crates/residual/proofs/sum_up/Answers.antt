@@ -1,7 +1,5 @@
-use Prim.Native.Nat.{◌-◌}
-use lib.ListN.{length}
 use borrow.Author.Rules.{rules, scaled_Fits}
-use Rattle.residual.proofs.Turns.{Going, going_start, going_more, going_end, column-under}
+use Rattle.residual.proofs.Turns.{going_start, going_more, going_end, column-under}
 use Rattle.residual.proofs.sum_up.Goals as goal
 
 pub loop-p-init : goal.loop-p-init

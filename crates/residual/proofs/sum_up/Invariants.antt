@@ -1,7 +1,6 @@
 use Prim.Native.Nat.{◌-◌}
 use lib.ListN.{length}
-use borrow.Author.Rules.{rules, scaled_Fits}
-use Rattle.residual.proofs.Turns.{Going, going_start, going_more, going_end, column-under}
+use Rattle.residual.proofs.Turns.{Going}
 use Rattle.residual.proofs.sum_up.Given as goal
 
 abbrev pub invariant-loop-p : goal.invariant-loop-p

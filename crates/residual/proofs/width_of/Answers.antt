@@ -1,5 +1,4 @@
 use mathlib.Core.Path.{refl}
-use borrow.Author.Rules.{rules}
 use lib.Ieee.{of_bits}
 use Rattle.residual.specs.Residual.{share, least, width_from}
 use Rattle.residual.proofs.width_of.Goals as goal

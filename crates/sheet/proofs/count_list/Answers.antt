@@ -1,7 +1,5 @@
-use Prim.Native.Nat.{◌-◌, ◌≤◌}
 use native.Mathlib.Omega.{arith}
-use lib.ListN.{length}
-use Rattle.sheet.proofs.CountLaws.{Tally, tally-start, tally-end, read-there, read_small, read-turn}
+use Rattle.sheet.proofs.CountLaws.{tally-start, tally-end, read-there, read_small, read-turn}
 use borrow.Author.Rules.{rules}
 use Rattle.sheet.proofs.count_list.Goals as goal
 

@@ -1,8 +1,6 @@
 use Prim.Native.Nat.{◌-◌, ◌≤◌}
-use native.Mathlib.Omega.{arith}
 use lib.ListN.{length}
-use Rattle.sheet.proofs.CountLaws.{Tally, tally-start, tally-end, read-there, read_small, read-turn}
-use borrow.Author.Rules.{rules}
+use Rattle.sheet.proofs.CountLaws.{Tally}
 use Rattle.sheet.proofs.count_list.Given as goal
 
 abbrev pub invariant-loop-p : goal.invariant-loop-p

@@ -1,6 +1,4 @@
-use Prim.Native.Nat.{◌-◌}
-use Rattle.sheet.proofs.CountLaws.{Rows, rows_start, column-counting, rows-turn, rows_end}
-use borrow.Author.Rules.{rules}
+use Rattle.sheet.proofs.CountLaws.{rows_start, column-counting, rows-turn, rows_end}
 use Rattle.sheet.proofs.count_rows.Goals as goal
 
 pub list_at-list-requires : goal.list_at-list-requires

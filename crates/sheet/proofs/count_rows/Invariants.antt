@@ -1,6 +1,5 @@
 use Prim.Native.Nat.{◌-◌}
-use Rattle.sheet.proofs.CountLaws.{Rows, rows_start, column-counting, rows-turn, rows_end}
-use borrow.Author.Rules.{rules}
+use Rattle.sheet.proofs.CountLaws.{Rows}
 use Rattle.sheet.proofs.count_rows.Given as goal
 
 abbrev pub invariant-loop-j : goal.invariant-loop-j

@@ -1,6 +1,5 @@
 use mathlib.Core.Path.{◌∙◌}
 use Rattle.base.specs.ZerosLaws.{blank-same}
-use borrow.Author.Rules.{rules}
 use Rattle.sheet.proofs.CountLaws.{rows-printable}
 use Rattle.sheet.proofs.print.Goals as goal
 

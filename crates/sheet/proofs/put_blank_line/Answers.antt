@@ -1,5 +1,4 @@
 use Rattle.sheet.proofs.Laws.{blank-line}
-use borrow.Author.Rules.{rules}
 use Rattle.sheet.proofs.put_blank_line.Goals as goal
 
 pub returns : goal.returns

@@ -1,7 +1,4 @@
-use Prim.Native.Nat.{◌-◌, ◌≤◌}
-use mathlib.Core.Path.{◌≡◌, refl, ◌∙◌}
-use lib.ListN.{length}
-use Rattle.sheet.specs.Printing.{LinesWritten, line_in}
+use mathlib.Core.Path.{refl, ◌∙◌}
 use Rattle.sheet.proofs.Laws.{lines_start, lines_more, lines_end}
 use borrow.Author.Rules.{rules}
 use Rattle.sheet.proofs.put_lines.Goals as goal

@@ -1,9 +1,7 @@
 use Prim.Native.Nat.{◌-◌, ◌≤◌}
-use mathlib.Core.Path.{◌≡◌, refl, ◌∙◌}
+use mathlib.Core.Path.{◌≡◌}
 use lib.ListN.{length}
 use Rattle.sheet.specs.Printing.{LinesWritten, line_in}
-use Rattle.sheet.proofs.Laws.{lines_start, lines_more, lines_end}
-use borrow.Author.Rules.{rules}
 use Rattle.sheet.proofs.put_lines.Given as goal
 
 abbrev pub invariant-loop-j : goal.invariant-loop-j

@@ -1,5 +1,4 @@
 use Rattle.sheet.proofs.Laws.{page-whole}
-use borrow.Author.Rules.{rules}
 use Rattle.sheet.proofs.put_page.Goals as goal
 
 pub returns : goal.returns

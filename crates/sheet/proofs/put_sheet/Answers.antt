@@ -1,8 +1,5 @@
-use Prim.Native.Nat.{◌-◌}
 use native.Mathlib.Omega.{arith}
-use Rattle.sheet.specs.Printing.{line_in}
-use Rattle.sheet.proofs.Laws.{Pages, pages-start, pages-more, pages-end, page-room}
-use borrow.Author.Rules.{rules}
+use Rattle.sheet.proofs.Laws.{pages-start, pages-more, pages-end, page-room}
 use Rattle.sheet.proofs.put_sheet.Goals as goal
 
 pub put_page-at-requires : goal.put_page-at-requires

@@ -1,8 +1,6 @@
 use Prim.Native.Nat.{◌-◌}
-use native.Mathlib.Omega.{arith}
 use Rattle.sheet.specs.Printing.{line_in}
-use Rattle.sheet.proofs.Laws.{Pages, pages-start, pages-more, pages-end, page-room}
-use borrow.Author.Rules.{rules}
+use Rattle.sheet.proofs.Laws.{Pages}
 use Rattle.sheet.proofs.put_sheet.Given as goal
 
 abbrev pub invariant-loop-p : goal.invariant-loop-p

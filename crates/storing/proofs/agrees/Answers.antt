@@ -1,9 +1,5 @@
-use Prim.Native.Nat.{◌-◌}
-use mathlib.Core.Path.{◌≡◌, refl, sym, ◌∙◌}
+use mathlib.Core.Path.{refl, sym, ◌∙◌}
 use native.Mathlib.Omega.{arith}
-use lib.ListN.{drop}
-use borrow.Author.Rules.{rules}
-use Rattle.placement.specs.Placing.{agree}
 use Rattle.storing.specs.LoopLaws.{agree-end, agree-hit, agree-miss}
 use Rattle.storing.proofs.agrees.Goals as goal
 

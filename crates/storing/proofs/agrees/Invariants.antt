@@ -1,10 +1,7 @@
 use Prim.Native.Nat.{◌-◌}
-use mathlib.Core.Path.{◌≡◌, refl, sym, ◌∙◌}
-use native.Mathlib.Omega.{arith}
+use mathlib.Core.Path.{◌≡◌}
 use lib.ListN.{drop}
-use borrow.Author.Rules.{rules}
 use Rattle.placement.specs.Placing.{agree}
-use Rattle.storing.specs.LoopLaws.{agree-end, agree-hit, agree-miss}
 use Rattle.storing.proofs.agrees.Given as goal
 
 abbrev pub invariant-loop-j : goal.invariant-loop-j

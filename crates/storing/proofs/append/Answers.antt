@@ -1,8 +1,6 @@
-use Prim.Native.Nat.{◌-◌, ◌≤◌}
 use mathlib.Core.Path.{◌≡◌, refl, ap, ◌∙◌}
 use native.Mathlib.Omega.{arith}
 use lib.ListN.{length, length-set}
-use borrow.Author.Rules.{rules}
 use lib.Seq.{paste, paste-zero}
 use Rattle.storing.specs.LoopLaws.{append-turn}
 use Rattle.storing.proofs.append.Goals as goal

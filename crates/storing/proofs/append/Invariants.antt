@@ -1,10 +1,7 @@
 use Prim.Native.Nat.{◌-◌, ◌≤◌}
-use mathlib.Core.Path.{◌≡◌, refl, ap, ◌∙◌}
-use native.Mathlib.Omega.{arith}
-use lib.ListN.{length, length-set}
-use borrow.Author.Rules.{rules}
-use lib.Seq.{paste, paste-zero}
-use Rattle.storing.specs.LoopLaws.{append-turn}
+use mathlib.Core.Path.{◌≡◌}
+use lib.ListN.{length}
+use lib.Seq.{paste}
 use Rattle.storing.proofs.append.Given as goal
 
 abbrev pub invariant-loop-j : goal.invariant-loop-j

@@ -1,9 +1,5 @@
-use Prim.Native.Nat.{◌+◌, ◌-◌, ◌≤◌}
-use mathlib.Core.Path.{◌≡◌, sym, ◌∙◌}
+use mathlib.Core.Path.{sym, ◌∙◌}
 use native.Mathlib.Omega.{arith}
-use lib.ListN.{length, drop}
-use borrow.Author.Rules.{rules}
-use Rattle.placement.specs.Placing.{first_at}
 use Rattle.storing.specs.LoopLaws.{first-end, first-hit, first-miss}
 use Rattle.storing.proofs.first_at.Goals as goal
 

@@ -1,10 +1,7 @@
 use Prim.Native.Nat.{◌+◌, ◌-◌, ◌≤◌}
-use mathlib.Core.Path.{◌≡◌, sym, ◌∙◌}
-use native.Mathlib.Omega.{arith}
+use mathlib.Core.Path.{◌≡◌}
 use lib.ListN.{length, drop}
-use borrow.Author.Rules.{rules}
 use Rattle.placement.specs.Placing.{first_at}
-use Rattle.storing.specs.LoopLaws.{first-end, first-hit, first-miss}
 use Rattle.storing.proofs.first_at.Given as goal
 
 abbrev pub invariant-loop-j : goal.invariant-loop-j

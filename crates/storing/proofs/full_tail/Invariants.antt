@@ -1,12 +1,8 @@
 use Prim.Native.Nat.{◌-◌, ◌≤◌}
 use mathlib.Core.Path.{◌≡◌}
-use native.Mathlib.Omega.{arith}
-use lib.ListN.{length, get_or}
-use borrow.Author.Rules.{rules}
+use lib.ListN.{length}
 use Rattle.base.specs.First.{first}
-use Rattle.base.specs.FirstLaws.{first-zero, first-end, scan-hit, scan-more}
 use Rattle.base.specs.declared.Found.TheVariants.{Nothing}
-use Rattle.base.specs.AscLaws.{mem-at}
 use Rattle.storing.specs.Slices.{full_at}
 use Rattle.storing.proofs.full_tail.Given as goal
 

@@ -1,6 +1,5 @@
 use mathlib.Core.Path.{sym}
 use native.Mathlib.Omega.{arith}
-use borrow.Author.Rules.{rules}
 use lib.Seq.{length-take-le}
 use Rattle.storing.specs.LookLaws.{ready-planning, no_index, no-values, looked-fits}
 use Rattle.storing.proofs.look_for.Goals as goal

@@ -1,6 +1,5 @@
 use mathlib.Core.Path.{sym, ap, ◌∙◌}
 use native.Mathlib.Omega.{arith}
-use borrow.Author.Rules.{rules}
 use Rattle.storing.specs.LoopLaws.{meets-is, meets-le, overlap-found, overlap-apart, overlap-missed}
 use Rattle.storing.specs.Slices.{as_plan}
 use Rattle.storing.proofs.overlap_plan.Goals as goal

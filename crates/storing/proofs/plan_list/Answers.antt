@@ -1,4 +1,3 @@
-use borrow.Author.Rules.{rules}
 use Rattle.storing.specs.PlanLaws.{planned-plain, planned-shared, planning-shared}
 use Rattle.storing.proofs.plan_list.Goals as goal
 

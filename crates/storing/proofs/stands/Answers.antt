@@ -1,4 +1,3 @@
-use borrow.Author.Rules.{rules}
 use Rattle.storing.specs.CheckLaws.{stands-is}
 use Rattle.storing.proofs.stands.Goals as goal
 

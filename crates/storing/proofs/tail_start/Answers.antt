@@ -1,5 +1,4 @@
 use native.Mathlib.Omega.{arith}
-use borrow.Author.Rules.{rules}
 use Rattle.storing.specs.TailLaws.{tail-long}
 use Rattle.storing.proofs.tail_start.Goals as goal
 

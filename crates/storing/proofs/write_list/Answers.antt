@@ -2,7 +2,6 @@ use Prim.Native.Nat.{◌+◌}
 use mathlib.Core.Path.{ap, ◌∙◌}
 use native.Mathlib.Omega.{arith}
 use lib.ListN.{length, length-drop}
-use borrow.Author.Rules.{rules}
 use lib.Seq.{get_or-drop}
 use Rattle.lent.specs.ReadingLaws.{take_rest}
 use Rattle.storing.specs.LoopLaws.{paste-rest, set_same}

@@ -11,15 +11,14 @@ use Rattle.outcome.specs.Resolve.{factors_of}
 use Rattle.factors.specs.Presented.{presented}
 use Rattle.substitution.specs.Sweep.{Swept}
 use Rattle.substitution.specs.EndLaws.{tied, begun, ends-early, ys-fine, ends, ends-below}
-use borrow.Author.Rules.{rules}
 use Rattle.substitution.proofs.solve_rows.Goals as goal
-use Rattle.substitution.proofs.solve_rows.Goals.{After-clear_f64, After-load_right, After-substitute_rows-a, Start}
+use Rattle.substitution.proofs.solve_rows.Goals.{After-clear_f64, After-load_right, After-substitute_rows-a}
 
-abbrev lower : Start → SideBuffers
-lower s = let a = s.args in side_buffers a.lower-starts.now a.lower-runs.now a.lower-index.now a.lower-values.now
+abbrev lower : After-substitute_rows-a → SideBuffers
+lower r = let a = r.args in side_buffers a.lower_starts.now a.lower_runs.now a.lower_index.now a.lower_values.now
 
-abbrev upper : Start → SideBuffers
-upper s = let a = s.args in side_buffers a.upper-starts.now a.upper-runs.now a.upper-index.now a.upper-values.now
+abbrev upper : After-substitute_rows-a → SideBuffers
+upper r = let a = r.args in side_buffers a.upper_starts.now a.upper_runs.now a.upper_index.now a.upper_values.now
 
 -- cleared scratch has as many slots
 whole : (c : After-clear_f64) → length c.clear_f64.new.s ≡ length c.args.work.now
@@ -35,7 +34,7 @@ load_right-requires c =
 
 -- scratch with the sums has as many slots, too
 loaded : (c : After-load_right) → length (c.load_right.new.sums ++ drop c.args.n c.clear_f64.new.s) ≡ length c.args.work.now
-loaded c = length_front c.clear_f64.new.s c.load_right.new.sums c.args.n c.load_right.auto.sums ∙ whole (goal.at.loaded c).After-clear_f64
+loaded c = length_front c.clear_f64.new.s c.load_right.new.sums c.args.n c.load_right.auto.sums ∙ c.clear_f64.auto.s
 
 pub substitute_rows-a-requires : goal.substitute_rows-a-requires
 substitute_rows-a-requires c =
@@ -43,34 +42,34 @@ substitute_rows-a-requires c =
     record { few = h.few; sound = h.sound; reciprocals = h.reciprocals; scratch = loaded (goal.at.substitute_rows-a-requires c).After-load_right ∙ h.scratch }
 
 -- what the sweep leaves, for the factors that are given
-abbrev Given : Start → Factors
-Given s = let a = s.args in factors_of a.form (input_of a.n [] [] [] a.r.now [] a.b.now) (presented (lower s) (upper s) a.d.now)
+abbrev Given : After-substitute_rows-a → Factors
+Given r = let a = r.args in factors_of a.form (input_of a.n [] [] [] a.r.now [] a.b.now) (presented (lower r) (upper r) a.d.now)
 
 swept : (r : After-substitute_rows-a)
-    → Swept r.args.form r.args.n (Given (goal.at.swept r).Start) (lower (goal.at.swept r).Start) r.substitute_rows-a.result r.substitute_rows-a.new.work
+    → Swept r.args.form r.args.n (Given r) (lower r) r.substitute_rows-a.result r.substitute_rows-a.new.work
 swept r =
     let a = r.args in
-    r.substitute_rows-a.ensures (Given (goal.at.swept r).Start) (tied a.form a.n a.r.now a.b.now (lower (goal.at.swept r).Start) (upper (goal.at.swept r).Start) a.d.now (length a.work.now) r.requires)
-    (begun a.form a.n a.r.now a.b.now (lower (goal.at.swept r).Start) (upper (goal.at.swept r).Start) a.d.now (length a.work.now) r.requires a.work.now _ _ refl r.clear_f64.ensures r.load_right.ensures)
+    r.substitute_rows-a.ensures (Given r) (tied a.form a.n a.r.now a.b.now (lower r) (upper r) a.d.now (length a.work.now) r.requires)
+    (begun a.form a.n a.r.now a.b.now (lower r) (upper r) a.d.now (length a.work.now) r.requires a.work.now _ _ refl r.clear_f64.ensures r.load_right.ensures)
 
 pub returns-in-Stopped : goal.returns-in-Stopped
 returns-in-Stopped c =
     let a = c.args in
-    ends-early a.form a.n a.r.now a.b.now (lower (goal.at.returns-in-Stopped c).Start) (upper (goal.at.returns-in-Stopped c).Start) a.d.now (length a.work.now) c.requires _ _ (swept (goal.at.returns-in-Stopped c).After-substitute_rows-a) _ [] c.in-Stopped.is
+    ends-early a.form a.n a.r.now a.b.now (lower (goal.at.returns-in-Stopped c).After-substitute_rows-a) (upper (goal.at.returns-in-Stopped c).After-substitute_rows-a) a.d.now (length a.work.now) c.requires _ _ (swept (goal.at.returns-in-Stopped c).After-substitute_rows-a) _ [] c.in-Stopped.is
 
 pub back_steps-requires : goal.back_steps-requires
 back_steps-requires c =
     let a = c.args in (
       c.substitute_rows-a.auto.work ∙ loaded (goal.at.back_steps-requires c).After-load_right ∙ c.requires.ready.scratch,
       c.requires.upper,
-      ys-fine a.form a.n a.r.now a.b.now (lower (goal.at.back_steps-requires c).Start) (upper (goal.at.back_steps-requires c).Start) a.d.now (length a.work.now) c.requires _ _ (swept (goal.at.back_steps-requires c).After-substitute_rows-a) c.in_default.is,
+      ys-fine a.form a.n a.r.now a.b.now (lower (goal.at.back_steps-requires c).After-substitute_rows-a) (upper (goal.at.back_steps-requires c).After-substitute_rows-a) a.d.now (length a.work.now) c.requires _ _ (swept (goal.at.back_steps-requires c).After-substitute_rows-a) c.in_default.is,
     )
 
 pub returns : goal.returns
 returns c =
     let a = c.args in (
-      ends a.form a.n a.r.now a.b.now (lower (goal.at.returns c).Start) (upper (goal.at.returns c).Start) a.d.now (length a.work.now) c.requires _ _ (swept (goal.at.returns c).After-substitute_rows-a) c.in_default.is c.back_steps.result (drop (z_from a.n) c.back_steps.new.f) c.back_steps.ensures.0,
-      ends-below a.form a.n a.r.now a.b.now (lower (goal.at.returns c).Start) (upper (goal.at.returns c).Start) a.d.now (length a.work.now) c.requires _ _ (swept (goal.at.returns c).After-substitute_rows-a) c.in_default.is c.back_steps.result (drop (z_from a.n) c.back_steps.new.f) c.back_steps.ensures.0,
+      ends a.form a.n a.r.now a.b.now (lower (goal.at.returns c).After-substitute_rows-a) (upper (goal.at.returns c).After-substitute_rows-a) a.d.now (length a.work.now) c.requires _ _ (swept (goal.at.returns c).After-substitute_rows-a) c.in_default.is c.back_steps.result (drop (z_from a.n) c.back_steps.new.f) c.back_steps.ensures.0,
+      ends-below a.form a.n a.r.now a.b.now (lower (goal.at.returns c).After-substitute_rows-a) (upper (goal.at.returns c).After-substitute_rows-a) a.d.now (length a.work.now) c.requires _ _ (swept (goal.at.returns c).After-substitute_rows-a) c.in_default.is c.back_steps.result (drop (z_from a.n) c.back_steps.new.f) c.back_steps.ensures.0,
     )
 
 -- scratch has as many slots at each end

@@ -1,5 +1,3 @@
-use Prim.Native.Nat.{◌-◌}
-use borrow.Author.Rules.{rules}
 use Rattle.base.proofs.Answer.counts.Goals as goal
 
 pub returns-in-Refused : goal.returns-in-Refused

@@ -1,4 +1,3 @@
-use borrow.Author.Rules.{rules}
 use Rattle.base.proofs.Refusal.place.Goals as goal
 
 pub returns-in-Rows : goal.returns-in-Rows

@@ -1,7 +1,6 @@
 use Rattle.base.specs.Limits.{max_entries}
 use Rattle.matrix.specs.Shape.{shape_of}
 use borrow.Author.Tests.{le-leb, lt-leb}
-use borrow.Author.Rules.{rules}
 use native.Mathlib.Omega.{arith}
 use Rattle.matrix.proofs.Matrix.new.Goals as goal
 

@@ -1,5 +1,4 @@
 use lib.Ieee.{of_bits}
-use borrow.Author.Rules.{rules}
 use Rattle.residual.proofs.Checked.residual.Goals as goal
 
 pub returns-in-Refused : goal.returns-in-Refused
