@@ -13,7 +13,7 @@ fail() {
     exit 2
 }
 
-# The program has no exit status, so the lines themselves tell whether they are all there.
+# The program's exit status tells of a failed write alone, so the lines themselves tell whether they are all there.
 whole() {
     printf '%s\n' "$1" | awk '
         NR == 1 && (/^refused [0-9]+ [0-9]+$/ || /^too large$/) { due = 1; next }
@@ -32,17 +32,19 @@ if [ ! -f "$file" ] || [ ! -r "$file" ]; then
 fi
 command -v rt >/dev/null 2>&1 || fail "the Rattle toolchain's command rt is not on the path"
 
-if ! mkdir -p "$root/target" 2>/dev/null || [ ! -w "$root/target" ]; then
-    fail "nothing can be built: the folder $root/target cannot be written"
+out=$root/crates/solve/out
+if ! mkdir -p "$out" 2>/dev/null || [ ! -w "$out" ]; then
+    fail "nothing can be built: the folder $out cannot be written"
 fi
 say "proving and building the program (some minutes the first time, seconds afterwards)"
-if ! log=$(cd -- "$root" && rt check solve 2>&1); then
+# rt builds the program and runs it, here on no bytes, which it refuses; without a proof rt runs nothing and fails.
+if ! log=$(cd -- "$root/crates/solve" && rt run </dev/null 2>&1); then
     say "it could not be proved and built; the end of what rt said:"
     printf '%s\n' "$log" | tail -n 20 >&2
     exit 2
 fi
 say "solving $file"
-if ! answer=$("$root/target/bin/solve" <"$file") || ! whole "$answer"; then
+if ! answer=$("$out/solve" <"$file") || ! whole "$answer"; then
     fail "the program did not print a whole answer"
 fi
 # A reader that is gone is a failed write too, not a signal that ends this script without a word.

@@ -1,8 +1,8 @@
 /* Lilacpliers: sparse elimination. The C interface of the static library libcapi.a, which is for x86-64 only.
- * `rt staticlib capi` makes the library; a program rank.c is compiled and linked by
+ * `rt lib` in crates/capi makes the library; a program rank.c is compiled and linked by
  *
  *   cc -Iinclude -c rank.c
- *   cc rank.o target/staticlib/libcapi.a -o rank
+ *   cc rank.o crates/capi/out/libcapi.a -o rank
  *
  * docs/GUIDE.md has a whole program.
  *

@@ -1,4 +1,4 @@
-//! Links target/staticlib/libcapi.a of the repository, the proved library.
+//! Links crates/capi/out/libcapi.a of the repository, the proved library.
 use std::path::PathBuf;
 
 /// The line of include/lilacpliers.h with the version of the interface that src/ffi.rs declares.
@@ -8,13 +8,13 @@ fn main() {
     let manifest = std::env::var("CARGO_MANIFEST_DIR").unwrap_or_default();
     let root = PathBuf::from(manifest).join("..");
     let header = root.join("include").join("lilacpliers.h");
-    let folder = root.join("target").join("staticlib");
+    let folder = root.join("crates").join("capi").join("out");
     let archive = folder.join("libcapi.a");
     println!("cargo:rerun-if-changed=build.rs");
     println!("cargo:rerun-if-changed={}", header.display());
     println!("cargo:rerun-if-changed={}", archive.display());
     if !archive.exists() {
-        stop(format!("{} is missing: run \"rt staticlib capi\" first", archive.display()));
+        stop(format!("{} is missing: run \"rt lib\" in crates/capi first", archive.display()));
     }
     let declared = std::fs::read_to_string(&header).unwrap_or_default();
     if !declared.lines().any(|line| line.trim_end() == VERSION) {

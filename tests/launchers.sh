@@ -9,7 +9,7 @@ failed=0
 # Blanks in the path, which every word of the scripts has to stand.
 place=$(mktemp -d)/"a place with blanks" || exit 1
 house=$place/house
-mkdir -p "$place/stubs" "$place/elsewhere" "$house/target/bin" "$house/examples" || exit 1
+mkdir -p "$place/stubs" "$place/elsewhere" "$house/crates/solve/out" "$house/examples" || exit 1
 trap 'rm -rf "${place%/*}"' EXIT
 cp solve.sh lilac "$house" && cp examples/* "$house/examples" || exit 1
 mkdir -p "$house/command/src" "$house/rust/src" "$house/include" || exit 1
@@ -52,12 +52,12 @@ printed() {
 }
 
 program() {
-    { echo 'cat >/dev/null'; echo "printf '$1'"; } | stub "$house/target/bin/solve"
+    { echo 'cat >/dev/null'; echo "printf '$1'"; } | stub "$house/crates/solve/out/solve"
 }
 
 solve_sh() {
     stub "$place/stubs/rt" <<'END'
-exit 0
+[ "$*" = run ] && [ "${PWD##*/}" = solve ]
 END
     two='n 2 lower 1 upper 1 products 1\nx 0 3FF0000000000000\nx 1 4000000000000000\n'
     lost="could not be written to standard output"
@@ -87,7 +87,7 @@ cut_answers() {
         expect "cut: $text" 2 "did not print a whole answer" sh "$house/solve.sh"
         printed "cut: $text" ""
     done
-    echo 'kill -9 $$' | stub "$house/target/bin/solve"
+    echo 'kill -9 $$' | stub "$house/crates/solve/out/solve"
     expect "a program that is killed" 2 "did not print a whole answer" sh "$house/solve.sh"
     stub "$place/stubs/rt" <<'END'
 echo "a proof is missing"
@@ -99,7 +99,7 @@ END
 # Stand-ins that build what the launcher asks for: a library, and a command that shows its words.
 builders() {
     stub "$place/stubs/rt" <<'END'
-[ "$*" = "staticlib capi" ] && mkdir -p target/staticlib && : >target/staticlib/libcapi.a
+[ "$*" = lib ] && [ "${PWD##*/}" = capi ] && : >out/libcapi.a
 END
     stub "$place/stubs/cargo" <<'END'
 mkdir -p target/release && printf '#!/bin/sh\nprintf "<%%s>" "$@"\n' >target/release/lilac && chmod +x target/release/lilac
@@ -130,26 +130,26 @@ exit 101
 END
     expect "cargo fails" 2 "error: the disk is full" "$house/lilac" x
     expect "cargo fails: what failed" 2 "this failed: cargo build" "$house/lilac" x
-    rm -rf "$house/target/staticlib"
+    rm -rf "$house/crates/capi/out"
     stub "$place/stubs/rt" <<'END'
 echo "a proof is missing"
 exit 1
 END
     expect "rt fails" 2 "a proof is missing" "$house/lilac" x
-    expect "rt fails: what failed" 2 "this failed: rt staticlib capi" "$house/lilac" x
+    expect "rt fails: what failed" 2 "this failed: rt lib" "$house/lilac" x
 }
 
 # A file in the place of a folder cannot be written by anybody.
 no_room() {
     builders
-    rm -rf "$house/target" "$house/command/target"
-    : >"$house/target"
-    expect "no room for the library" 2 "house/target cannot be written" "$house/lilac" x
-    expect "no room for the program" 2 "house/target cannot be written" sh "$house/solve.sh"
-    rm "$house/target"
+    rm -rf "$house/crates/capi/out" "$house/crates/solve/out" "$house/command/target"
+    : >"$house/crates/capi/out" && : >"$house/crates/solve/out"
+    expect "no room for the library" 2 "house/crates/capi/out cannot be written" "$house/lilac" x
+    expect "no room for the program" 2 "house/crates/solve/out cannot be written" sh "$house/solve.sh"
+    rm "$house/crates/capi/out" "$house/crates/solve/out"
     : >"$house/command/target"
     expect "no room for the command" 2 "command/target cannot be written" "$house/lilac" x
-    rm -r "$house/command/target" "$house/target/staticlib"
+    rm -r "$house/command/target" "$house/crates/capi/out"
 }
 
 # Only what the scripts themselves need is on the path.
@@ -160,7 +160,7 @@ missing_tools() {
     done
     expect "no rt" 2 "rt is not on the path" env PATH="$place/few" sh "$house/lilac" x
     expect "no rt for solve.sh" 2 "rt is not on the path" env PATH="$place/few" sh "$house/solve.sh"
-    mkdir -p "$house/target/staticlib" && : >"$house/target/staticlib/libcapi.a"
+    mkdir -p "$house/crates/capi/out" && : >"$house/crates/capi/out/libcapi.a"
     expect "no cargo" 2 "cargo is not on the path" env PATH="$place/few" sh "$house/lilac" x
 }
 

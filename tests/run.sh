@@ -86,10 +86,10 @@ real_answers() {
 
 # The program comes first, since the checks run it. The library is built beside the checks that do not need it; an older
 # one must not stand in for one that cannot be built.
-rm -f target/staticlib/libcapi.a
+rm -f crates/capi/out/libcapi.a
 one "solve.sh" "does not print the paper's three lines" paper_lines
 one "solve.sh" "a refusal is not printed, or lost output is not told" real_answers
-rt staticlib capi >&2 &
+(cd crates/capi && exec rt lib) >&2 &
 library=$!
 
 checks --features standin --bin planted

@@ -1,6 +1,6 @@
 //! The Rattle calls of a document, run: they fill the places of a program, which `rt try` runs without proof. Arguments
 //! are called as the parameters that they stand for, so that an exchange of two of one type is told too.
-use super::scratch::{link_all, Scratch};
+use super::scratch::{copy_all, Scratch};
 use super::{tail, text_of};
 use crate::checks::header::repository;
 use crate::compare::{self, differ, Compared, Difference};
@@ -82,12 +82,19 @@ fn crates_line(program: &str) -> String {
     format!("tour: {}\n", names.into_iter().collect::<Vec<_>>().join(" "))
 }
 
-/// A repository of links with the program as one crate more.
+/// A repository of the same sources with the program as one crate more. rt takes no links to other folders.
 fn repository_with(scratch: &Scratch, program: &str, filled: &str) -> io::Result<()> {
     let listed = fs::read_to_string(repository().join("crates.txt"))?;
     scratch.write("tour/crates.txt", &format!("{listed}{}", crates_line(program)))?;
     scratch.write("tour/crates/tour/src/main.rt", filled)?;
-    link_all(&repository().join("crates").canonicalize()?, &scratch.folder.join("tour/crates"))
+    for item in fs::read_dir(repository().join("crates"))? {
+        let item = item?;
+        let sources = item.path().join("src");
+        if sources.is_dir() {
+            copy_all(&sources, &scratch.folder.join("tour/crates").join(item.file_name()).join("src"))?;
+        }
+    }
+    Ok(())
 }
 
 /// Runs the calls of a document's blocks in the program.
@@ -95,7 +102,7 @@ pub fn run(scratch: &Scratch, blocks: &str, program: &str) -> Compared {
     let statements = statements(blocks)?;
     statements.iter().try_for_each(|(called, statement)| arguments_alike(called, statement))?;
     let filled = fill(program, statements)?;
-    let tried = repository_with(scratch, program, &filled).and_then(|()| scratch.run("tour", &["rt", "try", "tour"]));
+    let tried = repository_with(scratch, program, &filled).and_then(|()| scratch.run("tour/crates/tour", &["rt", "try"]));
     match tried {
         Ok(output) if output.status.success() => Ok(()),
         Ok(output) => differ("rt try", tail(&output), "every check of tests/tour/main.txt met"),

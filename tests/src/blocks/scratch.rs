@@ -48,6 +48,21 @@ impl Drop for Scratch {
     }
 }
 
+/// Copies a folder with all that is in it.
+pub fn copy_all(from: &Path, to: &Path) -> io::Result<()> {
+    fs::create_dir_all(to)?;
+    for item in fs::read_dir(from)? {
+        let item = item?;
+        let copy = to.join(item.file_name());
+        if item.file_type()?.is_dir() {
+            copy_all(&item.path(), &copy)?;
+        } else {
+            fs::copy(item.path(), copy)?;
+        }
+    }
+    Ok(())
+}
+
 /// Makes a link in one folder to each item of another, but for what belongs to git.
 pub fn link_all(from: &Path, to: &Path) -> io::Result<()> {
     for item in fs::read_dir(from)? {

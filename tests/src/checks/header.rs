@@ -40,7 +40,7 @@ fn linked() -> Compared {
     }
     let program = folder.join("header_test");
     let mut command = gcc();
-    command.arg(repository().join("target/staticlib/libcapi.a")).arg("-o").arg(&program);
+    command.arg(repository().join("crates/capi/out/libcapi.a")).arg("-o").arg(&program);
     let result = succeeds("gcc", command).and_then(|()| succeeds("header_test", Command::new(&program)));
     let _ = std::fs::remove_dir_all(&folder);
     result

@@ -11,11 +11,11 @@ use std::io::{ErrorKind, Write};
 use std::path::{Path, PathBuf};
 use std::process::{Command, Output, Stdio};
 
-/// The executable: LILACPLIERS_PROGRAM, or target/bin/solve of the repository.
+/// The executable: LILACPLIERS_PROGRAM, or crates/solve/out/solve of the repository.
 pub fn executable() -> PathBuf {
     match std::env::var_os("LILACPLIERS_PROGRAM") {
         Some(path) => PathBuf::from(path),
-        None => super::header::repository().join("target").join("bin").join("solve"),
+        None => super::header::repository().join("crates/solve/out/solve"),
     }
 }
 
