@@ -9,7 +9,7 @@ use mathlib.Core.Path.{◌≡◌}
 use Rattle.symbolic.specs.declared.OpenRow.{OpenRow}
 use Rattle.symbolic.specs.declared.Opened.TheVariants.{Row}
 use Rattle.symbolic.proofs.place_side.Goals as goal
-use Rattle.symbolic.proofs.place_side.Goals.{After-open_place-opened, After-share_list-put, In-Row-2}
+use Rattle.symbolic.proofs.place_side.Goals.{After-open_place-opened, After-share_list-put}
 
 pub open_place-opened-requires : goal.open_place-opened-requires
 open_place-opened-requires c = let d = c.requires in record { order = d.order; lists = _; due = side-open d.due }
