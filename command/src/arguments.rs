@@ -104,7 +104,7 @@ pub enum Topic {
     Check,
 }
 
-const COMMANDS: &str = "solve, factor, structure, convert, picture, sheet, load or check (lilac --help tells more)";
+const COMMANDS: &str = "solve, factor, structure, convert, check, picture, sheet or load (lilac --help tells more)";
 const HELP: [&str; 2] = ["--help", "-h"];
 
 /// The options of a command that take a word behind them.

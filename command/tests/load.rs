@@ -151,5 +151,5 @@ fn help_tells_of_it() {
     assert!(done(&["--help"]).contains("lilac load N SEED"));
     assert!(done(&["help", "load"]).starts_with("lilac load N SEED [options]\n"));
     assert_eq!(done(&["load", "--help"]), done(&["help", "load"]));
-    assert!(failed(2, &["laod", "5", "1"]).contains("picture, sheet, load or check"));
+    assert!(failed(2, &["laod", "5", "1"]).contains("picture, sheet or load"));
 }

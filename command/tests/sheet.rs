@@ -198,5 +198,5 @@ fn help_tells_of_it() {
         assert!(text.contains(&format!("  columns {columns}")), "{columns}");
     }
     assert_eq!(done(&["sheet", "--help"]), text);
-    assert!(failed(2, &["shet", "a.mtx"]).contains("picture, sheet, load or check"));
+    assert!(failed(2, &["shet", "a.mtx"]).contains("picture, sheet or load"));
 }

@@ -142,10 +142,16 @@ impl<'a> Question<'a> {
         Err(Refusal { number, place, row: self.row(number, place as usize), words: self.words(number, place as usize) })
     }
 
+    /// Whether 22 can be its answer.
+    fn is_of_a_row(&self) -> bool {
+        matches!(self.call, Call::Residual(_))
+    }
+
     /// The row of the matrix at fault.
     fn row(&self, number: u32, place: usize) -> Option<usize> {
         match number {
-            3 | 7 | 22 => Some(place),
+            3 | 7 => Some(place),
+            22 if self.is_of_a_row() => Some(place),
             4 => self.row_of_entry(place),
             6 if place < self.entries() => self.row_of_entry(place),
             6 => Some(place - self.entries()).filter(|&row| self.x.is_none() || Some(row) < self.rows),
@@ -170,7 +176,7 @@ impl<'a> Question<'a> {
             19 => "the floor under pivots must be a finite number, zero or greater".into(),
             20 => "the factor file is longer or shorter than its first numbers say, or does not end in zeros".into(),
             21 => "the factor file's count of products is not that of its lists".into(),
-            22 => format!("a result of row {place} is not finite; scaled rows may avoid it"),
+            22 if self.is_of_a_row() => format!("a result of row {place} is not finite; scaled rows may avoid it"),
             _ => format!("the library refuses it with {number} at {place}"),
         }
     }
@@ -324,7 +330,7 @@ mod tests {
         let matrix = Matrix::from_triplets(1, &[(0, 0, 1.0)]).unwrap();
         let orders = Orders::natural(1);
         for question in [Question::structure(&matrix, &orders), Question::read(&[0; 512]), Question::load(1)] {
-            for number in [8, 23, u32::MAX] {
+            for number in [8, 22, u32::MAX] {
                 let refusal = question.settle(&Answer { number, report: [3, 0, 0, 0] }).unwrap_err();
                 assert_eq!((refusal.number(), refusal.place(), refusal.row()), (number, 3, None));
                 assert_eq!(refusal.to_string(), format!("the library refuses it with {number} at 3"));

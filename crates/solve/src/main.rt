@@ -1,7 +1,8 @@
 // Reads a matrix file from standard input and prints its solution, or why there is none.
 #![tactic(auto)]
 
-ghost use Rattle.std.specs.Prelude.{◌≡◌, ◌≤◌, length};
+ghost use Rattle.std.specs.Prelude.{◌≡◌, ◌≤◌, length, take};
+ghost use Rattle.std.specs.Io.KnownBytes.{Consumes};
 
 use std::io;
 use std::io::{Read, Write};
@@ -22,7 +23,8 @@ fn output_buffer() -> [u8; 4096]
 
 // Reads until the buffer is full, the input ends or a read fails, and answers how many bytes it put at the buffer's start.
 fn read_full<R: Read>(reader: &mut R, buf: &mut [u8]) -> usize
-    ensures { result ≤ length buf.new }
+    ensures in_bounds { result ≤ length buf.new }
+    ensures bytes { Consumes (R.remaining reader.old) (R.remaining reader.new) (take result buf.new) }
 {
     let mut done = 0;
     while done < buf.len() {

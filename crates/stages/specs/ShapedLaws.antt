@@ -16,7 +16,7 @@ use Rattle.base.specs.declared.SideSizes.{SideSizes}
 use Rattle.base.specs.declared.Sizes.{Sizes}
 use Rattle.outcome.specs.Structure.{fits, ask_place, ask_places}
 use Rattle.outcome.specs.Solve.{shape}
-use Rattle.outcome.proofs.Making.{passed}
+pub use Rattle.outcome.proofs.Making.{passed}
 use Rattle.outcome.specs.Placed.{PlacedSide}
 use Rattle.questions.specs.Lent.{Lent, Inverse}
 use Rattle.questions.specs.Settled.{Structured}
