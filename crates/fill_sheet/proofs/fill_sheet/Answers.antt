@@ -1,5 +1,4 @@
 use mathlib.Core.Path.{◌∙◌}
-use borrow.Author.Rules.{rules}
 use Rattle.fill_sheet.proofs.Call.{wrong-out, refused-left, print-lent, done-left}
 use Rattle.fill_sheet.proofs.fill_sheet.Goals as goal
 
