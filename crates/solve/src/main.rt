@@ -1,8 +1,9 @@
 // Reads a matrix file from standard input and prints its solution, or why there is none.
 #![tactic(auto)]
 
-ghost use Rattle.std.specs.Prelude.{◌≡◌, ◌≤◌, length, take};
-ghost use Rattle.std.specs.Io.KnownBytes.{Consumes};
+ghost use Rattle.std.specs.Prelude.{◌≡◌, ◌≤◌, ℕ, List, OnOk, length, take};
+ghost use Rattle.std.specs.Io.KnownBytes.{Appends, Consumes};
+ghost use Rattle.program.specs.Program.{printed};
 
 use std::io;
 use std::io::{Read, Write};
@@ -36,10 +37,18 @@ fn read_full<R: Read>(reader: &mut R, buf: &mut [u8]) -> usize
     done
 }
 
-fn main(rt: HostRuntime) -> io::Result<()> {
+// Writes what is printed for the bytes that it reads.
+fn answer<R: Read, W: Write>(reader: &mut R, writer: &mut W) -> io::Result<()>
+    ensures { OnOk result ((file : List ℕ) × Consumes (R.remaining reader.old) (R.remaining reader.new) file
+        × Appends (W.contents writer.old) (W.contents writer.new) (printed file)) }
+{
     let mut file = input_buffer();
-    let n = read_full(&mut rt.stdin(), &mut file);
+    let n = read_full(reader, &mut file);
     let mut out = output_buffer();
     let k = program::solve_file(&file[..n], &mut out);
-    rt.stdout().write_all(&out[..k])
+    writer.write_all(&out[..k])
+}
+
+fn main(rt: HostRuntime) -> io::Result<()> {
+    answer(&mut rt.stdin(), &mut rt.stdout())
 }
