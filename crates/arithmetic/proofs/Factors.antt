@@ -7,10 +7,7 @@ use Rattle.std.proofs.lemmas.List.{get_or_at}
 use Rattle.std.specs.Float.{nan}
 use Rattle.arithmetic.specs.Arith.{Out, ok, met, System, Row, none, Given, given, Work, step1, step_run, step2, scaled_run, step3, row_run, forward_run, whole_run}
 use Rattle.arithmetic.specs.Stopping.{◌>>=◌}
-
-pub bind_ok : {A B : Type 0} (o : Out A) (f : A → Out B) (b : B) → (o >>= f) ≡ ok b → (a : A) × (o ≡ ok a) × (f a ≡ ok b)
-bind_ok (ok a) f b e = (a, refl, e)
-bind_ok (met q) f b e = absurd (let z : ◌≡◌ {A = ℕ} 0 1 = cc in omega arith)
+use Rattle.arithmetic.specs.Factors.{Long, LongTo}
 
 scaled-length : (k : ℕ) (d : Float) (w : List Float) (js : List ℕ) → length (scaled_run k d w js).value ≡ length js
 unfolding scaled_run
@@ -26,18 +23,9 @@ unfolding step2
 steps-length k G [] a = omega arith
 steps-length k G (i ∷ is) a = omega (arith, step-length k G i a, steps-length k G is (step_run k G i a).value)
 
--- L along lower row k, u along T(k)
-pub record Long (S : System) (k : ℕ) (r : Row) : Type 0 where
-  pub l : length r.l ≡ length (S.lower k)
-  pub u : length r.u ≡ length (S.upper k)
-
 row-length : (S : System) (rows : List Row) (k : ℕ) → Long S k (row_run S rows k).value
 unfolding row_run step1 step3
 row-length S rows k = record { l = omega (arith, steps-length k (given S rows) (S.lower k) (step1 S k).value); u = scaled-length k _ _ (S.upper k) }
-
--- the rows of places 0 to k - 1
-abbrev pub LongTo : System → ℕ → List Row → Type 0
-LongTo S k rows = (length rows ≡ k) × ((j : ℕ) → j < k → Long S j (get_or rows j none))
 
 long-more : (S : System) (k : ℕ) (rows : List Row) (r : Row) → LongTo S k rows → Long S k r → LongTo S (suc k) (rows ++ (r ∷ []))
 long-more S k rows r h g = (

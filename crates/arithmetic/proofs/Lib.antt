@@ -1,5 +1,3 @@
-pub mod Meets
-pub mod Factors
 pub mod StoppingLaws
-pub mod Sticky
+pub mod Factors
 pub mod Sums

@@ -116,7 +116,6 @@ unfolding whole_run solved
 solved-is S = (then-stops (forward-stops S S.n 0 []) (λ rows. then-stops (back-stops (given S rows) S.n (replicate S.n nought)) (λ z. give-stops _))).at
 
 -- ---- another right side
-
 sum-stops : {floor : Float} (k : ℕ) (s : Float) (es : List (ℕ × Float)) (ys : List Float) → Stops floor (rest_run k s es ys) (sum_less (at k) s es ys)
 unfolding rest_run sum_less
 sum-stops k s [] ys = give-stops s

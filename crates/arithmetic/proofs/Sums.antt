@@ -11,23 +11,8 @@ use Rattle.base.specs.Lists.{has, pairs}
 use Rattle.arithmetic.specs.Arith.{◌▸◌, judged, ok, met, overflow, enter_run, load_run}
 use Rattle.arithmetic.specs.Stopping.{◌>>=◌, any, enter, load}
 use Rattle.arithmetic.proofs.StoppingLaws.{load-judged}
-use Rattle.arithmetic.proofs.Sticky.{ok-inj, entered, load-more, load-keeps, load_at}
-
--- the values at place j, in stored order
-unfoldable pub values_at : List ℕ → List Float → ℕ → List Float
-values_at [] vs j = []
-values_at (i ∷ is) [] j = []
-values_at (i ∷ is) (v ∷ vs) j = cond (eqb i j) (v ∷ values_at is vs j) (values_at is vs j)
-
--- "each addition rounded once"
-unfoldable pub added : Float → List Float → Float
-added s [] = s
-added s (v ∷ vs) = added (add binary64 s v) vs
-
--- "added in stored order from the first of them"; s where there is none
-unfoldable pub summed : Float → List Float → Float
-summed s [] = s
-summed s (v ∷ vs) = added v vs
+use Rattle.arithmetic.specs.Sticky.{ok-inj, entered, load-more, load-keeps, load_at}
+use Rattle.arithmetic.specs.Sums.{values_at, added, summed}
 
 -- a place that has a value is added to, another begins with its first
 abbrev from : Bool → Float → List Float → Float

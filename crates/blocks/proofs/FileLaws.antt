@@ -23,7 +23,7 @@ use Rattle.base.specs.declared.Asked.TheVariants.{Pass, Stop}
 use Rattle.base.specs.declared.Refusal.TheVariants.{FileLength, Block}
 use Rattle.fields.specs.Numbers.{le, bytes}
 use Rattle.fields.specs.Payload.{place, room, payload, payloads, zero_from}
-use Rattle.fields.proofs.NumberLaws.{get_d_after, length-bytes, le_bytes, byte_le}
+use Rattle.fields.proofs.NumberLaws.{get_or-after, length-bytes, le_bytes, byte_le}
 use Rattle.fields.proofs.ZeroLaws.{zero-bytes, zero-yes}
 use Rattle.blocks.specs.Blocks.{byte_from, check_a, check_b, right_block, wrong_block, first_wrong, whole_blocks, ask_blocks, seal_block, payload_in, blocks_for, file_of, ends_at, payload_of, sealed}
 use Rattle.blocks.proofs.CheckLaws.{checks-ext, check_a-lt, check_b-lt}
@@ -42,7 +42,7 @@ module _ (f : ℕ → List ℕ) (long : (k : ℕ) → length (f k) ≡ 512) wher
   get_or-joined zero k j a b = absurd (not-suc-le-zero a)
   get_or-joined (suc n) k j a b = elim (dec_lt k n) [
     | yes lt ↦ get_or-append (joined f n) (f n) 0 (512 * k + j) (rw (length-joined n) (omega arith)) ∙ get_or-joined n k j lt b
-    | no q ↦ let e : k ≡ n = omega arith in rw e (get_d_after (joined f n) (f n) (512 * n) j (length-joined n))
+    | no q ↦ let e : k ≡ n = omega arith in rw e (get_or-after (joined f n) (f n) (512 * n) j (length-joined n))
   ]
 
 -- ---- zeros after a list change no entry
@@ -139,12 +139,12 @@ module _ (s : List ℕ) where
       let at : (j : ℕ) → j < 512 → f j ≡ get_or (body ++ (bytes 2 a ++ bytes 2 b)) j 0 = λ j l. byte_of k j h l in
       let ext = checks-ext f (λ i. get_or body i 0) (λ j l. at j (omega arith) ∙ get_or-append body (bytes 2 a ++ bytes 2 b) 0 j (rw lb l)) in
       let r₁ : le 4 f 504 ≡ k = le_bytes 4 f 504 k
-      (λ i l. at (504 + i) (omega arith) ∙ get_or-append body (bytes 2 a ++ bytes 2 b) 0 (504 + i) (rw lb (omega arith)) ∙ get_d_after p (bytes 4 k) 504 i lp) (omega arith) in
+      (λ i l. at (504 + i) (omega arith) ∙ get_or-append body (bytes 2 a ++ bytes 2 b) 0 (504 + i) (rw lb (omega arith)) ∙ get_or-after p (bytes 4 k) 504 i lp) (omega arith) in
       let r₂ : le 2 f 508 ≡ a = le_bytes 2 f 508 a
-      (λ i l. at (508 + i) (omega arith) ∙ get_d_after body (bytes 2 a ++ bytes 2 b) 508 i lb ∙ get_or-append (bytes 2 a) (bytes 2 b) 0 i (rw length-bytes l)) (omega (arith, check_a-lt (λ i. get_or body i 0))) in
+      (λ i l. at (508 + i) (omega arith) ∙ get_or-after body (bytes 2 a ++ bytes 2 b) 508 i lb ∙ get_or-append (bytes 2 a) (bytes 2 b) 0 i (rw length-bytes l)) (omega (arith, check_a-lt (λ i. get_or body i 0))) in
       let r₃ : le 2 f 510 ≡ b = le_bytes 2 f 510 b
       (λ i l. let e : 510 + i ≡ 508 + (2 + i) = omega arith in
-      at (510 + i) (omega arith) ∙ rw e (get_d_after body (bytes 2 a ++ bytes 2 b) 508 (2 + i) lb) ∙ get_d_after (bytes 2 a) (bytes 2 b) 2 i (length-bytes 2 a)) (omega (arith, check_b-lt (λ i. get_or body i 0))) in
+      at (510 + i) (omega arith) ∙ rw e (get_or-after body (bytes 2 a ++ bytes 2 b) 508 (2 + i) lb) ∙ get_or-after (bytes 2 a) (bytes 2 b) 2 i (length-bytes 2 a)) (omega (arith, check_b-lt (λ i. get_or body i 0))) in
       rw (eq-eqb (le 4 f 504) k r₁, eq-eqb (le 2 f 508) (check_a f) (r₂ ∙ sym ext.0), eq-eqb (le 2 f 510) (check_b f) (r₃ ∙ sym ext.1))
 
   pub file_of-asked : 0 < length s → blocks ≤ 2 ^ 32 → ask_blocks (file_of s) ≡ Pass
@@ -220,7 +220,7 @@ block_back file k p small lp same t j h =
     let in_body : (i : ℕ) → i < 508 → get_or body i 0 ≡ f i = λ i l. elim (dec_lt i 504) [
       | yes x ↦ get_or-append p (bytes 4 k) 0 i (rw lp x) ∙ same i x
       | no x ↦ let e : i ≡ 504 + (i - 504) = omega arith in
-          rw e (get_d_after p (bytes 4 k) 504 (i - 504) lp ∙ rw number at (byte_le 4 f 504 fs (i - 504) (omega arith)))
+          rw e (get_or-after p (bytes 4 k) 504 (i - 504) lp ∙ rw number at (byte_le 4 f 504 fs (i - 504) (omega arith)))
     ] in
     let ext = checks-ext (λ i. get_or body i 0) f in_body in
     let a : ℕ = check_a (λ i. get_or body i 0) in
@@ -231,12 +231,12 @@ block_back file k p small lp same t j h =
       | yes x ↦ get_or-append body (bytes 2 a ++ bytes 2 b) 0 j (rw lb x) ∙ in_body j x
       | no x ↦ elim (dec_lt j 510) [
         | yes y ↦ let e : j ≡ 508 + (j - 508) = omega arith in
-            rw e (get_d_after body (bytes 2 a ++ bytes 2 b) 508 (j - 508) lb
+            rw e (get_or-after body (bytes 2 a ++ bytes 2 b) 508 (j - 508) lb
             ∙ get_or-append (bytes 2 a) (bytes 2 b) 0 (j - 508) (rw length-bytes (omega arith)) ∙ rw ea at (byte_le 2 f 508 fs (j - 508) (omega arith)))
         | no y ↦ let e : j ≡ 508 + (2 + (j - 510)) = omega arith in
             let e2 : 508 + (2 + (j - 510)) ≡ 510 + (j - 510) = omega arith in
-            rw e (get_d_after body (bytes 2 a ++ bytes 2 b) 508 (2 + (j - 510)) lb
-            ∙ get_d_after (bytes 2 a) (bytes 2 b) 2 (j - 510) (length-bytes 2 a) ∙ rw (← e2, eb) at (byte_le 2 f 510 fs (j - 510) (omega arith)))
+            rw e (get_or-after body (bytes 2 a ++ bytes 2 b) 508 (2 + (j - 510)) lb
+            ∙ get_or-after (bytes 2 a) (bytes 2 b) 2 (j - 510) (length-bytes 2 a) ∙ rw (← e2, eb) at (byte_le 2 f 510 fs (j - 510) (omega arith)))
       ]
     ]
 

@@ -8,7 +8,7 @@ use lib.ListN.{length, get_or, take, drop, length-append, length-drop, take-appe
 use lib.Seq.{sets, sets-eq, take_at, drop_at, drop-drop, take-add, length-take-le}
 use Rattle.base.specs.Lists.{joined}
 use Rattle.fields.specs.Numbers.{bytes}
-use Rattle.fields.proofs.NumberLaws.{length-bytes, get_d_after}
+use Rattle.fields.proofs.NumberLaws.{length-bytes, get_or-after}
 use Rattle.blocks.specs.Blocks.{byte_from, check_a, check_b, seal_block, payload_of, sealed}
 use Rattle.blocks.proofs.CheckLaws.{checks-ext}
 
@@ -56,7 +56,7 @@ module _ (l : List ℕ) (k : ℕ) (h : 512 * k + 512 ≤ length l) where
 
   byte : (l₁ : List ℕ) → l₁ ≡ sets l (512 * k + 504) (bytes 4 k) → (i : ℕ) → i < 508 → byte_from l₁ (512 * k) i ≡ get_or body i 0
   byte l₁ e₁ i lt =
-      rw (numbered l₁ e₁, append_assoc front body) (get_d_after front (body ++ drop (512 * k + 508) l) (512 * k) i length_front
+      rw (numbered l₁ e₁, append_assoc front body) (get_or-after front (body ++ drop (512 * k + 508) l) (512 * k) i length_front
       ∙ get_or-append body (drop (512 * k + 508) l) 0 i (simp (length-append, length-payload, length-bytes) lt))
 
   pub block-sealed : (l₁ l₂ l₃ : List ℕ) (a b : ℕ) → l₁ ≡ sets l (512 * k + 504) (bytes 4 k) → a ≡ check_a (byte_from l₁ (512 * k)) → b ≡ check_b (byte_from l₁ (512 * k))

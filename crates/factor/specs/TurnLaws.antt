@@ -145,7 +145,7 @@ module _ {f : Form} {i : Input} {L : PlacedLists} {k : ℕ} {w : Workspace} (G :
     record { place = h; scratch = lg ∙ R.scratch; reciprocals = G.given.reciprocals; below = lower_in-below R; list = R.shape.list k h; above = R.shape.below k h },
   )
 
-  -- a row that is kept: its steps left g and x.upper, its closing x .work and x.d
+  -- a row that is kept: its steps left g and x.upper, its closing x.work and x.d
   module _ (x : Workspace) (s : SameSizes w x) (lower : List ℕ) (el : lower ≡ lower_row (stored i) k) (g : List Float) (lg : length g ≡ length w.work) (t : RowSums) (p : Pivot) (ep : p ≡ Usable t)
       (R : Reduced (system i) G.rows i.n k L.upper-starts w.work g w.upper x.upper p)
       (Q : Shut i.n k lower (list_at L.upper-starts L.upper-runs L.upper-index k) g x.work w.d x.d t) where

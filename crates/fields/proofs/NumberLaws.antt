@@ -12,8 +12,8 @@ use Rattle.base.specs.TableLaws.{length-table, get_or-table}
 use Rattle.fields.specs.Numbers.{le, bytes, fields}
 
 -- the list after x
-pub get_d_after : (x y : List ℕ) (n i : ℕ) → length x ≡ n → get_or (x ++ y) (n + i) 0 ≡ get_or y i 0
-get_d_after x y n i e = rw (← e) (get_or-append-add x y i 0)
+pub get_or-after : (x y : List ℕ) (n i : ℕ) → length x ≡ n → get_or (x ++ y) (n + i) 0 ≡ get_or y i 0
+get_or-after x y n i e = rw (← e) (get_or-append-add x y i 0)
 
 -- ---- a number and its bytes
 
@@ -75,7 +75,7 @@ get_or-fields w [] k i a b = absurd (not-suc-le-zero a)
 get_or-fields w (x ∷ xs) zero i a b = rw (mul-zero, zero-add) (get_or-append (bytes w x) (fields w xs) 0 i (rw length-bytes b))
 get_or-fields w (x ∷ xs) (suc k) i a b =
     let e : w * suc k + i ≡ w + (w * k + i) = rw mul-suc (omega arith) in
-    rw e (get_d_after (bytes w x) (fields w xs) w (w * k + i) (length-bytes w x) ∙ get_or-fields w xs k i (le_of_suc-le-suc a) b)
+    rw e (get_or-after (bytes w x) (fields w xs) w (w * k + i) (length-bytes w x) ∙ get_or-fields w xs k i (le_of_suc-le-suc a) b)
 
 -- ---- a loop that reads a number from its last byte down: n is what the bytes from left on hold
 

@@ -10,7 +10,7 @@ use Rattle.base.specs.Lists.{table}
 use Rattle.base.specs.TableLaws.{length-table, get_or-table, table-ext, table-add}
 use Rattle.fields.specs.Numbers.{fields, Part, part, stream, Span, spans_of, extent}
 use Rattle.fields.specs.Payload.{place, payload, payloads, field_at, fields_at, parts_at}
-use Rattle.fields.proofs.NumberLaws.{get_d_after, le_bytes, bytes_le, le-lt, fields-append, length_fields, get_or-fields}
+use Rattle.fields.proofs.NumberLaws.{get_or-after, le_bytes, bytes_le, le-lt, fields-append, length_fields, get_or-fields}
 
 pub map-table : {A B : Type 0} (g : A → B) (f : ℕ → A) (n : ℕ) → map g (table f n) ≡ table (λ k. g (f k)) n
 unfolding table
@@ -68,7 +68,7 @@ parts-back file at (p ∷ ps) fit same =
     fields_back p.width file at p.numbers fit.0 (λ j l. same j (rw ls (omega arith)) ∙ get_or-append f (stream ps) 0 j (rw lf l)) in
     let next : parts_at file (at + m) (spans_of ps) ≡ ps =
     parts-back file (at + m) ps fit.1 (λ j l. let e : at + m + j ≡ at + (m + j) = omega arith in
-    rw e (same (m + j) (rw ls (omega arith)) ∙ get_d_after f (stream ps) m j lf)) in
+    rw e (same (m + j) (rw ls (omega arith)) ∙ get_or-after f (stream ps) m j lf)) in
     ap₂ (λ (x : List ℕ) (y : List Part). part p.width x ∷ y) here next
 
 -- ---- writing what was read

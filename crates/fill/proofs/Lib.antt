@@ -1,4 +1,3 @@
-pub mod Walks
 pub mod RowRule
 pub mod ListLaws
 pub mod Prune

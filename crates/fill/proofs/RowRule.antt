@@ -12,22 +12,8 @@ use Rattle.std.proofs.Math.Decide.{dec_lt}
 use borrow.Author.Tests.{lt-ltb, le-ltb, ltb-true}
 use Rattle.fill.specs.Fill.{Pattern, reach, filled, Walk, upper, flip}
 use Rattle.base.specs.Tests.{or_cases, or_right, and_cases, true-ext}
-use Rattle.fill.proofs.Walks.{filled-walk}
-
--- Is `test i` passed by some i below n?
-unfoldable pub some_below : ℕ → (ℕ → Bool) → Bool
-some_below zero test = false
-some_below (suc n) test = some_below n test || test n
-
-pub some→ : (n : ℕ) (test : ℕ → Bool) → some_below n test ≡ true → (i : ℕ) × (i < n) × (test i ≡ true)
-unfolding some_below
-some→ zero test h = absurd (false≢true h)
-some→ (suc n) test h = elim (or_cases (some_below n test) (test n) h) [ inl a ↦ (let r = some→ n test a in (r.0, omega arith, r.2)) | inr b ↦ (n, omega arith, b) ]
-
-pub →some : (n : ℕ) (test : ℕ → Bool) (i : ℕ) → i < n → test i ≡ true → some_below n test ≡ true
-unfolding some_below
-→some zero test i l h = absurd (omega arith)
-→some (suc n) test i l h = elim (dec_lt i n) [ yes q ↦ rw (→some n test i q h) | no q ↦ or_right (some_below n test) (test n) (let e : i ≡ n = omega arith in rw e at h) ]
+use Rattle.fill.specs.Walks.{filled-walk}
+use Rattle.fill.specs.RowRule.{some_below, some→, →some, merged}
 
 module _ (stored : Pattern) where
   pub filled-left : (k i : ℕ) → i ≤ k → filled stored k i ≡ reach stored i k i
@@ -67,14 +53,7 @@ module _ (stored : Pattern) where
   pub diagonal-walk : (k : ℕ) → (filled stored k k ≡ true) ↔ Walk stored k k k
   diagonal-walk k = let e : min k k ≡ k = omega arith in rw e at (filled-walk stored k k)
 
-  -- ---- Row k as the union of its stored entries and of the rows above that it meets, in ascending order.
-
-  -- Row k after the rows below m are merged into it: S := S ∪ T(i) if S has i, for i = 0, 1, ..
-  unfoldable pub merged : ℕ → ℕ → ℕ → Bool
-  merged k zero j = stored k j
-  merged k (suc i) j = merged k i j || (merged k i i && upper stored i j)
-
-  merged-reach : (k m j : ℕ) → m ≤ k → merged k m j ≡ reach stored (min m j) k j
+  merged-reach : (k m j : ℕ) → m ≤ k → merged stored k m j ≡ reach stored (min m j) k j
   unfolding merged reach upper filled
   merged-reach k zero j l = let e : min zero j ≡ zero = omega arith in rw e
   merged-reach k (suc m) j l = elim (dec_lt m j) [
@@ -84,7 +63,7 @@ module _ (stored : Pattern) where
         rw (merged-reach k m j (omega arith), le-ltb m j (omega arith), e, e', and-false) (or-false _))
   ]
 
-  pub merged-filled : (k j : ℕ) → merged k k j ≡ filled stored k j
+  pub merged-filled : (k j : ℕ) → merged stored k k j ≡ filled stored k j
   unfolding filled
   merged-filled k j = merged-reach k k j (omega arith)
 

@@ -1,1 +1,5 @@
 pub mod Fill
+pub mod Walks
+pub mod RowRule
+pub mod ListLaws
+pub mod Prune

@@ -1,1 +1,4 @@
 pub mod Placing
+pub mod ListLaws
+pub mod PlacingLaws
+pub mod FillNested

@@ -26,7 +26,7 @@ use Rattle.base.specs.declared.Ended.TheVariants as ends
 use Rattle.base.specs.declared.Sizes.{Sizes}
 use Rattle.fill.specs.Fill.{Pattern, filled, lower_row}
 use Rattle.placement.specs.Placing.{start_of}
-use Rattle.placement.proofs.FillNested.{mem-asc}
+use Rattle.placement.specs.FillNested.{mem-asc}
 use Rattle.matrix.specs.Input.{Input, stored, entries, right_at, own_order}
 use Rattle.matrix.specs.Questions.{ask_solve}
 use Rattle.arithmetic.specs.Arith.{Out, ok, met, judged, none, Result}

@@ -34,7 +34,7 @@ use Rattle.placement.specs.Placing.{first_at}
 use Rattle.matrix.specs.Input.{Input, stored, right_at, own_order}
 use Rattle.matrix.specs.Questions.{ask7, not_finite, ask3, ask4, ask5, ask6, ask_finite, ask_floor, ask_numbers, ask_pattern, ask_solve, ask_right}
 use Rattle.arithmetic.specs.Arith.{Fault, Out, ok, met, none, Result, Row}
-use Rattle.arithmetic.proofs.Sticky.{ok-inj}
+use Rattle.arithmetic.specs.Sticky.{ok-inj}
 use Rattle.arithmetic.specs.Stopping.{solved}
 use Rattle.arithmetic.proofs.StoppingLaws.{solved_again-is}
 use Rattle.outcome.specs.Buffers.{Buffers, all_buffers, sizes, matrix_tests, right_tests, buffer_tests, ask_shape, scratch_cleared, Outcome, ended, stop}

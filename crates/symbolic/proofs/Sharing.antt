@@ -17,7 +17,7 @@ use Rattle.base.specs.declared.Asked.TheVariants.{Stop}
 use Rattle.fill.specs.Fill.{Pattern, filled, upper_row, lower_row, flip}
 use Rattle.fill.proofs.RowRule.{filled-flip}
 use Rattle.matrix.specs.Input.{Input, stored}
-use Rattle.placement.proofs.PlacingLaws.{room}
+use Rattle.placement.specs.PlacingLaws.{room}
 use Rattle.marks.specs.Marks.{Fresh}
 use Rattle.marks.specs.Rows.{Stored, Cuts, row_steps}
 use Rattle.marks.specs.RenewLaws.{cuts-kept}
