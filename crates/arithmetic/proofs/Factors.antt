@@ -1,12 +1,11 @@
 -- Rows of factors are as long as their lists.
-use Rattle.std.specs.Prelude.{◌≡◌, refl, List, [], ◌∷◌, ◌++◌, ℕ, zero, suc, ◌+◌, ◌<◌, length, get_or, Float}
+use Rattle.std.specs.Prelude.{◌≡◌, refl, List, [], ◌∷◌, ◌++◌, ℕ, zero, suc, ◌+◌, length, get_or, Float}
 use Rattle.std.proofs.Common.{ap, subst, arith, zero-add, length-append}
 use Rattle.std.proofs.Math.Decide.{dec_lt}
 use Rattle.std.proofs.Math.ListN.{get_or-append}
 use Rattle.std.proofs.lemmas.List.{get_or_at}
 use Rattle.std.specs.Float.{nan}
-use Rattle.arithmetic.specs.Arith.{Out, ok, met, System, Row, none, Given, given, Work, step1, step_run, step2, scaled_run, step3, row_run, forward_run, whole_run}
-use Rattle.arithmetic.specs.Stopping.{◌>>=◌}
+use Rattle.arithmetic.specs.Arith.{System, Row, none, Given, given, Work, step1, step_run, step2, scaled_run, step3, row_run, forward_run, whole_run}
 use Rattle.arithmetic.specs.Factors.{Long, LongTo}
 
 scaled-length : (k : ℕ) (d : Float) (w : List Float) (js : List ℕ) → length (scaled_run k d w js).value ≡ length js

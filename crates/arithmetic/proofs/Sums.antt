@@ -1,6 +1,6 @@
 -- Step 1 column by column: what the entries of a row leave at a place is the sum of its own values alone, and 13 is told exactly where one of these sums is not finite.
 -- So neither the row nor the answer depends on the order among columns in which `load_run` adds (sums-alike).
-use Rattle.std.specs.Prelude.{◌≡◌, refl, Bool, true, false, cond, ◌⊎◌, ℕ, ◌<◌, length, get_or, set, eqb, Float}
+use Rattle.std.specs.Prelude.{◌≡◌, refl, Bool, true, false, ◌⊎◌, ℕ, ◌<◌, length, get_or, set, Float}
 use Rattle.std.proofs.Common.{sym, ap, ◌∙◌, true≢false, inl, inr, ⊎_elim, length-set, get_or-set_same, get_or-set_other, ext_get_or, eq-eqb, ne_eqb}
 use mathlib.Core.List.{List, [], ◌∷◌, Memᴰ}
 use Rattle.std.proofs.Math.Decide.{ℕ_discrete}

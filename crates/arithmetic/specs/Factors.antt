@@ -1,11 +1,7 @@
 -- Rows of factors are as long as their lists.
-use Rattle.std.specs.Prelude.{◌≡◌, refl, List, [], ◌∷◌, ◌++◌, ℕ, zero, suc, ◌+◌, ◌<◌, length, get_or, Float}
-use Rattle.std.proofs.Common.{ap, subst, arith, zero-add, length-append}
-use Rattle.std.proofs.Math.Decide.{dec_lt}
-use Rattle.std.proofs.Math.ListN.{get_or-append}
-use Rattle.std.proofs.lemmas.List.{get_or_at}
-use Rattle.std.specs.Float.{nan}
-use Rattle.arithmetic.specs.Arith.{Out, ok, met, System, Row, none, Given, given, Work, step1, step_run, step2, scaled_run, step3, row_run, forward_run, whole_run}
+use Rattle.std.specs.Prelude.{◌≡◌, refl, List, ℕ, ◌<◌, length, get_or}
+use Rattle.std.proofs.Common.{arith}
+use Rattle.arithmetic.specs.Arith.{Out, ok, met, System, Row, none}
 use Rattle.arithmetic.specs.Stopping.{◌>>=◌}
 
 pub bind_ok : {A B : Type 0} (o : Out A) (f : A → Out B) (b : B) → (o >>= f) ≡ ok b → (a : A) × (o ≡ ok a) × (f a ≡ ok b)

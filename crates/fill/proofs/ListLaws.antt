@@ -1,16 +1,15 @@
 -- Laws of the fill's lists: the transposed side, and tails.
-use Rattle.std.specs.Prelude.{◌≡◌, refl, Bool, true, false, ◌&&◌, map, ℕ, suc, ◌*◌, ◌≤◌, ◌<◌, drop, leb}
+use Rattle.std.specs.Prelude.{◌≡◌, true, ◌&&◌, ℕ, ◌<◌, drop}
 use Rattle.std.proofs.Math.Path.{sym, ap}
 use Rattle.std.proofs.Common.{◌∙◌, arith}
-use Rattle.std.proofs.Math.Nat.{mul-le-mul}
 use Rattle.std.proofs.Math.ListN.{length}
 use Rattle.std.proofs.Math.Dec.{ltb}
-use borrow.Author.Tests.{lt-ltb, le-ltb, ltb-true}
-use Rattle.fill.specs.Fill.{Pattern, filled, upper, flip, upper_row, lower_column, products, lower_row}
+use borrow.Author.Tests.{ltb-true}
+use Rattle.fill.specs.Fill.{Pattern, filled, upper, flip, upper_row, lower_column}
 use Rattle.base.specs.Tests.{and_cases}
 use Rattle.fill.proofs.RowRule.{filled-through, filled-flip}
-use Rattle.base.specs.Lists.{sum, bit, count, asc, total}
-use Rattle.base.specs.AscLaws.{sum-ext, sum-mul, sum-swap, sum-le, sum-part, total-asc, length-asc, asc-ext, asc-drop, count-le, count_same}
+use Rattle.base.specs.Lists.{count}
+use Rattle.base.specs.AscLaws.{length-asc, asc-ext, count_same}
 use Rattle.fill.specs.ListLaws.{at_most, tail-is}
 
 -- The transposed side is the same theory.

@@ -1,11 +1,9 @@
 -- Symmetric pruning: a row k merges T(i) only as far as some place p below k with (i, p) and (p, i) filled.
-use Rattle.std.specs.Prelude.{◌≡◌, Bool, true, ◌&&◌, ◌||◌, ◌⊎◌, ltb}
-use Rattle.std.proofs.Math.Logic.{inl, inr}
-use Prim.Native.Nat.{ℕ, zero, suc, ◌+◌, ◌≤◌, ◌<◌, min}
-use Rattle.std.proofs.Common.{arith, lt-ltb, ltb-true}
+use Rattle.std.specs.Prelude.{◌≡◌, Bool, true, ◌&&◌, ◌||◌}
+use Prim.Native.Nat.{ℕ, zero, suc, ◌≤◌, ◌<◌}
+use Rattle.std.proofs.Common.{arith}
 use Rattle.std.proofs.Math.Decide.{dec_lt}
 use Rattle.fill.specs.Fill.{Pattern, filled, upper}
-use Rattle.base.specs.Tests.{or_cases, or_right, and_cases, true-ext}
 
 module _ (stored : Pattern) where
   -- (i, p) and (p, i) are filled, and i < p

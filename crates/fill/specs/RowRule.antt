@@ -1,18 +1,12 @@
 -- What the row rule is told with: a test over the numbers below n, and row k merged of earlier rows.
-use Rattle.std.specs.Prelude.{◌≡◌, refl, Bool, true, false, ◌&&◌, ◌||◌, ◌⊎◌, ◌↔◌, ltb}
-use Rattle.std.proofs.Math.Path.{sym, ap₂}
-use Rattle.std.proofs.Common.{ap, ◌∙◌}
-use Rattle.std.proofs.Math.Bool.{and_comm, or_assoc, or-false, and-false}
+use Rattle.std.specs.Prelude.{◌≡◌, Bool, true, false, ◌&&◌, ◌||◌}
 use Rattle.std.proofs.lemmas.Bool.{false≢true}
 use Rattle.std.proofs.Math.Logic.{inl, inr}
-use Prim.Native.Nat.{ℕ, zero, suc, ◌≤◌, ◌<◌, min}
-use Rattle.std.proofs.Math.Nat.{min_comm}
+use Prim.Native.Nat.{ℕ, zero, suc, ◌<◌}
 use native.Mathlib.Omega.{arith}
 use Rattle.std.proofs.Math.Decide.{dec_lt}
-use borrow.Author.Tests.{lt-ltb, le-ltb, ltb-true}
-use Rattle.fill.specs.Fill.{Pattern, reach, filled, Walk, upper, flip}
-use Rattle.base.specs.Tests.{or_cases, or_right, and_cases, true-ext}
-use Rattle.fill.specs.Walks.{filled-walk}
+use Rattle.fill.specs.Fill.{Pattern, upper}
+use Rattle.base.specs.Tests.{or_cases, or_right}
 
 -- Is `test i` passed by some i below n?
 unfoldable pub some_below : ℕ → (ℕ → Bool) → Bool

@@ -1,13 +1,10 @@
 -- Two lists that agree.
-use Rattle.std.specs.Prelude.{ℕ, zero, suc, ◌+◌, ◌-◌, ◌≤◌, ◌<◌, ◌≡◌, refl, true, false, length, take, drop, ltb, eqb}
-use Rattle.std.proofs.Common.{sym, ap, ap₂, ◌∙◌, ⊎_elim, true≢false, arith, zero-add, suc-add, length-drop, ltb-true, eqb-true, lt-ltb, eq-eqb}
-use mathlib.Core.List.Memᴰ
-use mathlib.Core.List.{List, [], ◌∷◌, ◌++◌, Memᴰ}
-use Rattle.std.proofs.Math.Nat.{suc-sub-suc, sub_self}
-use Rattle.std.proofs.lemmas.List.{take-append-le, drop-append-le}
-use Rattle.std.proofs.Math.Seq.{take-length, take-nil}
-use Rattle.placement.specs.Placing.{count_above, agree, same}
-use Rattle.base.specs.Tests.{by-test, and_cases}
+use Rattle.std.specs.Prelude.{ℕ, zero, suc, ◌≤◌, ◌≡◌, refl, true, false, length, take, eqb}
+use Rattle.std.proofs.Common.{sym, ap₂, ◌∙◌, true≢false, arith, eqb-true}
+use mathlib.Core.List.{List, [], ◌∷◌}
+use Rattle.std.proofs.Math.Seq.{take-length}
+use Rattle.placement.specs.Placing.{agree}
+use Rattle.base.specs.Tests.{by-test}
 
 pub agree-take : (n : ℕ) (xs ys : List ℕ) → n ≤ length xs → n ≤ length ys → agree xs ys ≡ true → take n xs ≡ take n ys
 unfolding agree

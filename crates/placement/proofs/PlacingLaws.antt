@@ -1,16 +1,16 @@
 -- The shared and the plain way of placing are sound, and every list stands where its run starts.
 use Prim.Native.Nat.{ℕ, zero, suc, ◌+◌, ◌-◌, ◌≤◌, ◌<◌, min}
-use Rattle.std.specs.Prelude.{◌≡◌, refl, Bool, ◌&&◌, length, take, drop, get_or, ltb, leb, eqb}
-use Rattle.std.proofs.Common.{sym, ap, ◌∙◌, ⊎_elim, add-zero, add-suc, length-append, length-drop, take-append-drop, take_all, drop-drop, ltb-true, ltb-false, eqb-true, lt-ltb}
+use Rattle.std.specs.Prelude.{◌≡◌, refl, length, drop, get_or, ltb, eqb}
+use Rattle.std.proofs.Common.{sym, ◌∙◌, ⊎_elim, length-append, length-drop, drop-drop, ltb-true, ltb-false, eqb-true, lt-ltb}
 use mathlib.Core.List.Memᴰ
-use mathlib.Core.List.{List, [], ◌∷◌, ◌++◌, append-nil, append_assoc, Memᴰ}
+use mathlib.Core.List.{List, [], ◌∷◌, ◌++◌, Memᴰ}
 use native.Mathlib.Omega.{arith}
 use Rattle.std.proofs.Math.ListN.{get_or-append}
-use Rattle.std.proofs.lemmas.List.{drop-append-le, get_or_at}
+use Rattle.std.proofs.lemmas.List.{get_or_at}
 use Rattle.std.proofs.Math.Seq.{take-length}
 use Rattle.std.proofs.lemmas.Bool.{eqb-false}
 use Rattle.placement.specs.Placing.{count_above, tails, Tail, best_from, best, agree, Plan, append_all, fresh, meets, overlap, tail_or, shared, plain, Way, State, run_of, plan_at, placed, start_of, after}
-use Rattle.placement.specs.ListLaws.{asc-least, Ascends, among-asc, among-drop, count-tail, take-drop, part-append, count-le}
+use Rattle.placement.specs.ListLaws.{take-drop, count-le}
 use Rattle.placement.proofs.ListLaws.{agree-take}
 use Rattle.base.specs.Tests.{by-test}
 use Rattle.placement.specs.PlacingLaws.{Sound, Holds, holds-append, sound-holds, Fed, tail-is, Nested, Kept, SoundWay}

@@ -8,8 +8,7 @@ use Rattle.base.specs.Lists.{asc, keep}
 use Rattle.base.specs.Tests.{by-test, and_cases}
 use Rattle.fill.specs.Fill.{Pattern, filled, upper, upper_row, lower_row}
 use Rattle.fill.proofs.RowRule.{filled-through}
-use Rattle.placement.specs.Placing.{plain, shared, placed}
-use Rattle.placement.specs.PlacingLaws.{Nested, Kept}
+use Rattle.placement.specs.PlacingLaws.{Nested}
 use Rattle.placement.specs.ListLaws.{Ascends}
 
 -- ---- the members of an ascending list are the numbers that pass

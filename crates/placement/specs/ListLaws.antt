@@ -1,11 +1,11 @@
 -- Laws of lists that the placing needs: strictly ascending lists, a list among another, a part that an append leaves alone.
-use Rattle.std.specs.Prelude.{ℕ, zero, suc, ◌+◌, ◌-◌, ◌≤◌, ◌<◌, ◌≡◌, refl, true, false, length, take, drop, ltb, eqb}
-use Rattle.std.proofs.Common.{sym, ap, ap₂, ◌∙◌, ⊎_elim, true≢false, arith, zero-add, suc-add, length-drop, ltb-true, eqb-true, lt-ltb, eq-eqb}
+use Rattle.std.specs.Prelude.{ℕ, zero, suc, ◌+◌, ◌-◌, ◌≤◌, ◌<◌, ◌≡◌, refl, true, length, take, drop, ltb, eqb}
+use Rattle.std.proofs.Common.{sym, ap, ap₂, ⊎_elim, true≢false, arith, zero-add, suc-add, length-drop, ltb-true, eqb-true, lt-ltb, eq-eqb}
 use mathlib.Core.List.Memᴰ
 use mathlib.Core.List.{List, [], ◌∷◌, ◌++◌, Memᴰ}
 use Rattle.std.proofs.Math.Nat.{suc-sub-suc, sub_self}
 use Rattle.std.proofs.lemmas.List.{take-append-le, drop-append-le}
-use Rattle.std.proofs.Math.Seq.{take-length, take-nil}
+use Rattle.std.proofs.Math.Seq.{take-nil}
 use Rattle.placement.specs.Placing.{count_above, agree, same}
 use Rattle.base.specs.Tests.{by-test, and_cases}
 

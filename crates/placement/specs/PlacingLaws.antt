@@ -1,16 +1,14 @@
 -- Laws of the placing, for any way of placing whose plans are sound; the shared and the plain way are.
-use Prim.Native.Nat.{ℕ, zero, suc, ◌+◌, ◌-◌, ◌≤◌, ◌<◌, min}
-use Rattle.std.specs.Prelude.{◌≡◌, refl, Bool, ◌&&◌, length, take, drop, get_or, ltb, leb, eqb}
-use Rattle.std.proofs.Common.{sym, ap, ◌∙◌, ⊎_elim, add-zero, add-suc, length-append, length-drop, take-append-drop, take_all, drop-drop, ltb-true, ltb-false, eqb-true, lt-ltb}
-use mathlib.Core.List.Memᴰ
+use Prim.Native.Nat.{ℕ, zero, suc, ◌+◌, ◌-◌, ◌≤◌, ◌<◌}
+use Rattle.std.specs.Prelude.{◌≡◌, refl, Bool, ◌&&◌, length, take, drop, ltb, leb}
+use Rattle.std.proofs.Common.{sym, ap, ◌∙◌, add-zero, add-suc, length-append, length-drop, take-append-drop, take_all, ltb-true, ltb-false}
 use mathlib.Core.List.{List, [], ◌∷◌, ◌++◌, append-nil, append_assoc, Memᴰ}
 use native.Mathlib.Omega.{arith}
 use Rattle.std.proofs.Math.ListN.{get_or-append}
 use Rattle.std.proofs.lemmas.List.{drop-append-le, get_or_at}
 use Rattle.std.proofs.Math.Seq.{take-length}
-use Rattle.std.proofs.lemmas.Bool.{eqb-false}
-use Rattle.placement.specs.Placing.{count_above, tails, Tail, best_from, best, agree, Plan, append_all, fresh, meets, overlap, tail_or, shared, plain, Way, State, run_of, plan_at, placed, start_of, after}
-use Rattle.placement.specs.ListLaws.{asc-least, Ascends, among-asc, among-drop, count-tail, take-drop, part-append, count-le}
+use Rattle.placement.specs.Placing.{count_above, best_from, Plan, append_all, plain, Way, State, run_of, plan_at, placed, start_of, after}
+use Rattle.placement.specs.ListLaws.{asc-least, Ascends, among-asc, among-drop, count-tail, part-append, count-le}
 use Rattle.base.specs.Tests.{by-test}
 
 -- a plan for a list over the used slots: what is said to stand there does, and unless that is all of the list, it ends where the used slots do
