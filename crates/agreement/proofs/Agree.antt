@@ -6,11 +6,11 @@ use Prim.Native.Nat.{ℕ, zero, ◌≤◌, ◌<◌}
 use native.Mathlib.Omega.{arith}
 use native.Mathlib.Decide.{dec_lt}
 use Rattle.fill.specs.Fill.{filled}
-use Rattle.fill.specs.RowRule.{diagonal-walk}
+use Rattle.fill.proofs.RowRule.{diagonal-walk}
 use Rattle.base.specs.First.{first}
 use Rattle.base.specs.FirstLaws.{first-none, first_found}
 use Rattle.arithmetic.specs.Arith.{Fault, zero_pivot, overflow, Out, ok, met, Result, whole_run}
-use Rattle.arithmetic.specs.Meets.{Meets, judged-meets, judged-value}
+use Rattle.arithmetic.proofs.Meets.{Meets, judged-meets, judged-value}
 use Rattle.base.specs.declared.Found.{Found}
 use Rattle.base.specs.declared.Found.TheVariants.{At, Nothing}
 use Rattle.base.specs.declared.Counts.{Counts}

@@ -8,7 +8,7 @@ use lib.ListN.{length}
 use Rattle.base.specs.Lists.{sum}
 use Rattle.base.specs.AscLaws.{sum-ext}
 use Rattle.fill.specs.Fill.{Pattern, flip, upper_row, lower_row}
-use Rattle.fill.specs.ListLaws.{lower-is-upper, lower-rows-columns}
+use Rattle.fill.proofs.ListLaws.{lower-is-upper, lower-rows-columns}
 use Rattle.placement.specs.Placing.{start_of}
 use Rattle.matrix.specs.Input.{Input, stored}
 use Rattle.outcome.specs.Forms.{index_need, value_need}

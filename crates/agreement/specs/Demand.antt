@@ -4,7 +4,7 @@ use Rattle.fill.specs.Fill.{Walk}
 use Rattle.base.specs.All.{all}
 use Rattle.base.specs.Answers.{number_of_answer, place_of_answer, counts_of}
 use Rattle.arithmetic.specs.Arith.{Event, Fault, zero_pivot, overflow, Result, whole_run}
-use Rattle.arithmetic.specs.Meets.{Meets}
+use Rattle.arithmetic.proofs.Meets.{Meets}
 use Rattle.matrix.specs.Input.{Input, stored, own_order}
 use Rattle.outcome.specs.Forms.{index_need, value_need}
 use Rattle.outcome.specs.Buffers.{Buffers, sizes, side_of, buffer_tests}

@@ -17,7 +17,7 @@ use Rattle.lent.specs.ReadingLaws.{placed-is}
 use Rattle.questions.specs.Lent.{Inverse}
 use Rattle.questions.specs.SettledLaws.{columns-under}
 use Rattle.matrix.specs.Input.{Input, ic, stored}
-use Rattle.matrix.specs.OrderLaws.{order_below, place-hits}
+use Rattle.matrix.proofs.OrderLaws.{order_below, place-hits}
 use Rattle.marks.specs.Marks.{Room, stamped, Fresh, Holds}
 use Rattle.marks.specs.MarkLaws.{holds_kept, holds_same, holds-list}
 use Rattle.columns.specs.Columns.{Given, places_by_row, cons_if, bare, column}

@@ -21,7 +21,7 @@ use Rattle.base.specs.declared.Asked.TheVariants.{Pass, Stop}
 use Rattle.fill.specs.Fill.{Pattern, filled, upper_row, lower_row, flip}
 use Rattle.matrix.specs.Input.{Input, stored}
 use Rattle.placement.specs.Placing.{start_of}
-use Rattle.placement.specs.PlacingLaws.{room}
+use Rattle.placement.proofs.PlacingLaws.{room}
 use Rattle.marks.specs.Marks.{Fresh}
 use Rattle.questions.specs.Lent.{inverted_at}
 use Rattle.outcome.specs.Buffers.{Buffers}

@@ -9,7 +9,7 @@ use Rattle.base.specs.Tests.{and_cases}
 use Rattle.base.specs.declared.Side.{Side}
 use Rattle.fill.specs.Fill.{Pattern, upper_row, lower_row, flip}
 use Rattle.matrix.specs.Input.{Input}
-use Rattle.placement.specs.PlacingLaws.{room}
+use Rattle.placement.proofs.PlacingLaws.{room}
 use Rattle.marks.specs.Rows.{Renewed}
 use Rattle.storing.specs.Ways.{way_of}
 use Rattle.storing.specs.Held.{RowIs, presented, Checked}

@@ -8,7 +8,7 @@ use native.Mathlib.Numerals.{add-one}
 use Rattle.base.specs.FirstLaws.{first_more}
 use Rattle.base.specs.declared.Side.TheVariants.{Lower, Upper}
 use Rattle.fill.specs.Fill.{filled, flip}
-use Rattle.fill.specs.RowRule.{filled-flip}
+use Rattle.fill.proofs.RowRule.{filled-flip}
 use Rattle.matrix.specs.Input.{Input, stored}
 use Rattle.storing.specs.declared.Way.{Way}
 use Rattle.storing.specs.declared.Way.TheVariants.{OneAfterAnother, Sharing}

@@ -20,8 +20,8 @@ use Rattle.base.specs.declared.Sizes.{Sizes}
 use Rattle.fill.specs.Fill.{Pattern, filled, upper_row, lower_row, flip}
 use Rattle.matrix.specs.Input.{Input, stored}
 use Rattle.placement.specs.Placing.{same, plain, shared, run_of, placed, start_of}
-use Rattle.placement.specs.PlacingLaws.{room, Nested, plain-starts}
-use Rattle.placement.specs.FillNested.{fill-nested}
+use Rattle.placement.proofs.PlacingLaws.{room, Nested, plain-starts}
+use Rattle.placement.proofs.FillNested.{fill-nested}
 use Rattle.outcome.specs.Buffers.{SideBuffers, Buffers, sizes, buffers_of}
 use Rattle.outcome.specs.Forms.{lists_of, rows_of, placed_to, index_need, value_need}
 use Rattle.outcome.specs.Structure.{fits, ask_place}

@@ -10,7 +10,7 @@ use Rattle.base.specs.AscLaws.{has-asc, length-asc, count-ext}
 use Rattle.base.specs.declared.Form.TheVariants.{Shared}
 use Rattle.base.specs.declared.Side.TheVariants.{Lower}
 use Rattle.fill.specs.Fill.{Pattern, filled, upper, upper_row, lower_row, flip}
-use Rattle.fill.specs.RowRule.{filled-flip}
+use Rattle.fill.proofs.RowRule.{filled-flip}
 use Rattle.placement.specs.Placing.{first_at}
 use Rattle.matrix.specs.Input.{Input, stored}
 use Rattle.arithmetic.specs.Arith.{Row}

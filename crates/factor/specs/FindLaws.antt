@@ -8,7 +8,7 @@ use Rattle.base.specs.declared.Form.{Form}
 use Rattle.base.specs.declared.Side.TheVariants.{Upper}
 use Rattle.fill.specs.Fill.{Pattern, filled}
 use Rattle.matrix.specs.Input.{Input, ic, stored}
-use Rattle.matrix.specs.OrderLaws.{order_below, place-hits}
+use Rattle.matrix.proofs.OrderLaws.{order_below, place-hits}
 use Rattle.questions.specs.Settled.{columns_at}
 use Rattle.questions.specs.SettledLaws.{columns-under}
 use Rattle.outcome.specs.Placed.{PlacedSide, list_at-is}

@@ -1,5 +1,5 @@
 -- The system of an input that passed its questions: the fill closes each row, and a row of M is lent as the steps ask for it.
-use Rattle.std.specs.Prelude.{◌≡◌, refl, true, ◌&&◌, ◌||◌, List, ◌∷◌, ◌++◌, map, ℕ, ◌+◌, ◌-◌, ◌<◌, ◌≤◌, length, get_or, take, drop, eqb, Float}
+use Rattle.std.specs.Prelude.{◌≡◌, refl, true, ◌&&◌, ◌||◌, List, ◌∷◌, ◌++◌, map, ℕ, ◌+◌, ◌<◌, ◌≤◌, length, get_or, take, drop, eqb, Float}
 use Rattle.std.proofs.Math.Path.{sym}
 use Rattle.std.proofs.Common.{ap, ◌∙◌, length-take, length-drop}
 use native.Mathlib.Omega.{arith}
@@ -14,9 +14,9 @@ use Rattle.base.specs.AscLaws.{has-asc, has-append, asc-ascends, length-asc}
 use Rattle.base.specs.declared.Form.{Form}
 use Rattle.base.specs.declared.Side.TheVariants.{Upper}
 use Rattle.fill.specs.Fill.{Pattern, filled, upper, upper_row, lower_row}
-use Rattle.fill.specs.RowRule.{filled-stored, filled-through}
+use Rattle.fill.proofs.RowRule.{filled-stored, filled-through}
 use Rattle.matrix.specs.Input.{Input, ic, stored, entries, right_at}
-use Rattle.matrix.specs.OrderLaws.{place-hits}
+use Rattle.matrix.proofs.OrderLaws.{place-hits}
 use Rattle.outcome.specs.Solve.{system}
 use Rattle.outcome.specs.Placed.{PlacedSide, starts-long, size-at, values-at, run_at, run_inside, list_at-is}
 use Rattle.questions.specs.Settled.{Finite, places_at}

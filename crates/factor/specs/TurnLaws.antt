@@ -11,7 +11,7 @@ use Rattle.base.specs.declared.Form.TheVariants.{Plain, Shared, ByRow}
 use Rattle.base.specs.declared.RowSums.{RowSums}
 use Rattle.fill.specs.Fill.{Pattern, lower_row}
 use Rattle.matrix.specs.Input.{Input, stored}
-use Rattle.matrix.specs.OrderLaws.{order_below}
+use Rattle.matrix.proofs.OrderLaws.{order_below}
 use Rattle.arithmetic.specs.Arith.{met, zero_pivot, overflow, Row, none}
 use Rattle.outcome.specs.Solve.{system, listed}
 use Rattle.outcome.proofs.Meaning.{listed-stops}

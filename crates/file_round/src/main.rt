@@ -5,8 +5,8 @@
 ghost use Rattle.std.specs.Prelude.{◌≡◌, ◌<◌};
 
 use base::{Ended, Index};
-use libc::STDOUT_FILENO;
 use matrix::Shaped;
+use std::io;
 
 // The bytes as a number to the base 257, modulo a prime.
 fn digest(bytes: &[u8]) -> u64 {
@@ -58,27 +58,23 @@ fn other(x: u8) -> u8 {
 }
 
 // The number and the place of an answer.
-fn print_end(a: Ended) {
-    io::print_decimal(STDOUT_FILENO, a.number() as u64);
-    io::write_all(STDOUT_FILENO, b" ");
-    io::print_decimal(STDOUT_FILENO, a.place() as u64);
-    io::write_all(STDOUT_FILENO, b"\n");
+fn print_end(rt: &impl Print, a: Ended) -> io::Result<()> {
+    println!(rt; "{} {}", a.number(), a.place())
 }
 
-fn print_digest(bytes: &[u8]) {
-    io::print_hex(STDOUT_FILENO, digest(bytes), 8);
-    io::write_all(STDOUT_FILENO, b"\n");
+fn print_digest(rt: &impl Print, bytes: &[u8]) -> io::Result<()> {
+    println!(rt; "{:08x}", digest(bytes))
 }
 
 // Reads the file of the matrix below into dirty buffers, and writes what was read over `again`.
-fn copy(file: &[u8], again: &mut [u8]) {
+fn copy(rt: &impl Print, file: &[u8], again: &mut [u8]) -> io::Result<()> {
     let mut starts = [9u32; 9];
     let mut columns: [Index; 40] = [9; 40];
     let mut values = [9.0f64; 40];
     let mut r: [Index; 8] = [9; 8];
     let mut c: [Index; 8] = [9; 8];
     let mut b = [9.0f64; 8];
-    print_end(matrix_file::read_matrix(
+    let read = matrix_file::read_matrix(
         file,
         &mut starts,
         &mut columns,
@@ -86,11 +82,13 @@ fn copy(file: &[u8], again: &mut [u8]) {
         &mut r,
         &mut c,
         &mut b,
-    ));
-    print_end(matrix_file::write_matrix(8, &starts, &columns, &values, &r, &c, &b, again));
+    );
+    print_end(rt, read)?;
+    let written = matrix_file::write_matrix(8, &starts, &columns, &values, &r, &c, &b, again);
+    print_end(rt, written)
 }
 
-fn main() {
+fn main(rt: HostRuntime) -> io::Result<()> {
     let starts: [u32; 9] = [0, 5, 10, 15, 20, 25, 30, 35, 40];
     let columns = columns();
     let values = odd_values();
@@ -98,15 +96,16 @@ fn main() {
     let c: [Index; 8] = [6, 0, 2, 5, 1, 7, 4, 3];
     let b: [f64; 8] = [1.0, -2.5, 1e300, 0.0, -0.0, 3e-310, 7.0, 0.3];
     let mut file = [7u8; 1024];
-    print_end(matrix_file::write_matrix(8, &starts, &columns, &values, &r, &c, &b, &mut file));
+    let written = matrix_file::write_matrix(8, &starts, &columns, &values, &r, &c, &b, &mut file);
+    print_end(&rt, written)?;
     let mut again = [5u8; 1024];
-    copy(&file, &mut again);
-    print_digest(&file);
-    print_digest(&again);
+    copy(&rt, &file, &mut again)?;
+    print_digest(&rt, &file)?;
+    print_digest(&rt, &again)?;
     again[700] = other(again[700]);
     let shape = matrix_file::matrix_file_shape(&again);
     match shape {
-        Shaped::Shape(_) => print_end(Ended::Done),
-        Shaped::Unshaped(q) => print_end(Ended::Refused(q)),
+        Shaped::Shape(_) => print_end(&rt, Ended::Done),
+        Shaped::Unshaped(q) => print_end(&rt, Ended::Refused(q)),
     }
 }

@@ -1,5 +1,1 @@
 pub mod Fill
-pub mod Walks
-pub mod RowRule
-pub mod ListLaws
-pub mod Prune

@@ -18,13 +18,13 @@ use Rattle.base.specs.declared.Form.TheVariants.{Shared}
 use Rattle.base.specs.declared.Side.TheVariants.{Lower, Upper}
 use Rattle.base.specs.declared.Refusal.TheVariants.{Rows, Lengths}
 use Rattle.fill.specs.Fill.{Pattern, filled, upper, flip, upper_row, lower_row}
-use Rattle.fill.specs.RowRule.{filled-flip}
+use Rattle.fill.proofs.RowRule.{filled-flip}
 use Rattle.lent.specs.Reading.{Distinct, length_in}
 use Rattle.marks.specs.FillLaws.{has-upper, upper-below}
 use Rattle.marks.specs.ListLaws.{lower-le, upper-le}
 use Rattle.matrix.specs.Input.{Input, stored}
 use Rattle.matrix.specs.ListsLaws.{rows-range}
-use Rattle.matrix.specs.OrderLaws.{order_below}
+use Rattle.matrix.proofs.OrderLaws.{order_below}
 use Rattle.outcome.specs.Forms.{value_need}
 use Rattle.outcome.specs.Buffers.{Buffers, sizes, pattern_tests, structure_tests, ask_shape}
 use Rattle.outcome.specs.Placed.{PlacedSide, lists-kept, starts-long, size-at, run_at, run_inside, list_at-is}

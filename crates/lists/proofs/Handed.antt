@@ -26,7 +26,7 @@ use Rattle.base.specs.declared.Asked.TheVariants.{Pass, Stop}
 use Rattle.base.specs.declared.Answer.{Answer}
 use Rattle.base.specs.declared.Answer.TheVariants.{Done, Refused}
 use Rattle.fill.specs.Fill.{Pattern}
-use Rattle.fill.specs.ListLaws.{lower-is-upper}
+use Rattle.fill.proofs.ListLaws.{lower-is-upper}
 use Rattle.base.specs.Limits.{rows_within, max_slots}
 use Rattle.matrix.specs.Input.{Input, stored}
 use Rattle.matrix.specs.Questions.{ask_structure, ask_solve}

@@ -10,7 +10,7 @@ use Rattle.base.specs.Lists.{asc, has, list_at, row_of}
 use Rattle.base.specs.Tests.{by-test, and_cases}
 use Rattle.base.specs.AscLaws.{has-asc, asc-at, length-asc}
 use Rattle.fill.specs.Fill.{Pattern, filled, upper, upper_row}
-use Rattle.fill.specs.Prune.{Pair, Cut, entire, short, pruned, pruned-filled}
+use Rattle.fill.proofs.Prune.{Pair, Cut, entire, short, pruned, pruned-filled}
 use Rattle.lent.specs.Reading.{Below, order_of, placed}
 use Rattle.lent.specs.ReadingLaws.{list_length, same}
 use Rattle.marks.specs.Marks.{Above, Room, stamped, marked, Holds, Unmarked, Order, part_at, Parts, upto, visited, unite}

@@ -11,7 +11,7 @@ use Rattle.std.proofs.Math.Dec.{ltb}
 use Rattle.base.specs.Lists.{count, total, sum, bit}
 use Rattle.base.specs.AscLaws.{asc-ext, asc-at, length-asc, count-le, total-asc, sum-ext, sum_mono, count_none, count-suc, bit_le}
 use Rattle.fill.specs.Fill.{Pattern, filled, upper, upper_row, lower_row, products}
-use Rattle.fill.specs.ListLaws.{steps, products-steps, products-le}
+use Rattle.fill.proofs.ListLaws.{steps, products-steps, products-le}
 use Rattle.lent.specs.Reading.{length_in, But}
 use Rattle.marks.specs.Marks.{Room, Holds, chosen, members, visited, unite, part_at, Parts, Merged}
 use Rattle.marks.specs.BlockLaws.{sets-append}

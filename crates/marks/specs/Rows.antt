@@ -4,7 +4,7 @@ use Rattle.std.specs.Prelude.{◌≡◌, List, ◌++◌, map, ℕ, ◌+◌, ◌<
 use Rattle.std.proofs.lemmas.List.Edits.{sets}
 use Rattle.base.specs.Lists.{list_at, row_of, has, total}
 use Rattle.fill.specs.Fill.{Pattern, filled, upper_row, lower_row}
-use Rattle.fill.specs.Prune.{Pair}
+use Rattle.fill.proofs.Prune.{Pair}
 use Rattle.lent.specs.Reading.{ListIn, order_of, placed, But}
 use Rattle.marks.specs.Marks.{Fresh, Holds, Unmarked, upto}
 use Rattle.base.specs.Scratch.{list_from}

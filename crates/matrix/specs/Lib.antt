@@ -3,4 +3,3 @@ pub mod Input
 pub mod Lists
 pub mod ListsLaws
 pub mod Questions
-pub mod OrderLaws

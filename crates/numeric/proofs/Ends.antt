@@ -13,7 +13,7 @@ use Rattle.base.specs.declared.RowSums.{RowSums}
 use Rattle.arithmetic.specs.Arith.{met, overflow, one}
 use Rattle.arithmetic.specs.Stopping.{finish}
 use Rattle.arithmetic.specs.RowEnd.{finite_on, finite_all, products, row_end}
-use Rattle.arithmetic.specs.Sticky.{scaled_at}
+use Rattle.arithmetic.proofs.Sticky.{scaled_at}
 use Rattle.numeric.specs.Stores.{work, Finished}
 use Rattle.numeric.specs.StoreLaws.{sets-part, products-length}
 use Rattle.numeric.specs.declared.Pivot.{Pivot}

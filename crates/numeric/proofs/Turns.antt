@@ -17,7 +17,7 @@ use Rattle.lent.specs.ReadingLaws.{take_rest}
 use Rattle.arithmetic.specs.Arith.{ok, met, overflow, Given, Work}
 use Rattle.arithmetic.specs.Stopping.{any, subtract, steps, rest, back}
 use Rattle.arithmetic.specs.RowEnd.{finite_on, finite_all, products}
-use Rattle.arithmetic.specs.Sticky.{step-any, rest_at}
+use Rattle.arithmetic.proofs.Sticky.{step-any, rest_at}
 use Rattle.numeric.specs.Rows.{Shut}
 use Rattle.numeric.specs.Stores.{Ascending, store_given, work, Stepped, gathered, zeroed, set_all, with_value, entering, Columns, columns, keep_columns}
 use Rattle.base.specs.Scratch.{z_from}

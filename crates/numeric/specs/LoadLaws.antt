@@ -18,7 +18,7 @@ use Rattle.lent.specs.Reading.{Below, placed}
 use Rattle.lent.specs.ReadingLaws.{placed-length, placed_at}
 use Rattle.arithmetic.specs.Arith.{ok}
 use Rattle.arithmetic.specs.Stopping.{any, load}
-use Rattle.arithmetic.specs.Sticky.{entered, load-more}
+use Rattle.arithmetic.proofs.Sticky.{entered, load-more}
 use Rattle.numeric.specs.Stores.{set_all, with_value, entering}
 use Rattle.numeric.specs.StoreLaws.{set-all-length, set-all-has, set-all-other}
 

@@ -19,8 +19,8 @@ use Rattle.lent.specs.ReadingLaws.{list_length}
 use Rattle.arithmetic.specs.Arith.{Fault, Out, ok, met, overflow, zero_pivot, one, System, Row, none, Given, given, Work}
 use Rattle.arithmetic.specs.Stopping.{◌>>=◌, any, at, pivot, load, start, steps, scaled, finish, row, forward, rest, back, solved}
 use Rattle.arithmetic.specs.RowEnd.{products}
-use Rattle.arithmetic.specs.Factors.{bind_ok}
-use Rattle.arithmetic.specs.Sticky.{ok-inj}
+use Rattle.arithmetic.proofs.Factors.{bind_ok}
+use Rattle.arithmetic.proofs.Sticky.{ok-inj}
 use Rattle.numeric.specs.declared.Pivot.{Pivot}
 use Rattle.numeric.specs.declared.Pivot.TheVariants.{Usable, Zero, Overflow}
 use Rattle.numeric.specs.Stores.{StoreShape, store_given, work, Eliminated, Finished, numbered_back, gathered, zeroed}

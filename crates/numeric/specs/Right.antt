@@ -10,7 +10,7 @@ use Rattle.base.specs.Tests.{by-test, or_right}
 use Rattle.lent.specs.Reading.{Below}
 use Rattle.arithmetic.specs.Arith.{ok}
 use Rattle.arithmetic.specs.Stopping.{any, subtract, rest}
-use Rattle.arithmetic.specs.Sticky.{ok-inj}
+use Rattle.arithmetic.proofs.Sticky.{ok-inj}
 use Rattle.numeric.specs.Stores.{Ascending}
 use Rattle.numeric.specs.Rows.{only, beside}
 use Rattle.numeric.specs.RowLaws.{asc-head, asc-tail, mem-has}

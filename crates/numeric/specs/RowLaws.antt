@@ -14,7 +14,7 @@ use Rattle.base.specs.AscLaws.{has-append, mem-at}
 use Rattle.arithmetic.specs.Arith.{Out, ok, met, System, Row, Given, given, Work}
 use Rattle.arithmetic.specs.Stopping.{◌>>=◌, Check, any, load, row, subtract, step_at, steps}
 use Rattle.arithmetic.specs.RowEnd.{finite_on, row_end}
-use Rattle.arithmetic.specs.Sticky.{ok-inj, subtract-any, after, step-any, load-keeps, row-at, sub-left, sub-right, mul_left}
+use Rattle.arithmetic.proofs.Sticky.{ok-inj, subtract-any, after, step-any, load-keeps, row-at, sub-left, sub-right, mul_left}
 use Rattle.numeric.specs.Stores.{Ascending, gathered, work}
 use Rattle.numeric.specs.Rows.{filled_row, Closed, RowLent}
 

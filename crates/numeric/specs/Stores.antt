@@ -11,7 +11,7 @@ use Rattle.lent.specs.Reading.{ListIn, Below, order_of}
 use Rattle.arithmetic.specs.Arith.{Out, ok, met, zero_pivot, overflow, Row, Given, Work}
 use Rattle.arithmetic.specs.Stopping.{any, subtract, steps}
 use Rattle.arithmetic.specs.RowEnd.{products, row_end}
-use Rattle.arithmetic.specs.Sticky.{entered}
+use Rattle.arithmetic.proofs.Sticky.{entered}
 use Rattle.numeric.specs.declared.Pivot.{Pivot}
 use Rattle.numeric.specs.declared.Pivot.TheVariants.{Usable, Zero, Overflow}
 use Rattle.numeric.specs.declared.Back.{Back}

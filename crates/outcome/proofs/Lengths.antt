@@ -26,7 +26,7 @@ use Rattle.base.specs.Lists.{nought, joined}
 use Rattle.base.specs.TableLaws.{length-table}
 use Rattle.placement.specs.Placing.{Way, after, placed, start_of}
 use Rattle.arithmetic.specs.Arith.{Out, ok, met, Row, none, Result, whole_run}
-use Rattle.arithmetic.specs.Meets.{judged-value}
+use Rattle.arithmetic.proofs.Meets.{judged-value}
 use Rattle.base.specs.declared.Refusal.TheVariants.{Rows, Lengths}
 use Rattle.base.specs.declared.Asked.{Asked}
 use Rattle.base.specs.declared.Asked.TheVariants.{Pass, Stop}
@@ -37,7 +37,7 @@ use Rattle.base.specs.declared.Side.{Side}
 use Rattle.outcome.specs.Forms.{lists_of, way_of, rows_of, placed_to, index_need, value_need}
 use Rattle.matrix.specs.Questions.{ask_solve}
 use Rattle.outcome.proofs.Places.{places-pass}
-use Rattle.arithmetic.specs.Factors.{LongTo, whole_length}
+use Rattle.arithmetic.proofs.Factors.{LongTo, whole_length}
 use lib.Ieee.{Float}
 use borrow.Author.Tests.{eqb-true, leb-true}
 

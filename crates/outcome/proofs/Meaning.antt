@@ -15,11 +15,11 @@ use Rattle.base.specs.First.{first}
 use Rattle.base.specs.FirstLaws.{first-none}
 use Rattle.base.specs.TableLaws.{get_or-table}
 use Rattle.matrix.specs.Questions.{IsOrder, bad_column}
-use Rattle.matrix.specs.OrderLaws.{order_below, place_of, place-hits}
+use Rattle.matrix.proofs.OrderLaws.{order_below, place_of, place-hits}
 use Rattle.matrix.specs.Input.{ic, Input, stored, own_order}
 use Rattle.base.specs.declared.Found.TheVariants.{Nothing}
 use Rattle.arithmetic.specs.Stopping.{solved}
-use Rattle.arithmetic.specs.StoppingLaws.{solved-is}
+use Rattle.arithmetic.proofs.StoppingLaws.{solved-is}
 use Rattle.outcome.specs.Solve.{system, listed}
 
 -- the listed operations up to the first fault

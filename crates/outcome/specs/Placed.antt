@@ -9,9 +9,9 @@ use Rattle.base.specs.Lists.{table, list_at, padded}
 use Rattle.base.specs.TableLaws.{get_or-table, length-table}
 use Rattle.fill.specs.Fill.{Pattern, lower_row, flip}
 use Rattle.placement.specs.Placing.{shared, run_of, start_of}
-use Rattle.placement.specs.ListLaws.{part-append}
-use Rattle.placement.specs.PlacingLaws.{Nested, Kept, plain-starts, start-grows, shared-way, placed-kept}
-use Rattle.placement.specs.FillNested.{fill-nested, fill-kept, plain-kept}
+use Rattle.placement.proofs.ListLaws.{part-append}
+use Rattle.placement.proofs.PlacingLaws.{Nested, Kept, plain-starts, start-grows, shared-way, placed-kept}
+use Rattle.placement.proofs.FillNested.{fill-nested, fill-kept, plain-kept}
 use Rattle.outcome.specs.Forms.{lists_of, rows_of, placed_to, index_need, value_need}
 use Rattle.base.specs.declared.Form.{Form}
 use Rattle.base.specs.declared.Form.TheVariants.{Plain, Shared, ByRow}

@@ -1,1 +1,4 @@
 pub mod Examples
+pub mod ListLaws
+pub mod PlacingLaws
+pub mod FillNested

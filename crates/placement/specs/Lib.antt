@@ -1,4 +1,1 @@
 pub mod Placing
-pub mod ListLaws
-pub mod PlacingLaws
-pub mod FillNested

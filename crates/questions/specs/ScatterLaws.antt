@@ -8,7 +8,7 @@ use Rattle.base.specs.Lists.{table}
 use Rattle.base.specs.TableLaws.{length-table, get_or-table}
 use Rattle.matrix.specs.Input.{Input, ic, own_order}
 use Rattle.matrix.specs.Questions.{IsOrder}
-use Rattle.matrix.specs.OrderLaws.{order_below, order-inj, place_of, place-hits}
+use Rattle.matrix.proofs.OrderLaws.{order_below, order-inj, place_of, place-hits}
 use Rattle.lent.specs.ReadingLaws.{order-read}
 use Rattle.questions.specs.Lent.{inverted, inverted_at, Inverse}
 use Rattle.base.specs.Scratch.{inverse_from}

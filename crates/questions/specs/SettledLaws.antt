@@ -19,7 +19,7 @@ use Rattle.base.specs.declared.Asked.{Asked}
 use Rattle.base.specs.declared.Asked.TheVariants.{Pass}
 use Rattle.matrix.specs.Input.{Input, input_of, ic}
 use Rattle.matrix.specs.Questions.{bad_start, bad_column, bad_index, not_finite, no_entry, empty_row, IsOrder, ask3, ask4, ask5, ask6, ask_floor, ask_numbers, ask7, ask_finite, ask_pattern, ask_structure, ask_solve, ask_right}
-use Rattle.matrix.specs.OrderLaws.{place-hits}
+use Rattle.matrix.proofs.OrderLaws.{place-hits}
 use Rattle.questions.specs.Settled.{Finite, columns_at, places_at, Readable, Structured, Settled}
 use Rattle.questions.specs.Lent.{Lent, PlacesLent}
 

@@ -9,7 +9,7 @@ use lib.Ieee.Scale.{finite}
 use Rattle.base.specs.Magnitude.{magnitude}
 use Rattle.base.specs.Tests.{and_cases, true-ext}
 use Rattle.arithmetic.specs.RowEnd.{finite_all}
-use Rattle.arithmetic.specs.Sticky.{mul_left, mul_right, add_left, add_right, sub-left, sub-right}
+use Rattle.arithmetic.proofs.Sticky.{mul_left, mul_right, add_left, add_right, sub-left, sub-right}
 use Rattle.residual.proofs.Run.{results-parts, width-parts}
 use Rattle.residual.specs.Residual.{Entry, product, residual_from, total_from, share, least, width_from, width_of, results_from, results}
 

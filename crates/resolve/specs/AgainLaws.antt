@@ -18,11 +18,11 @@ use Rattle.base.specs.declared.Ended.{Ended}
 use Rattle.base.specs.declared.Ended.TheVariants.{Refused}
 use Rattle.matrix.specs.Input.{Input, input_of, right_at, own_order}
 use Rattle.matrix.specs.Questions.{ask_right}
-use Rattle.matrix.specs.OrderLaws.{order_below}
+use Rattle.matrix.proofs.OrderLaws.{order_below}
 use Rattle.arithmetic.specs.Arith.{Out, ok, met, judged}
 use Rattle.arithmetic.specs.Again.{whole_again}
 use Rattle.arithmetic.specs.Stopping.{solved_again}
-use Rattle.arithmetic.specs.StoppingLaws.{solved_again-is}
+use Rattle.arithmetic.proofs.StoppingLaws.{solved_again-is}
 use Rattle.outcome.specs.Buffers.{SideBuffers, side_buffers, Buffers, all_buffers, sizes, right_tests, list_tests, vector_tests, scratch_tests, buffer_tests, ask_shape, scratch_cleared, ended, stop}
 use Rattle.outcome.specs.Resolve.{given_list, given_values, misplaced, bad_list, bad_at, ask_factors, factors_of, with_solution, resolved, resolve}
 use Rattle.questions.specs.Lent.{RightLent}

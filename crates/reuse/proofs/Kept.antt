@@ -11,7 +11,6 @@ use Rattle.base.specs.Lists.{padded, pairs, nought}
 use Rattle.base.specs.First.{first}
 use Rattle.base.specs.FirstLaws.{first-all}
 use Rattle.base.specs.TableLaws.{get_or-table}
-use Rattle.base.specs.All.{all}
 use Rattle.base.specs.Answers.{number_of_answer, number_of_end}
 use Rattle.base.specs.declared.Form.{Form}
 use Rattle.base.specs.declared.Form.TheVariants.{Plain, Shared, ByRow}
@@ -27,14 +26,14 @@ use Rattle.base.specs.declared.Ended.TheVariants as ends
 use Rattle.base.specs.declared.Sizes.{Sizes}
 use Rattle.fill.specs.Fill.{Pattern, filled, lower_row}
 use Rattle.placement.specs.Placing.{start_of}
-use Rattle.placement.specs.FillNested.{mem-asc}
+use Rattle.placement.proofs.FillNested.{mem-asc}
 use Rattle.matrix.specs.Input.{Input, stored, entries, right_at, own_order}
 use Rattle.matrix.specs.Questions.{ask_solve}
 use Rattle.arithmetic.specs.Arith.{Out, ok, met, judged, none, Result}
 use Rattle.arithmetic.specs.Again.{whole_again}
 use Rattle.arithmetic.specs.RowEnd.{finite_all}
 use Rattle.arithmetic.specs.Stopping.{solved}
-use Rattle.arithmetic.specs.StoppingLaws.{solved_again-is}
+use Rattle.arithmetic.proofs.StoppingLaws.{solved_again-is}
 use Rattle.outcome.specs.Forms.{lists_of, value_need, index_need}
 use Rattle.outcome.specs.Buffers.{SideBuffers, Buffers, buffers_of, sizes, side_of, Outcome, ended}
 use Rattle.outcome.specs.Structure.{ask_places, side_placed}

@@ -14,9 +14,9 @@ use Rattle.base.specs.Tests.{by-test}
 use Rattle.arithmetic.specs.Arith.{Fault, overflow, Out, ok, met, one, System, Row, none, Given, given, Work, Result}
 use Rattle.arithmetic.specs.Again.{Factors, given_by}
 use Rattle.arithmetic.specs.Stopping.{◌>>=◌, at, pivot, less, load, start, subtract, step_at, steps, scaled, finish, row, forward, rest, back, solved, sum_less, y_at, again, solved_again}
-use Rattle.arithmetic.specs.Factors.{bind_ok}
+use Rattle.arithmetic.proofs.Factors.{bind_ok}
 use Rattle.arithmetic.specs.RowEnd.{finite_all, products}
-use Rattle.arithmetic.specs.Sticky.{ok-inj, mul_left, sub-right, less-at, scaled_at}
+use Rattle.arithmetic.proofs.Sticky.{ok-inj, mul_left, sub-right, less-at, scaled_at}
 
 -- ---- a row, and rows, with another y
 

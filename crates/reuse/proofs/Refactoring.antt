@@ -27,7 +27,7 @@ use Rattle.fill.specs.Fill.{Pattern}
 use Rattle.matrix.specs.Input.{Input, stored, own_order}
 use Rattle.matrix.specs.Questions.{ask_structure, ask_solve}
 use Rattle.arithmetic.specs.Arith.{Fault, zero_pivot, overflow, Out, ok, met, Result}
-use Rattle.arithmetic.specs.Sticky.{ok-inj}
+use Rattle.arithmetic.proofs.Sticky.{ok-inj}
 use Rattle.outcome.specs.Forms.{placed_to}
 use Rattle.outcome.specs.Buffers.{SideBuffers, Buffers, buffers_of, sizes, side_of, ask_shape, scratch_cleared, cleared, Outcome, ended, stop}
 use Rattle.outcome.specs.Structure.{counts, ask_places, ask_place, side_placed, structured, structure}

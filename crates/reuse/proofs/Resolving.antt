@@ -2,7 +2,7 @@
 use mathlib.Core.Path.{◌≡◌, refl, sym, ap, ◌∙◌}
 use mathlib.Core.Bool.{Bool, true}
 use mathlib.Core.List.{List, [], ◌∷◌, ◌++◌, map}
-use Prim.Native.Nat.{ℕ, ◌+◌}
+use Prim.Native.Nat.{ℕ}
 use native.Mathlib.Omega.{arith}
 use lib.ListN.{length, get_or, length-replicate}
 use lib.Ieee.{Float, nan}
@@ -26,7 +26,7 @@ use Rattle.base.specs.declared.Found.TheVariants.{Nothing}
 use Rattle.base.specs.declared.Asked.{Asked}
 use Rattle.base.specs.declared.Asked.TheVariants.{Pass, Stop}
 use Rattle.base.specs.declared.Answer.{Answer}
-use Rattle.base.specs.declared.Answer.TheVariants.{Done, Refused}
+use Rattle.base.specs.declared.Answer.TheVariants.{Done}
 use Rattle.base.specs.declared.Ended.TheVariants as ends
 use Rattle.base.specs.declared.Sizes.{Sizes}
 use Rattle.fill.specs.Fill.{Pattern, flip, lower_row, upper_row}
@@ -34,9 +34,9 @@ use Rattle.placement.specs.Placing.{first_at}
 use Rattle.matrix.specs.Input.{Input, stored, right_at, own_order}
 use Rattle.matrix.specs.Questions.{ask7, not_finite, ask3, ask4, ask5, ask6, ask_finite, ask_floor, ask_numbers, ask_pattern, ask_solve, ask_right}
 use Rattle.arithmetic.specs.Arith.{Fault, Out, ok, met, none, Result, Row}
-use Rattle.arithmetic.specs.Sticky.{ok-inj}
+use Rattle.arithmetic.proofs.Sticky.{ok-inj}
 use Rattle.arithmetic.specs.Stopping.{solved}
-use Rattle.arithmetic.specs.StoppingLaws.{solved_again-is}
+use Rattle.arithmetic.proofs.StoppingLaws.{solved_again-is}
 use Rattle.outcome.specs.Buffers.{Buffers, all_buffers, sizes, matrix_tests, right_tests, buffer_tests, ask_shape, scratch_cleared, Outcome, ended, stop}
 use Rattle.outcome.specs.Structure.{counts}
 use Rattle.outcome.specs.Solve.{system, listed, fault_of, multiplier, values_of, values_kept, pivots_kept, kept, left, concluded, shape, solve}

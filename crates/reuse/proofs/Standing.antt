@@ -26,10 +26,10 @@ use Rattle.base.specs.declared.Found.{Found}
 use Rattle.base.specs.declared.Found.TheVariants.{At, Nothing}
 use Rattle.base.specs.declared.SideSizes.{SideSizes}
 use Rattle.base.specs.declared.Sizes.{Sizes}
-use Rattle.fill.specs.Fill.{Pattern, filled}
+use Rattle.fill.specs.Fill.{Pattern}
 use Rattle.placement.specs.Placing.{run_of, same}
-use Rattle.placement.specs.ListLaws.{part-append}
-use Rattle.placement.specs.PlacingLaws.{plain-starts}
+use Rattle.placement.proofs.ListLaws.{part-append}
+use Rattle.placement.proofs.PlacingLaws.{plain-starts}
 use Rattle.outcome.specs.Forms.{lists_of, rows_of, placed_to, index_need, value_need}
 use Rattle.outcome.specs.Buffers.{SideBuffers, side_buffers, Buffers, buffers_of, side_sizes, sizes, side_of}
 use Rattle.outcome.specs.Structure.{fits, ask_place, ask_places, runs_kept, side_placed}

@@ -19,10 +19,10 @@ use Rattle.base.specs.declared.Form.TheVariants.{Plain, Shared, ByRow}
 use Rattle.base.specs.declared.Side.{Side}
 use Rattle.base.specs.declared.Side.TheVariants.{Lower, Upper}
 use Rattle.fill.specs.Fill.{Pattern, filled, upper, upper_row, lower_row, flip}
-use Rattle.fill.specs.RowRule.{filled-flip}
+use Rattle.fill.proofs.RowRule.{filled-flip}
 use Rattle.placement.specs.Placing.{first_at, run_of, start_of}
-use Rattle.placement.specs.ListLaws.{Ascends}
-use Rattle.placement.specs.FillNested.{mem-asc, asc-ascends, fill-nested}
+use Rattle.placement.proofs.ListLaws.{Ascends}
+use Rattle.placement.proofs.FillNested.{mem-asc, asc-ascends, fill-nested}
 use Rattle.arithmetic.specs.Arith.{Row, none}
 use Rattle.arithmetic.specs.RowEnd.{finite_all}
 use Rattle.outcome.specs.Forms.{lists_of, placed_to, value_need}

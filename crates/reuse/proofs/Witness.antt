@@ -1,9 +1,11 @@
 -- The premises of specs/Reuse can be met, with every kind of end: done, 12 and 13.
 use mathlib.Core.Path.{◌≡◌, refl, ap, ◌∙◌}
+use mathlib.Core.Bool.{true}
 use mathlib.Core.List.{List, [], ◌∷◌, map}
-use Prim.Native.Nat.{ℕ, zero, suc}
+use Prim.Native.Nat.{ℕ, zero, suc, ◌<◌}
 use native.Mathlib.Omega.{arith}
-use lib.ListN.{replicate}
+use lib.ListN.{get_or, replicate}
+use lib.Ieee.Scale.{finite}
 use lib.Ieee.{Float, nan, binary64, of_bits, sub, mul, div, lt, eq, le}
 use Rattle.base.specs.Magnitude.{at_most, is_floor}
 use Rattle.base.specs.Lists.{asc, sum, count, has, table, list_at, pairs, padded, nought}
@@ -12,7 +14,7 @@ use Rattle.base.specs.Answers.{spot}
 use Rattle.base.specs.declared.Form.TheVariants.{Plain, Shared}
 use Rattle.base.specs.declared.Counts.{Counts}
 use Rattle.base.specs.declared.Refusal.TheVariants.{ZeroPivot, Overflow}
-use Rattle.base.specs.declared.Answer.TheVariants.{Done, Refused}
+use Rattle.base.specs.declared.Answer.TheVariants.{Done}
 use Rattle.base.specs.declared.Ended.TheVariants as ends
 use Rattle.fill.specs.Fill.{reach, filled, upper, upper_row, lower_row, lower_column, products}
 use Rattle.matrix.specs.Input.{Input, input_of, is_of, ic, stored, entries, right_at}
@@ -141,9 +143,15 @@ two-factored = by-solve (counted 1 1 1) (ap (λ a. ended a (solve Plain two give
 pub two-same : resolve Plain two (solve Plain two given).buffers ≡ ended ends.Done (solve Plain two given).buffers
 two-same = resolving-same Plain plain-keeps two given (solve Plain two given).buffers two-factored
 
+huge-each : (k : ℕ) → k < 2 → finite (get_or huge k nan) ≡ true
+unfolding floats of_bits
+huge-each zero l = refl
+huge-each (suc zero) l = refl
+huge-each (suc (suc k)) l = absurd (omega arith)
+
 huge-finite : FiniteRight two.n huge
-unfolding two floats of_bits
-huge-finite = record { long = refl; all = elim [ zero ↦ λ l. refl | suc k ↦ elim k [ zero ↦ λ l. refl | suc j ↦ λ l. absurd (omega arith) ] ] }
+unfolding two floats
+huge-finite = record { long = refl; all = huge-each }
 
 pub two-over : (resolve Plain (with_right two huge) (solve Plain two given).buffers).answer ≡ ends.Refused (Overflow (spot 1))
 two-over = (resolving Plain plain-keeps two given (solve Plain two given).buffers two-factored huge huge-finite).answer ∙ two-solves.1

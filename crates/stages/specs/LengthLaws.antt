@@ -6,6 +6,8 @@ use Rattle.base.specs.AllLaws.{all_join}
 use Rattle.base.specs.Limits.{max_entries}
 use Rattle.matrix.specs.Input.{Input}
 use Rattle.outcome.specs.Buffers.{pattern_tests, number_tests, matrix_tests, side_tests, lower_tests, list_tests, vector_tests, scratch_tests, structure_tests, buffer_tests}
+-- the laws of the maker's answer stand with the questions
+pub use Rattle.outcome.proofs.Making.{made-few, made-stop, made-on}
 use Rattle.base.specs.declared.Form.{Form}
 use Rattle.base.specs.declared.SideSizes.{SideSizes}
 use Rattle.base.specs.declared.Sizes.{Sizes}

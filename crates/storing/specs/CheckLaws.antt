@@ -12,8 +12,8 @@ use borrow.Author.Tests.{ltb-true, ltb-false, eqb-true, eq-eqb}
 use Rattle.base.specs.Lists.{list_at}
 use Rattle.base.specs.Tests.{by-test, and_cases}
 use Rattle.placement.specs.Placing.{agree, same, run_of, after, plan_at, placed, start_of}
-use Rattle.placement.specs.PlacingLaws.{Sound, Kept, room}
-use Rattle.placement.specs.ListLaws.{take-drop, agree-is, agree-self, same-is, same_self}
+use Rattle.placement.proofs.PlacingLaws.{Sound, Kept, room}
+use Rattle.placement.proofs.ListLaws.{take-drop, agree-is, agree-self, same-is, same_self}
 use Rattle.storing.specs.Ways.{way_of}
 use Rattle.storing.specs.FillNested.{kept, way-sound}
 use Rattle.storing.specs.Slices.{Ready, as_plan, plan_of, fits_of, extent_of, same_at, match_of}

@@ -9,8 +9,8 @@ use Rattle.std.proofs.Math.ListN.{get_or-append}
 use Rattle.std.proofs.lemmas.List.{get_or_at}
 use Rattle.fill.specs.Fill.{Pattern, upper_row, lower_row}
 use Rattle.placement.specs.Placing.{plan_at, run_of, placed, after}
-use Rattle.placement.specs.PlacingLaws.{Kept, SoundWay, shared-way, plain-way, placed-kept}
-pub use Rattle.placement.specs.FillNested.{mem-asc, asc-mem, asc-ascends, fill-nested}
+use Rattle.placement.proofs.PlacingLaws.{Kept, SoundWay, shared-way, plain-way, placed-kept}
+pub use Rattle.placement.proofs.FillNested.{mem-asc, asc-mem, asc-ascends, fill-nested}
 use Rattle.storing.specs.Ways.{way_of, Suited}
 use Rattle.storing.specs.declared.Way.{Way}
 use Rattle.storing.specs.declared.Way.TheVariants.{OneAfterAnother, Sharing}

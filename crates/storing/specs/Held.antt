@@ -2,7 +2,7 @@
 use Rattle.std.specs.Prelude.{ℕ, suc, ◌+◌, ◌≤◌, ◌<◌, ◌≡◌, Bool, true, false, ◌&&◌, cond, List, ◌++◌, length, take, drop, get_or, set, eqb}
 use Rattle.base.specs.Lists.{list_at, table}
 use Rattle.placement.specs.Placing.{same, placed, run_of, start_of}
-use Rattle.placement.specs.PlacingLaws.{room}
+use Rattle.placement.proofs.PlacingLaws.{room}
 use Rattle.storing.specs.Ways.{way_of, Suited}
 use Rattle.storing.specs.Slices.{plan_of, fits_of, Writes, match_of}
 use Rattle.storing.specs.declared.Way.{Way}

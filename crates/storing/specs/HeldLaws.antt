@@ -9,8 +9,8 @@ use Rattle.base.specs.TableLaws.{length-table, get_or-table}
 use Rattle.base.specs.ZerosLaws.{drop-replicate}
 use Rattle.lent.specs.Reading.{ListIn}
 use Rattle.placement.specs.Placing.{placed, run_of, start_of}
-use Rattle.placement.specs.PlacingLaws.{Kept}
-use Rattle.placement.specs.ListLaws.{part-append}
+use Rattle.placement.proofs.PlacingLaws.{Kept}
+use Rattle.placement.proofs.ListLaws.{part-append}
 use Rattle.storing.specs.Ways.{way_of, Suited}
 use Rattle.storing.specs.FillNested.{kept}
 use Rattle.storing.specs.Held.{Holding}

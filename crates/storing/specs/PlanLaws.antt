@@ -8,8 +8,8 @@ use Rattle.base.specs.Lists.{list_at}
 use Rattle.base.specs.Tests.{by-test}
 use Rattle.lent.specs.ReadingLaws.{list_length}
 use Rattle.placement.specs.Placing.{count_above, tails, best, meets, overlap, tail_or, shared, plain, append_all}
-use Rattle.placement.specs.ListLaws.{count-le}
-use Rattle.placement.specs.PlacingLaws.{best-at}
+use Rattle.placement.proofs.ListLaws.{count-le}
+use Rattle.placement.proofs.PlacingLaws.{best-at}
 use Rattle.storing.specs.Slices.{AllTailed, full_at, IsTail, TailIn, as_plan, held, plan_over, Planning, Planned}
 use Rattle.storing.specs.LoopLaws.{overlap-within}
 use Rattle.storing.specs.TailLaws.{found-tail, found_none}

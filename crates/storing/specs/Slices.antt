@@ -6,7 +6,7 @@ use Rattle.base.specs.Lists.{list_at}
 use Rattle.lent.specs.Reading.{ListIn, Below}
 use Rattle.placement.specs.Placing.{tails, agree, State}
 use Rattle.placement.specs.Placing as placement
-use Rattle.placement.specs.ListLaws.{Ascends}
+use Rattle.placement.proofs.ListLaws.{Ascends}
 use Rattle.storing.specs.Ways.{way_of}
 use Rattle.storing.specs.declared.Way.{Way}
 use Rattle.storing.specs.declared.Way.TheVariants.{OneAfterAnother, Sharing}

@@ -9,8 +9,8 @@ use Rattle.std.proofs.lemmas.Bool.{eqb-false}
 use Rattle.base.specs.Lists.{list_at, table}
 use Rattle.base.specs.Tests.{by-test}
 use Rattle.placement.specs.Placing.{count_above, tails, Tail, best, meets, overlap, tail_or, shared, plain, append_all, after, plan_at, placed, start_of}
-use Rattle.placement.specs.PlacingLaws.{best-at, best-same, Nested, Kept, after-length, room, plain-starts}
-use Rattle.placement.specs.ListLaws.{asc-least, asc-weaken, among-asc, among-drop, count-tail, count-le}
+use Rattle.placement.proofs.PlacingLaws.{best-at, best-same, Nested, Kept, after-length, room, plain-starts}
+use Rattle.placement.proofs.ListLaws.{asc-least, asc-weaken, among-asc, among-drop, count-tail, count-le}
 use Rattle.storing.specs.Ways.{way_of, Suited}
 use Rattle.storing.specs.FillNested.{kept}
 use Rattle.storing.specs.Slices.{Reads, Ready, held, plan_over, plan_of, fits_of, extent_of, Writes, WrittenBy}

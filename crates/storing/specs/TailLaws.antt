@@ -10,7 +10,7 @@ use Rattle.base.specs.FirstLaws.{first_found, first-none}
 use Rattle.base.specs.Tests.{by-test, true-ext}
 use Rattle.base.specs.declared.Found.TheVariants.{At, Nothing}
 use Rattle.placement.specs.Placing.{count_above, tails, best_from, best}
-use Rattle.placement.specs.ListLaws.{Ascends, count-all, count-tail, count-le}
+use Rattle.placement.proofs.ListLaws.{Ascends, count-all, count-tail, count-le}
 use Rattle.base.specs.AscLaws.{mem-at}
 use Rattle.lent.specs.Reading.{length_in}
 use Rattle.lent.specs.ReadingLaws.{list_length, list-entry}

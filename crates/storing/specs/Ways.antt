@@ -2,7 +2,7 @@
 use Rattle.std.specs.Prelude.{ℕ, List}
 use Rattle.placement.specs.Placing.{shared, plain}
 use Rattle.placement.specs.Placing as placement
-use Rattle.placement.specs.PlacingLaws.{Nested}
+use Rattle.placement.proofs.PlacingLaws.{Nested}
 use Rattle.storing.specs.declared.Way.{Way}
 use Rattle.storing.specs.declared.Way.TheVariants.{OneAfterAnother, Sharing}
 

@@ -19,7 +19,7 @@ use Rattle.base.specs.declared.Side.TheVariants.{Lower}
 use Rattle.arithmetic.specs.Arith.{Fault, Out, ok, met, overflow}
 use Rattle.arithmetic.specs.Again.{Factors, given_by}
 use Rattle.arithmetic.specs.Stopping.{Check, any, at, less, rest, back, sum_less, y_at, again, solved_again}
-use Rattle.arithmetic.specs.Sticky.{rest_at}
+use Rattle.arithmetic.proofs.Sticky.{rest_at}
 use Rattle.numeric.specs.Stores.{store_given, numbered_back}
 use Rattle.base.specs.ZerosLaws.{drop-replicate}
 use Rattle.numeric.specs.StoreLaws.{ready}

@@ -15,7 +15,7 @@ use Rattle.base.specs.declared.Refusal.TheVariants.{NullPivot, LowerSlots, Upper
 use Rattle.base.specs.declared.Asked.TheVariants.{Pass, Stop}
 use Rattle.fill.specs.Fill.{Pattern, filled, upper_row, lower_row, flip}
 use Rattle.placement.specs.Placing.{plain, shared, Plan, State, placed, after, start_of}
-use Rattle.placement.specs.PlacingLaws.{room}
+use Rattle.placement.proofs.PlacingLaws.{room}
 use Rattle.storing.specs.Ways.{way_of}
 use Rattle.base.specs.declared.Sizes.{Sizes}
 use Rattle.outcome.specs.Forms.{placed_to, index_need, value_need}

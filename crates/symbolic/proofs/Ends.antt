@@ -18,7 +18,7 @@ use Rattle.base.specs.declared.Asked.{Asked}
 use Rattle.base.specs.declared.Asked.TheVariants.{Stop}
 use Rattle.base.specs.declared.Answer.TheVariants as answers
 use Rattle.fill.specs.Fill.{Pattern, upper_row, lower_row, flip}
-use Rattle.fill.specs.ListLaws.{lower-is-upper, lower-rows-columns}
+use Rattle.fill.proofs.ListLaws.{lower-is-upper, lower-rows-columns}
 use Rattle.matrix.specs.Input.{Input, stored}
 use Rattle.placement.specs.Placing.{placed, start_of}
 use Rattle.marks.specs.Rows.{row_steps}

@@ -11,7 +11,7 @@ use lib.Seq.{length-take-le}
 use Rattle.base.specs.Lists.{sum, total}
 use Rattle.base.specs.AscLaws.{asc-at, length-asc}
 use Rattle.fill.specs.Fill.{Pattern, filled, upper_row, lower_row, flip}
-use Rattle.placement.specs.PlacingLaws.{room}
+use Rattle.placement.proofs.PlacingLaws.{room}
 use Rattle.lent.specs.Reading.{length_in, ListIn}
 use Rattle.marks.specs.Marks.{members}
 use Rattle.marks.specs.Rows.{Stored, Renewed, row_steps, Countable}

@@ -15,7 +15,7 @@ use Rattle.base.specs.declared.Asked.TheVariants.{Stop}
 use Rattle.fill.specs.Fill.{Pattern, filled, upper_row, lower_row, flip}
 use Rattle.matrix.specs.Input.{Input, stored}
 use Rattle.placement.specs.Placing.{plain}
-use Rattle.placement.specs.PlacingLaws.{room}
+use Rattle.placement.proofs.PlacingLaws.{room}
 use Rattle.marks.specs.Marks.{Room}
 use Rattle.marks.specs.Rows.{row_steps}
 use Rattle.outcome.specs.Structure.{ask_places}

@@ -15,9 +15,9 @@ use Rattle.base.specs.declared.Side.TheVariants.{Lower, Upper}
 use Rattle.base.specs.declared.Refusal.TheVariants.{NullPivot, LowerSlots, UpperSlots}
 use Rattle.base.specs.declared.Asked.TheVariants.{Stop}
 use Rattle.fill.specs.Fill.{Pattern, filled, upper_row, lower_row, flip}
-use Rattle.fill.specs.RowRule.{filled-flip}
+use Rattle.fill.proofs.RowRule.{filled-flip}
 use Rattle.matrix.specs.Input.{Input, stored}
-use Rattle.placement.specs.PlacingLaws.{room}
+use Rattle.placement.proofs.PlacingLaws.{room}
 use Rattle.marks.specs.Marks.{Fresh}
 use Rattle.marks.specs.Rows.{Stored, Cuts, row_steps}
 use Rattle.marks.specs.RenewLaws.{cuts-kept}

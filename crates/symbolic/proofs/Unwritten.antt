@@ -14,7 +14,7 @@ use Rattle.fill.specs.Fill.{Pattern, flip}
 use Rattle.matrix.specs.Input.{Input, stored}
 use Rattle.outcome.specs.Forms.{lists_of, rows_of}
 use Rattle.placement.specs.Placing.{placed}
-use Rattle.placement.specs.PlacingLaws.{placed-grows, used_grows}
+use Rattle.placement.proofs.PlacingLaws.{placed-grows, used_grows}
 use Rattle.storing.specs.Ways.{way_of, Suited}
 use Rattle.storing.specs.FillNested.{fill-nested, run-stays}
 use Rattle.storing.specs.Held.{Holding}

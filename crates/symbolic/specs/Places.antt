@@ -7,7 +7,7 @@ use Rattle.fill.specs.Fill.{Pattern, filled, upper_row, lower_row, flip}
 use Rattle.base.specs.Limits.{max_rows, max_slots}
 use Rattle.matrix.specs.Input.{Input, input_of, stored}
 use Rattle.placement.specs.Placing.{plain}
-use Rattle.placement.specs.PlacingLaws.{room}
+use Rattle.placement.proofs.PlacingLaws.{room}
 use Rattle.marks.specs.Marks.{Room, Base, Fresh, Holds}
 use Rattle.lent.specs.Reading.{But}
 use Rattle.marks.specs.Rows.{Stored, Cuts, PlaceReady, row_steps}

@@ -1,6 +1,5 @@
 use Rattle.comparison.proofs.Ends.{begun-plain, begun-shared}
 use Rattle.symbolic.proofs.Starts.{inverse-lent}
-use borrow.Author.Rules.{rules}
 use Rattle.comparison.proofs.begin.Goals as goal
 
 pub begin_marks-requires : goal.begin_marks-requires

@@ -1,15 +1,10 @@
 use Rattle.std.proofs.Common.{ap}
 use mathlib.Core.Bool.{not}
 use Rattle.comparison.proofs.Ends.{met_start, compared-first, compared-stop, compared-pass}
-use Rattle.comparison.specs.Comparing.{Met, PlaceEnds}
+use Rattle.comparison.specs.Comparing.{PlaceEnds}
 use Rattle.symbolic.proofs.Keeping.{told}
-use Rattle.matrix.specs.Input.{input_of}
-use mathlib.Core.Path.{◌≡◌, refl, ◌∙◌}
-use mathlib.Core.List.{[]}
-use Prim.Native.Nat.{◌-◌}
-use lib.ListN.{length}
+use mathlib.Core.Path.{refl, ◌∙◌}
 use native.Mathlib.Omega.{arith}
-use borrow.Author.Rules.{rules}
 use Rattle.comparison.proofs.compare.Goals as goal
 
 pub start_right-requires : goal.start_right-requires

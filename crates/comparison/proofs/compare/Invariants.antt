@@ -1,13 +1,9 @@
-use Rattle.comparison.proofs.Ends.{met_start, compared-first, compared-stop, compared-pass}
-use Rattle.comparison.specs.Comparing.{Met, PlaceEnds}
-use Rattle.symbolic.proofs.Keeping.{told}
+use Rattle.comparison.specs.Comparing.{Met}
 use Rattle.matrix.specs.Input.{input_of}
-use mathlib.Core.Path.{◌≡◌, refl, ◌∙◌}
+use mathlib.Core.Path.{◌≡◌}
 use mathlib.Core.List.{[]}
 use Prim.Native.Nat.{◌-◌}
 use lib.ListN.{length}
-use native.Mathlib.Omega.{arith}
-use borrow.Author.Rules.{rules}
 use Rattle.comparison.proofs.compare.Given as goal
 
 abbrev pub invariant-loop-k : goal.invariant-loop-k

@@ -3,7 +3,6 @@ use Rattle.symbolic.proofs.Keeping.{lower-fits, lower-turn, lower-ready}
 use Rattle.fill.specs.Fill.{lower_row, flip}
 use mathlib.Core.Path.{refl}
 use native.Mathlib.Omega.{arith}
-use borrow.Author.Rules.{rules}
 use Rattle.comparison.proofs.compare_lower.Goals as goal
 
 pub overflow_add-mid : goal.overflow_add-mid

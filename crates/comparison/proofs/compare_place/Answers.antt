@@ -1,5 +1,4 @@
 use Rattle.comparison.proofs.Places.{due-plain, due-shared, ends-plain, ends-shared}
-use borrow.Author.Rules.{rules}
 use Rattle.comparison.proofs.compare_place.Goals as goal
 
 pub compare_place_plain-requires : goal.compare_place_plain-requires

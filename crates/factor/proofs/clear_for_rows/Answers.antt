@@ -1,7 +1,6 @@
 use mathlib.Core.Path.{◌∙◌, ap}
 use Rattle.base.specs.Scratch.{cursors_from}
 use Rattle.factor.specs.Factoring.{zeroed}
-use borrow.Author.Rules.{rules}
 use Rattle.factor.proofs.clear_for_rows.Goals as goal
 
 pub returns : goal.returns

@@ -1,6 +1,5 @@
 use mathlib.Core.Path.{refl}
 use Rattle.factor.specs.EndLaws.{part-zeroed}
-use borrow.Author.Rules.{rules}
 use Rattle.factor.proofs.clear_region.Goals as goal
 
 pub returns : goal.returns

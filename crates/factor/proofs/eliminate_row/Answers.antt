@@ -2,7 +2,6 @@ use Rattle.factor.specs.Factoring.{CameTo}
 use Rattle.factor.specs.TurnLaws.{zero-met, overflow-met}
 use Rattle.factor.specs.FormLaws.{row-ready, keep-asked, close-asked, row_more}
 use mathlib.Core.Path.{◌∙◌}
-use borrow.Author.Rules.{rules}
 use Rattle.factor.proofs.eliminate_row.Goals as goal
 
 pub reduce_at-row-requires : goal.reduce_at-row-requires

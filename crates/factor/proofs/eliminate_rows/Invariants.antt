@@ -1,11 +1,8 @@
-use mathlib.Core.Path.{◌∙◌}
-use Rattle.factor.specs.TurnLaws.{SameSizes, sizes-none, sizes-then, came-on, came-off, came-done}
+use Rattle.factor.specs.TurnLaws.{SameSizes}
 use Rattle.factor.specs.Factoring.{written, lists, Going}
 use Rattle.matrix.specs.Input.{input_of, with_floor}
 use mathlib.Core.List.{List}
 use Prim.Native.Nat.{ℕ, ◌≤◌, ◌-◌}
-use borrow.Author.Rules.{rules}
-use native.Mathlib.Omega.{arith}
 use Rattle.factor.proofs.eliminate_rows.Given as goal
 
 abbrev pub invariant-loop-k : goal.invariant-loop-k

@@ -5,7 +5,6 @@ use Rattle.matrix.specs.Input.{Input, input_of, with_floor}
 use mathlib.Core.Path.{refl}
 use mathlib.Core.List.{List}
 use Prim.Native.Nat.{ℕ}
-use borrow.Author.Rules.{rules}
 use Rattle.factor.proofs.factor.Goals as goal
 use Rattle.factor.proofs.factor.Goals.{After-clear_for_rows}
 

@@ -1,6 +1,5 @@
 use Rattle.factor.specs.FindLaws.{base-at, close-parts, close-blocks, cut_members, found}
 use Rattle.marks.specs.MarkLaws.{room-kept}
-use borrow.Author.Rules.{rules}
 use Rattle.factor.proofs.find_lower.Goals as goal
 
 pub load_row_place-requires : goal.load_row_place-requires

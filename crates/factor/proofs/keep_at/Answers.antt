@@ -3,7 +3,6 @@ use Rattle.factor.specs.FormLaws.{keep-as, kept-rows, kept-columns, kept-none}
 use Rattle.base.specs.declared.Form.TheVariants.{Plain, Shared}
 use lib.Seq.{length-take-le}
 use mathlib.Core.Path.{sym}
-use borrow.Author.Rules.{rules}
 use Rattle.factor.proofs.keep_at.Goals as goal
 
 pub keep_plain-requires : goal.keep_plain-requires

@@ -5,7 +5,6 @@ use Rattle.numeric.specs.Stores.{gathered}
 use Prim.Native.Nat.{ℕ}
 use lib.ListN.{length, take}
 use mathlib.Core.List.{List}
-use borrow.Author.Rules.{rules}
 use Rattle.factor.proofs.keep_plain.Goals as goal
 
 pub slice_bounds-keep_by_rows-end : goal.slice_bounds-keep_by_rows-end

@@ -1,7 +1,5 @@
-use Rattle.factor.proofs.Spreads.{Spreading, spreading-start, spreading-more, spreading-end, column-in, cursor-few, slot-in}
-use Prim.Native.Nat.{◌-◌}
+use Rattle.factor.proofs.Spreads.{spreading-start, spreading-more, spreading-end, column-in, cursor-few, slot-in}
 use native.Mathlib.Omega.{arith}
-use borrow.Author.Rules.{rules}
 use Rattle.factor.proofs.keep_shared.Goals as goal
 
 pub overflow_mul-cursors : goal.overflow_mul-cursors

@@ -1,7 +1,5 @@
-use Rattle.factor.proofs.Spreads.{Spreading, spreading-start, spreading-more, spreading-end, column-in, cursor-few, slot-in}
+use Rattle.factor.proofs.Spreads.{Spreading}
 use Prim.Native.Nat.{◌-◌}
-use native.Mathlib.Omega.{arith}
-use borrow.Author.Rules.{rules}
 use Rattle.factor.proofs.keep_shared.Given as goal
 
 abbrev pub invariant-loop-p : goal.invariant-loop-p

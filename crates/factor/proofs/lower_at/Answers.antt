@@ -1,7 +1,6 @@
 use Rattle.factor.specs.Factoring.{LowerAsked, LowerGiven}
 use Rattle.factor.specs.FormLaws.{asked-as, given-as}
 use mathlib.Core.Bool.{true, false}
-use borrow.Author.Rules.{rules}
 use Rattle.factor.proofs.lower_at.Goals as goal
 
 pub lower_plain-requires : goal.lower_plain-requires

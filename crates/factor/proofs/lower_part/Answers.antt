@@ -1,6 +1,5 @@
 use Prim.Native.Nat.{◌*◌}
 use Rattle.factor.proofs.Parts.{part-from}
-use borrow.Author.Rules.{rules}
 use Rattle.factor.proofs.lower_part.Goals as goal
 
 pub returns : goal.returns

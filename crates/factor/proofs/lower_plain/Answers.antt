@@ -3,7 +3,6 @@ use lib.Seq.{sets}
 use lib.ListN.{length}
 use mathlib.Core.Path.{◌∙◌, ap}
 use native.Mathlib.Omega.{arith}
-use borrow.Author.Rules.{rules}
 use Rattle.factor.proofs.lower_plain.Goals as goal
 
 pub copy_list-requires : goal.copy_list-requires

@@ -7,7 +7,6 @@ use Rattle.matrix.specs.Input.{input_of, with_floor}
 use mathlib.Core.List.{List}
 use Prim.Native.Nat.{ℕ}
 use lib.ListN.{length}
-use borrow.Author.Rules.{rules}
 use Rattle.factor.proofs.reduce_at.Goals as goal
 use Rattle.factor.proofs.reduce_at.Goals.{After-lower_at-below}
 

@@ -2,7 +2,6 @@ use Rattle.factor.specs.EndLaws.{stopped-below, complete-at, stopped-at}
 use Rattle.numeric.specs.Stores.{store_given}
 use lib.ListN.{drop}
 use native.Mathlib.Omega.{arith}
-use borrow.Author.Rules.{rules}
 use Rattle.base.specs.Scratch.{z_from}
 use Rattle.factor.proofs.solve_back.Goals as goal
 

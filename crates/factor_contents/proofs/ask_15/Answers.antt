@@ -4,7 +4,6 @@ use mathlib.Core.Path.{refl, sym, ◌∙◌}
 use native.Mathlib.Omega.{arith}
 use Rattle.factor_contents.proofs.JudgingLaws.{runs-alike}
 use Rattle.factor_contents.proofs.CallLaws.{ask15-stop, ask15-end, ask15-pass}
-use borrow.Author.Rules.{rules}
 use Rattle.factor_contents.proofs.ask_15.Goals as goal
 
 pub ask_factors-asked-requires : goal.ask_factors-asked-requires

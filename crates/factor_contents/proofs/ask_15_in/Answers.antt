@@ -4,7 +4,6 @@ use native.Mathlib.Omega.{arith}
 use Rattle.factor_contents.specs.FactorFile.{lists_at}
 use Rattle.factor_contents.proofs.JudgingLaws.{start_is, start-there}
 use Rattle.factor_contents.proofs.CallLaws.{ask15-stop, ask15-end, ask15-pass}
-use borrow.Author.Rules.{rules}
 use Rattle.factor_contents.proofs.ask_15_in.Goals as goal
 
 pub returns-in-Stop : goal.returns-in-Stop

@@ -3,7 +3,6 @@ use mathlib.Core.Bool.{not}
 use borrow.Author.Tests.{eq-eqb, ne_eqb}
 use Rattle.factor_contents.specs.FactorFile.{ask15}
 use Rattle.factor_contents.proofs.CallLaws.{contents-5, contents-15, contents-21, contents-pass}
-use borrow.Author.Rules.{rules}
 use Rattle.factor_contents.proofs.ask_contents.Goals as goal
 
 pub returns-in-Stop : goal.returns-in-Stop

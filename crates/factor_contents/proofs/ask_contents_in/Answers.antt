@@ -4,7 +4,6 @@ use borrow.Author.Tests.{eq-eqb, ne_eqb}
 use native.Mathlib.Omega.{arith}
 use Rattle.factor_contents.specs.FactorFile.{lists_at}
 use Rattle.factor_contents.proofs.CallLaws.{orders-there, products-there, contents-5, contents-15, contents-21, contents-pass}
-use borrow.Author.Rules.{rules}
 use Rattle.factor_contents.proofs.ask_contents_in.Goals as goal
 
 pub returns-in-Stop : goal.returns-in-Stop

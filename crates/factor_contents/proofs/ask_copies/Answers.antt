@@ -1,5 +1,4 @@
 use Rattle.factor_contents.proofs.CallLaws.{asked-copies}
-use borrow.Author.Rules.{rules}
 use Rattle.factor_contents.proofs.ask_copies.Goals as goal
 
 pub returns : goal.returns

@@ -1,14 +1,8 @@
-use mathlib.Core.Path.{◌≡◌, refl}
-use Prim.Native.Nat.{◌-◌, ◌≤◌}
-use Rattle.base.specs.First.{first}
+use mathlib.Core.Path.{refl}
 use Rattle.base.specs.FirstLaws.{first-zero, first_more}
-use Rattle.base.specs.declared.Found.TheVariants.{Nothing}
-use Rattle.base.specs.declared.Form.TheVariants.{Plain}
 use Rattle.questions.specs.AskLaws.{ask-at, ask-pass}
-use Rattle.outcome.specs.Resolve.{bad_at, ask_factors}
+use Rattle.outcome.specs.Resolve.{ask_factors}
 use Rattle.factors.specs.PresentedLaws.{was-bad, was-good}
-use Rattle.factor_contents.specs.FactorFile.{lists_at}
-use Rattle.factor_contents.specs.Judging.{presented_lists}
 use borrow.Author.Rules.{rules}
 use Rattle.factor_contents.proofs.ask_lists_in.Goals as goal
 

@@ -1,15 +1,11 @@
-use mathlib.Core.Path.{◌≡◌, refl}
+use mathlib.Core.Path.{◌≡◌}
 use Prim.Native.Nat.{◌-◌, ◌≤◌}
 use Rattle.base.specs.First.{first}
-use Rattle.base.specs.FirstLaws.{first-zero, first_more}
 use Rattle.base.specs.declared.Found.TheVariants.{Nothing}
 use Rattle.base.specs.declared.Form.TheVariants.{Plain}
-use Rattle.questions.specs.AskLaws.{ask-at, ask-pass}
-use Rattle.outcome.specs.Resolve.{bad_at, ask_factors}
-use Rattle.factors.specs.PresentedLaws.{was-bad, was-good}
+use Rattle.outcome.specs.Resolve.{bad_at}
 use Rattle.factor_contents.specs.FactorFile.{lists_at}
 use Rattle.factor_contents.specs.Judging.{presented_lists}
-use borrow.Author.Rules.{rules}
 use Rattle.factor_contents.proofs.ask_lists_in.Given as goal
 
 abbrev pub invariant-loop-k : goal.invariant-loop-k

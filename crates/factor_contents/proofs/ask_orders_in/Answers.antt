@@ -1,7 +1,6 @@
 use native.Mathlib.Omega.{arith}
 use mathlib.Core.Path.{sym}
 use Rattle.factor_contents.proofs.CallLaws.{part-long}
-use borrow.Author.Rules.{rules}
 use Rattle.factor_contents.proofs.ask_orders_in.Goals as goal
 
 pub slice_bounds-ask_copies-end : goal.slice_bounds-ask_copies-end

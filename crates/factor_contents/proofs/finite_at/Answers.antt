@@ -1,10 +1,6 @@
-use mathlib.Core.Path.{◌≡◌, sym, ◌∙◌}
-use Prim.Native.Nat.{◌+◌, ◌*◌, ◌≤◌}
+use mathlib.Core.Path.{sym, ◌∙◌}
 use native.Mathlib.Omega.{arith}
-use Rattle.fields.specs.Payload.{room, floats_at}
-use Rattle.arithmetic.specs.RowEnd.{finite_all}
 use Rattle.factor_contents.proofs.JudgingLaws.{finite-more, finite-stop, finite-end}
-use borrow.Author.Rules.{rules}
 use Rattle.factor_contents.proofs.finite_at.Goals as goal
 
 pub loop-left-preserved : goal.loop-left-preserved

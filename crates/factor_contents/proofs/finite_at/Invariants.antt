@@ -1,10 +1,7 @@
-use mathlib.Core.Path.{◌≡◌, sym, ◌∙◌}
+use mathlib.Core.Path.{◌≡◌}
 use Prim.Native.Nat.{◌+◌, ◌*◌, ◌≤◌}
-use native.Mathlib.Omega.{arith}
 use Rattle.fields.specs.Payload.{room, floats_at}
 use Rattle.arithmetic.specs.RowEnd.{finite_all}
-use Rattle.factor_contents.proofs.JudgingLaws.{finite-more, finite-stop, finite-end}
-use borrow.Author.Rules.{rules}
 use Rattle.factor_contents.proofs.finite_at.Given as goal
 
 abbrev pub invariant-loop-left : goal.invariant-loop-left

@@ -1,7 +1,6 @@
 use mathlib.Core.Path.{refl}
 use native.Mathlib.Omega.{arith}
 use Rattle.factor_contents.proofs.JudgingLaws.{length-beyond, length-is}
-use borrow.Author.Rules.{rules}
 use Rattle.factor_contents.proofs.length_at.Goals as goal
 
 pub returns-then-n-j : goal.returns-then-n-j

@@ -1,6 +1,5 @@
 use native.Mathlib.Omega.{arith}
 use Rattle.factor_contents.proofs.JudgingLaws.{length_none}
-use borrow.Author.Rules.{rules}
 use Rattle.factor_contents.proofs.length_of.Goals as goal
 
 pub returns-then-starts-j : goal.returns-then-starts-j

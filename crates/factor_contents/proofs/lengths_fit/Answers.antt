@@ -1,4 +1,3 @@
-use borrow.Author.Rules.{rules}
 use Rattle.factor_contents.proofs.lengths_fit.Goals as goal
 
 pub returns : goal.returns

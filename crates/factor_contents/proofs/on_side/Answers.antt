@@ -2,7 +2,6 @@ use mathlib.Core.Path.{refl}
 use native.Mathlib.Numerals.{add-one}
 use Rattle.base.specs.declared.Form.TheVariants.{Plain}
 use Rattle.factors.specs.PresentedLaws.{on-side}
-use borrow.Author.Rules.{rules}
 use Rattle.factor_contents.proofs.on_side.Goals as goal
 
 pub returns-in-Lower : goal.returns-in-Lower

@@ -1,6 +1,5 @@
 use native.Mathlib.Omega.{arith}
 use Rattle.factor_contents.proofs.JudgingLaws.{place_is, pivot-is}
-use borrow.Author.Rules.{rules}
 use Rattle.factor_contents.proofs.place_good.Goals as goal
 
 pub side_good-below-requires : goal.side_good-below-requires

@@ -1,10 +1,6 @@
-use mathlib.Core.Path.{◌≡◌, ◌∙◌}
-use Prim.Native.Nat.{◌+◌, ◌*◌, ◌≤◌}
+use mathlib.Core.Path.{◌∙◌}
 use native.Mathlib.Omega.{arith}
-use Rattle.fields.specs.Payload.{room, fields_at}
-use Rattle.factor_contents.specs.FactorFile.{products_of}
 use Rattle.factor_contents.proofs.JudgingLaws.{products-more, products-end}
-use borrow.Author.Rules.{rules}
 use Rattle.factor_contents.proofs.products_in.Goals as goal
 
 pub loop-left-init : goal.loop-left-init

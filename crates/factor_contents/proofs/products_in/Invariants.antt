@@ -1,10 +1,7 @@
-use mathlib.Core.Path.{◌≡◌, ◌∙◌}
+use mathlib.Core.Path.{◌≡◌}
 use Prim.Native.Nat.{◌+◌, ◌*◌, ◌≤◌}
-use native.Mathlib.Omega.{arith}
 use Rattle.fields.specs.Payload.{room, fields_at}
 use Rattle.factor_contents.specs.FactorFile.{products_of}
-use Rattle.factor_contents.proofs.JudgingLaws.{products-more, products-end}
-use borrow.Author.Rules.{rules}
 use Rattle.factor_contents.proofs.products_in.Given as goal
 
 abbrev pub invariant-loop-left : goal.invariant-loop-left

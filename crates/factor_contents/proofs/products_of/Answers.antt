@@ -1,10 +1,6 @@
-use mathlib.Core.Path.{◌≡◌, ◌∙◌}
-use Prim.Native.Nat.{◌+◌, ◌-◌, ◌*◌, ◌≤◌}
+use mathlib.Core.Path.{◌∙◌}
 use native.Mathlib.Omega.{arith}
-use lib.ListN.{length, drop}
-use Rattle.factor_contents.specs.FactorFile.{products_of}
 use Rattle.factor_contents.proofs.JudgingLaws.{products-on, products-all}
-use borrow.Author.Rules.{rules}
 use Rattle.factor_contents.proofs.products_of.Goals as goal
 
 pub loop-p-init : goal.loop-p-init

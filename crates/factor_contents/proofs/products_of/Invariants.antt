@@ -1,10 +1,7 @@
-use mathlib.Core.Path.{◌≡◌, ◌∙◌}
+use mathlib.Core.Path.{◌≡◌}
 use Prim.Native.Nat.{◌+◌, ◌-◌, ◌*◌, ◌≤◌}
-use native.Mathlib.Omega.{arith}
 use lib.ListN.{length, drop}
 use Rattle.factor_contents.specs.FactorFile.{products_of}
-use Rattle.factor_contents.proofs.JudgingLaws.{products-on, products-all}
-use borrow.Author.Rules.{rules}
 use Rattle.factor_contents.proofs.products_of.Given as goal
 
 abbrev pub invariant-loop-p : goal.invariant-loop-p

@@ -1,10 +1,6 @@
-use mathlib.Core.Path.{◌≡◌, refl, sym, ◌∙◌}
-use Prim.Native.Nat.{◌+◌, ◌*◌, ◌≤◌}
+use mathlib.Core.Path.{refl, sym, ◌∙◌}
 use native.Mathlib.Omega.{arith}
-use Rattle.fields.specs.Payload.{room, fields_at}
-use Rattle.outcome.specs.Resolve.{rises_in}
 use Rattle.factor_contents.proofs.JudgingLaws.{rises-more, rises-stop, rises-end}
-use borrow.Author.Rules.{rules}
 use Rattle.factor_contents.proofs.rises_at.Goals as goal
 
 pub loop-left-preserved : goal.loop-left-preserved

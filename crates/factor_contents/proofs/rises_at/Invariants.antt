@@ -1,10 +1,7 @@
-use mathlib.Core.Path.{◌≡◌, refl, sym, ◌∙◌}
+use mathlib.Core.Path.{◌≡◌}
 use Prim.Native.Nat.{◌+◌, ◌*◌, ◌≤◌}
-use native.Mathlib.Omega.{arith}
 use Rattle.fields.specs.Payload.{room, fields_at}
 use Rattle.outcome.specs.Resolve.{rises_in}
-use Rattle.factor_contents.proofs.JudgingLaws.{rises-more, rises-stop, rises-end}
-use borrow.Author.Rules.{rules}
 use Rattle.factor_contents.proofs.rises_at.Given as goal
 
 abbrev pub invariant-loop-left : goal.invariant-loop-left

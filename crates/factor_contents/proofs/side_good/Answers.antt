@@ -1,6 +1,5 @@
 use native.Mathlib.Omega.{arith}
 use Rattle.factor_contents.proofs.JudgingLaws.{good-falls, good-outside, within, good-aside, good-values}
-use borrow.Author.Rules.{rules}
 use Rattle.factor_contents.proofs.side_good.Goals as goal
 
 pub returns-then-hi-lo : goal.returns-then-hi-lo

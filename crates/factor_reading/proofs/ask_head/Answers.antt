@@ -4,7 +4,6 @@ use native.Mathlib.Omega.{arith}
 use Rattle.matrix.specs.ListsLaws.{range-of}
 use Rattle.blocks.proofs.AskLaws.{then-no, then-yes, holds-no, holds-yes}
 use Rattle.factor_contents.specs.FactorFile.{ask_head}
-use borrow.Author.Rules.{rules}
 use Rattle.factor_reading.proofs.ask_head.Goals as goal
 
 pub returns-then-not-rows_within : goal.returns-then-not-rows_within

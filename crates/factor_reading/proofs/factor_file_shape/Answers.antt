@@ -1,5 +1,4 @@
 use Rattle.factor_reading.proofs.ShapeLaws.{head-room, shape-head, shape-stop}
-use borrow.Author.Rules.{rules}
 use Rattle.factor_reading.proofs.factor_file_shape.Goals as goal
 
 pub head_shape-requires : goal.head_shape-requires

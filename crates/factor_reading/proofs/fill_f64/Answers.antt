@@ -1,7 +1,6 @@
 use mathlib.Core.Path.{sym}
 use native.Mathlib.Omega.{arith}
 use Rattle.factor_reading.proofs.ReadLaws.{cleared-part, filled-floats}
-use borrow.Author.Rules.{rules}
 use Rattle.factor_reading.proofs.fill_f64.Goals as goal
 
 pub slice_bounds-read_f64s-end-2 : goal.slice_bounds-read_f64s-end-2

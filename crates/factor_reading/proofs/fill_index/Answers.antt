@@ -1,7 +1,6 @@
 use mathlib.Core.Path.{sym}
 use native.Mathlib.Omega.{arith}
 use Rattle.factor_reading.proofs.ReadLaws.{cleared-part, filled-index}
-use borrow.Author.Rules.{rules}
 use Rattle.factor_reading.proofs.fill_index.Goals as goal
 
 pub slice_bounds-read_indices-end-2 : goal.slice_bounds-read_indices-end-2

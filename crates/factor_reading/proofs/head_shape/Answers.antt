@@ -1,5 +1,4 @@
 use Rattle.factor_reading.proofs.ShapeLaws.{head-pass, head-stop}
-use borrow.Author.Rules.{rules}
 use Rattle.factor_reading.proofs.head_shape.Goals as goal
 
 pub returns-in-Pass : goal.returns-in-Pass

@@ -1,7 +1,6 @@
 use Rattle.std.proofs.Common.{ap}
 use mathlib.Core.Bool.{not}
 use Rattle.factor_reading.proofs.ReadLaws.{judge-stop, judge-rows, judge-lengths, judge-room, judge-done}
-use borrow.Author.Rules.{rules}
 use Rattle.factor_reading.proofs.judge.Goals as goal
 
 pub lengths_fit-requires : goal.lengths_fit-requires

@@ -1,5 +1,4 @@
 use Rattle.factor_reading.proofs.ReadLaws.{counted_stop, counted-done}
-use borrow.Author.Rules.{rules}
 use Rattle.factor_reading.proofs.judge_contents.Goals as goal
 
 pub returns-in-Stop : goal.returns-in-Stop

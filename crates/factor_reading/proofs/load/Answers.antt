@@ -1,6 +1,5 @@
 use native.Mathlib.Omega.{arith}
 use Rattle.factor_reading.proofs.ReadLaws.{loaded}
-use borrow.Author.Rules.{rules}
 use Rattle.factor_reading.proofs.load.Goals as goal
 
 pub load_side-requires : goal.load_side-requires

@@ -1,6 +1,5 @@
 use Rattle.factor_contents.specs.FactorFile.{factor_lists}
 use Rattle.factor_reading.proofs.ReadLaws.{read-stop, read-room, read_done}
-use borrow.Author.Rules.{rules}
 use Rattle.factor_reading.proofs.read_factors.Goals as goal
 
 pub load-requires : goal.load-requires

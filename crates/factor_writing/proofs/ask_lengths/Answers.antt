@@ -2,7 +2,6 @@ use Rattle.std.proofs.Common.{ap}
 use mathlib.Core.Bool.{not}
 use Rattle.matrix.specs.ListsLaws.{range-of}
 use Rattle.factor_writing.proofs.WriteLaws.{ask-1, ask-fit, ask-file, ask-pass, slots-few}
-use borrow.Author.Rules.{rules}
 use Rattle.factor_writing.proofs.ask_lengths.Goals as goal
 
 pub returns-then-not-rows_within : goal.returns-then-not-rows_within
@@ -17,7 +16,7 @@ returns-then-not-lengths_fit c = ask-fit _ _ _ _ _ _ c.rows_within.ensures (ap n
 pub file_fits-requires : goal.file_fits-requires
 file_fits-requires c =
     let a = c.args in
-    let few = slots-few a.n a.lower a.upper a.r a.c a.lower-starts a.lower-index a.lower-values a.upper-starts a.upper-index a.upper-values a.d _ c.lengths_fit.ensures (ap not c.if-not-lengths_fit.false) in
+    let few = slots-few a.n a.lower a.upper a.r a.c a.lower_starts a.lower_index a.lower_values a.upper_starts a.upper_index a.upper_values a.d _ c.lengths_fit.ensures (ap not c.if-not-lengths_fit.false) in
     (range-of _ _ c.rows_within.ensures (ap not c.if-not-rows_within.false), few.0, few.1)
 
 pub returns-then-not-file_fits : goal.returns-then-not-file_fits

@@ -1,6 +1,5 @@
 use native.Mathlib.Omega.{arith}
 use Rattle.factor_writing.proofs.WriteLaws.{laid-head, none-laid}
-use borrow.Author.Rules.{rules}
 use Rattle.factor_writing.proofs.lay_head.Goals as goal
 
 pub returns : goal.returns

@@ -1,10 +1,9 @@
 use native.Mathlib.Omega.{arith}
 use Rattle.factor_writing.proofs.WriteLaws.{laid-lists}
 use Rattle.fields.specs.Payload.{payloads}
-use borrow.Author.Rules.{rules}
 use Rattle.factor_writing.proofs.lay_lists.Goals as goal
 
 pub returns : goal.returns
 returns c =
     let a = c.args in
-    (omega arith, laid-lists a.lower-starts.now _ _ _ (payloads a.file.now a.at) _ _ _ _ c.write_u32s-at.ensures.1 c.write_u32s-at-2.ensures.1 c.write_indices-at.ensures.1 c.write_indices.ensures.1)
+    (omega arith, laid-lists a.lower_starts.now _ _ _ (payloads a.file.now a.at) _ _ _ _ c.write_u32s-at.ensures.1 c.write_u32s-at-2.ensures.1 c.write_indices-at.ensures.1 c.write_indices.ensures.1)

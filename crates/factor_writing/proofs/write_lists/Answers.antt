@@ -1,6 +1,5 @@
 use native.Mathlib.Omega.{arith}
 use Rattle.factor_writing.proofs.WriteLaws.{lists-asked, lists-stop, lists-done}
-use borrow.Author.Rules.{rules}
 use Rattle.factor_writing.proofs.write_lists.Goals as goal
 
 pub ask_contents-asked-requires : goal.ask_contents-asked-requires

@@ -4,12 +4,7 @@ use Rattle.questions.specs.SettledLaws.{settled}
 use Rattle.stages.specs.ShapedLaws.{plain-lent, pattern-structured}
 use Rattle.stages.specs.Branches.{done-with}
 use Rattle.stages.specs.Ends.{leaves-refused, both-due, both-leaves}
-use borrow.Author.Rules.{rules}
 use Rattle.plain_form.proofs.analyze_and_solve.Goals as goal
-use Rattle.plain_form.proofs.analyze_and_solve.Goals.{After-analyze_plain-a, After-counts-counts}
-
-abbrev Earlier : After-counts-counts → After-analyze_plain-a
-Earlier s = s
 
 pub analyze_plain-a-requires : goal.analyze_plain-a-requires
 analyze_plain-a-requires c = let h = c.requires in plain-lent _ _ _ _ _ _ _ _ _ _ _ _ _ h.shaped.structure (pattern-structured _ (settled _ h.passed).structured)
@@ -19,18 +14,17 @@ returns-then-refuses c = leaves-refused Plain _ _ _ _ _ _ _ _ _ c.analyze_plain-
 
 pub factor_and_solve-fault-requires : goal.factor_and_solve-fault-requires
 factor_and_solve-fault-requires c =
-    let p = Earlier (goal.at.factor_and_solve-fault-requires c).After-counts-counts in
-    both-due Plain _ _ _ _ _ _ _ _ _ _ _ _ _ _ _ _ _ p.analyze-plain.ensures (done-with _ _ _ c.refuses.ensures c.if-refuses.false c.counts-counts.ensures) p.requires p.analyze-plain.kept.1.1.1.1.1.1.1.1.1.1.1.0 refl refl refl (λ h. h)
+    both-due Plain _ _ _ _ _ _ _ _ _ _ _ _ _ _ _ _ _ c.analyze_plain-a.ensures (done-with _ _ _ c.refuses.ensures c.if-refuses.false c.counts-counts.ensures) c.requires c.analyze_plain-a.auto.marks refl refl refl (λ h. h)
 
 pub returns : goal.returns
 returns c =
-    let p = (Earlier (goal.at.returns c).After-counts-counts).analyze-plain in
+    let p = c.analyze_plain-a in
     let q = c.factor_and_solve-fault in
-    let e = done-with _ _ _ c.refuses.ensures c.if-refuses.left c.counts-counts.ensures in
+    let e = done-with _ _ _ c.refuses.ensures c.if-refuses.false c.counts-counts.ensures in
     both-leaves Plain _ _ _ _ _ _ _ _ _ _ _ _ _ _ _ _ _ _ _ _ _ _ _ _ _ _ _ _ _ _ _ _ p.ensures e q.ensures c.answer_of.ensures
-    p.kept.1.1.1.1.1.0 refl p.kept.1.1.1.1.1.1.0 q.kept.1.1.1.1.1.1.1.1.1.1.1.0
-    p.kept.1.1.1.1.1.1.1.1.0 refl p.kept.1.1.1.1.1.1.1.1.1.0 q.kept.1.1.1.1.1.1.1.1.1.1.1.1.1.1.1.0
-    q.kept.1.1.1.1.1.1.1.1.1.1.1.1.1.1.1.1.1.1.0 (q.kept.1.1.1.1.1.1.1.1.1.1.1.1.1.1.1.1.1.1.1.0 ∙ p.kept.1.1.1.1.1.1.1.1.1.1.1.0) (λ h. refl) (λ h. refl)
+    p.auto.lower_starts refl p.auto.lower_index q.auto.lower_values
+    p.auto.upper_starts refl p.auto.upper_index q.auto.upper_values
+    q.auto.work (q.auto.marks ∙ p.auto.marks) (λ h. refl) (λ h. refl)
 
 pub shape_of-lower_starts-then-refuses : goal.shape_of-lower_starts-then-refuses
 shape_of-lower_starts-then-refuses c = c.analyze_plain-a.auto.lower_starts
@@ -48,19 +42,19 @@ pub shape_of-marks-then-refuses : goal.shape_of-marks-then-refuses
 shape_of-marks-then-refuses c = c.analyze_plain-a.auto.marks
 
 pub shape_of-lower_starts : goal.shape_of-lower_starts
-shape_of-lower_starts c = (Earlier (c)).analyze-plain.auto.1.1.1.1.1.0
+shape_of-lower_starts c = c.analyze_plain-a.auto.lower_starts
 
 pub shape_of-lower_index : goal.shape_of-lower_index
-shape_of-lower_index c = (Earlier (c)).analyze-plain.auto.1.1.1.1.1.1.0
+shape_of-lower_index c = c.analyze_plain-a.auto.lower_index
 
 pub shape_of-lower_values : goal.shape_of-lower_values
 shape_of-lower_values c = c.factor_and_solve-fault.auto.lower_values
 
 pub shape_of-upper_starts : goal.shape_of-upper_starts
-shape_of-upper_starts c = (Earlier (c)).analyze-plain.auto.1.1.1.1.1.1.1.1.0
+shape_of-upper_starts c = c.analyze_plain-a.auto.upper_starts
 
 pub shape_of-upper_index : goal.shape_of-upper_index
-shape_of-upper_index c = (Earlier (c)).analyze-plain.auto.1.1.1.1.1.1.1.1.1.0
+shape_of-upper_index c = c.analyze_plain-a.auto.upper_index
 
 pub shape_of-upper_values : goal.shape_of-upper_values
 shape_of-upper_values c = c.factor_and_solve-fault.auto.upper_values
@@ -75,4 +69,4 @@ pub shape_of-work : goal.shape_of-work
 shape_of-work c = c.factor_and_solve-fault.auto.work
 
 pub shape_of-marks : goal.shape_of-marks
-shape_of-marks c = c.factor_and_solve-fault.auto.marks ∙ (Earlier (c)).analyze-plain.auto.1.1.1.1.1.1.1.1.1.1.1.0
+shape_of-marks c = c.factor_and_solve-fault.auto.marks ∙ c.analyze_plain-a.auto.marks

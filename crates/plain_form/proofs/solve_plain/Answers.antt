@@ -4,7 +4,6 @@ use Rattle.stages.specs.ShapedLaws.{due-again}
 use Rattle.stages.specs.Branches.{pass_of}
 use Rattle.stages.specs.Asking.{solve-stops}
 use Rattle.stages.specs.Ends.{none-if, solve-ends}
-use borrow.Author.Rules.{rules}
 use Rattle.plain_form.proofs.solve_plain.Goals as goal
 
 pub returns-then-stops : goal.returns-then-stops
@@ -14,18 +13,18 @@ returns-then-stops c =
 pub analyze_and_solve-a-requires : goal.analyze_and_solve-a-requires
 analyze_and_solve-a-requires c =
     let p = c.ask_solve-asked in
-    due-again Plain _ _ _ _ _ _ _ _ _ p.kept.1.1.1.1.1.1.1.1.1.1.0 p.kept.1.1.1.1.1.1.1.1.1.1.1.0 (p.ensures.due (pass_of _ (sym c.stops.ensures ∙ c.if-stops.false)))
+    due-again Plain _ _ _ _ _ _ _ _ _ p.auto.work p.auto.marks (p.ensures.due (pass_of _ (sym c.stops.ensures ∙ c.if-stops.false)))
 
 pub returns : goal.returns
 returns c =
     let p = c.analyze_and_solve-a in
     let a = c.ask_solve-asked in
     let n = c.clear_numbers_if.ensures in
-    solve-ends Plain _ _ _ _ _ _ _ _ _ _ _ _ _ _ _ _ _ _ _ _ _ _ _ a.ensures (pass_of _ (sym c.stops.ensures ∙ c.if-stops.left)) p.ensures c.refuses-refused.ensures
-    a.kept.1.1.1.1.1.1.1.1.1.1.0 a.kept.1.1.1.1.1.1.1.1.1.1.1.0
-    (record { starts = p.kept.1.1.1.1.1.1.1.1.0; runs = refl; index = p.kept.1.1.1.1.1.1.1.1.1.0; values = p.kept.1.1.1.1.1.1.1.1.1.1.0 })
-    (record { starts = p.kept.1.1.1.1.1.1.1.1.1.1.1.0; runs = refl; index = p.kept.1.1.1.1.1.1.1.1.1.1.1.1.0; values = p.kept.1.1.1.1.1.1.1.1.1.1.1.1.1.0 })
-    p.kept.1.1.1.1.1.1.1.1.1.1.1.1.1.1.0 p.kept.1.1.1.1.1.1.1.1.1.1.1.1.1.1.1.1.0 p.kept.1.1.1.1.1.1.1.1.1.1.1.1.1.1.1.1.1.0
+    solve-ends Plain _ _ _ _ _ _ _ _ _ _ _ _ _ _ _ _ _ _ _ _ _ _ _ a.ensures (pass_of _ (sym c.stops.ensures ∙ c.if-stops.false)) p.ensures c.refuses-refused.ensures
+    a.auto.work a.auto.marks
+    (record { starts = p.auto.lower_starts; runs = refl; index = p.auto.lower_index; values = p.auto.lower_values })
+    (record { starts = p.auto.upper_starts; runs = refl; index = p.auto.upper_index; values = p.auto.upper_values })
+    p.auto.d p.auto.work p.auto.marks
     (record { starts = c.clear_lists_if.ensures.0; runs = none-if c.refuses-refused.result 0; index = c.clear_lists_if.ensures.1; values = n.0 })
     (record { starts = c.clear_lists_if-2.ensures.0; runs = none-if c.refuses-refused.result 0; index = c.clear_lists_if-2.ensures.1; values = n.1 })
     n.2 c.clear_scratch.ensures
@@ -61,7 +60,7 @@ pub shape_of-x : goal.shape_of-x
 shape_of-x c = c.analyze_and_solve-a.auto.x
 
 pub shape_of-work : goal.shape_of-work
-shape_of-work c = c.clear_scratch.auto.work ∙ c.analyze_and_solve-a.auto.work ∙ (c).ask-solve.auto.1.1.1.1.1.1.1.1.1.1.0
+shape_of-work c = c.clear_scratch.auto.work ∙ c.analyze_and_solve-a.auto.work ∙ c.ask_solve-asked.auto.work
 
 pub shape_of-marks : goal.shape_of-marks
-shape_of-marks c = c.clear_scratch.auto.marks ∙ c.analyze_and_solve-a.auto.marks ∙ (c).ask-solve.auto.1.1.1.1.1.1.1.1.1.1.1.0
+shape_of-marks c = c.clear_scratch.auto.marks ∙ c.analyze_and_solve-a.auto.marks ∙ c.ask_solve-asked.auto.marks

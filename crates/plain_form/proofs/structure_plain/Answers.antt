@@ -7,16 +7,15 @@ use Rattle.stages.specs.ShapedLaws.{shaped-again, plain-lent}
 use Rattle.stages.specs.Branches.{pass_of}
 use Rattle.stages.specs.Asking.{structure-stops}
 use Rattle.stages.specs.Ends.{none-if, structure-ends}
-use borrow.Author.Rules.{rules}
 use Rattle.plain_form.proofs.structure_plain.Goals as goal
 use Rattle.plain_form.proofs.structure_plain.Goals.{After-analyze_plain-a}
 
 -- the sides as the pass leaves them
 abbrev lower : After-analyze_plain-a → SideBuffers
-lower s = side_buffers s.analyze_plain-a.new.lower_starts [] s.analyze_plain-a.new.lower_index s.args.lower-values.now
+lower s = side_buffers s.analyze_plain-a.new.lower_starts [] s.analyze_plain-a.new.lower_index s.args.lower_values.now
 
 abbrev upper : After-analyze_plain-a → SideBuffers
-upper s = side_buffers s.analyze_plain-a.new.upper_starts [] s.analyze_plain-a.new.upper_index s.args.upper-values.now
+upper s = side_buffers s.analyze_plain-a.new.upper_starts [] s.analyze_plain-a.new.upper_index s.args.upper_values.now
 
 pub returns-then-stops : goal.returns-then-stops
 returns-then-stops c =
@@ -26,16 +25,16 @@ pub analyze_plain-a-requires : goal.analyze_plain-a-requires
 analyze_plain-a-requires c =
     let p = c.ask_structure-asked in
     let q = p.ensures.due (pass_of _ (sym c.stops.ensures ∙ c.if-stops.false)) in
-    plain-lent _ _ _ _ _ _ _ _ _ _ _ _ _ (shaped-again Plain _ _ _ _ _ _ _ _ p.kept.1.1.1.1.1.1.1.1.0 q.shaped) (structured _ q.passed)
+    plain-lent _ _ _ _ _ _ _ _ _ _ _ _ _ (shaped-again Plain _ _ _ _ _ _ _ _ p.auto.marks q.shaped) (structured _ q.passed)
 
 pub returns : goal.returns
 returns c =
     let p = c.analyze_plain-a in
     let a = c.ask_structure-asked in
-    structure-ends Plain _ _ _ (lower (goal.at.returns c).After-analyze_plain-a) (upper (goal.at.returns c).After-analyze_plain-a) _ _ _ _ _ _ _ _ _ _ _ _ _ _ a.ensures (pass_of _ (sym c.stops.ensures ∙ c.if-stops.left)) p.ensures c.refuses-refused.ensures (λ h. refl) (λ h. refl)
-    (record { starts = p.kept.1.1.1.1.1.0; runs = refl; index = p.kept.1.1.1.1.1.1.0; values = refl })
-    (record { starts = p.kept.1.1.1.1.1.1.1.1.0; runs = refl; index = p.kept.1.1.1.1.1.1.1.1.1.0; values = refl })
-    a.kept.1.1.1.1.1.1.1.0 (p.kept.1.1.1.1.1.1.1.1.1.1.1.0 ∙ a.kept.1.1.1.1.1.1.1.1.0)
+    structure-ends Plain _ _ _ (lower (goal.at.returns c).After-analyze_plain-a) (upper (goal.at.returns c).After-analyze_plain-a) _ _ _ _ _ _ _ _ _ _ _ _ _ _ a.ensures (pass_of _ (sym c.stops.ensures ∙ c.if-stops.false)) p.ensures c.refuses-refused.ensures (λ h. refl) (λ h. refl)
+    (record { starts = p.auto.lower_starts; runs = refl; index = p.auto.lower_index; values = refl })
+    (record { starts = p.auto.upper_starts; runs = refl; index = p.auto.upper_index; values = refl })
+    a.auto.work (p.auto.marks ∙ a.auto.marks)
     (record { starts = c.clear_lists_if.ensures.0; runs = none-if c.refuses-refused.result 0; index = c.clear_lists_if.ensures.1; values = c.clear_f64.ensures })
     (record { starts = c.clear_lists_if-2.ensures.0; runs = none-if c.refuses-refused.result 0; index = c.clear_lists_if-2.ensures.1; values = c.clear_f64-2.ensures })
     c.clear_scratch.ensures
@@ -65,7 +64,7 @@ pub shape_of-upper_values : goal.shape_of-upper_values
 shape_of-upper_values c = c.clear_f64-2.auto.s
 
 pub shape_of-work : goal.shape_of-work
-shape_of-work c = c.clear_scratch.auto.work ∙ (c).ask-structure.auto.1.1.1.1.1.1.1.0
+shape_of-work c = c.clear_scratch.auto.work ∙ c.ask_structure-asked.auto.work
 
 pub shape_of-marks : goal.shape_of-marks
-shape_of-marks c = c.clear_scratch.auto.marks ∙ c.analyze_plain-a.auto.marks ∙ (c).ask-structure.auto.1.1.1.1.1.1.1.1.0
+shape_of-marks c = c.clear_scratch.auto.marks ∙ c.analyze_plain-a.auto.marks ∙ c.ask_structure-asked.auto.marks

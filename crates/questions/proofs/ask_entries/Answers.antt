@@ -8,7 +8,7 @@ use Rattle.matrix.specs.Questions.{empty_row, ask7}
 use Prim.Native.Nat.{◌-◌, ◌≤◌}
 use Rattle.base.specs.First.{first}
 use Rattle.base.specs.declared.Found.TheVariants.{Nothing}
-use Rattle.matrix.specs.OrderLaws.{order_below}
+use Rattle.matrix.proofs.OrderLaws.{order_below}
 use borrow.Author.Rules.{rules}
 use native.Mathlib.Omega.{arith}
 use Rattle.questions.proofs.ask_entries.Goals as goal

@@ -1,5 +1,5 @@
 use Prim.Native.Nat.{ℕ, ◌-◌, ◌<◌}
-use Rattle.matrix.specs.OrderLaws.{order_below}
+use Rattle.matrix.proofs.OrderLaws.{order_below}
 use Rattle.questions.specs.Lent.{inverted}
 use Rattle.questions.specs.ScatterLaws.{Scattered, scattered-none, scattered-more, scattered-end}
 use mathlib.Core.Path.{refl}

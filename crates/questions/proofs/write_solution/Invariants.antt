@@ -3,7 +3,7 @@ use lib.ListN.{get_or}
 use lib.Ieee.{nan}
 use mathlib.Core.Path.{refl}
 use Rattle.matrix.specs.Input.{own_order}
-use Rattle.matrix.specs.OrderLaws.{order_below}
+use Rattle.matrix.proofs.OrderLaws.{order_below}
 use Rattle.questions.specs.ScatterLaws.{Scattered, scattered-none, scattered-more, scattered-end, scattered-all}
 use borrow.Author.Rules.{rules}
 use native.Mathlib.Omega.{arith}

@@ -6,7 +6,7 @@ use Rattle.refactor.proofs.refactor_in.Goals as goal
 
 pub returns-then-stops : goal.returns-then-stops
 returns-then-stops c =
-    refactor-stops (c).args.way _ _ _ _ _ _ _ _ _ _ _ _ _ _ _ _ c.ask-asked.ensures _ (sym c.stops.ensures ∙ c.if-stops.true) c.end_of.ensures
+    refactor-stops c.args.way _ _ _ _ _ _ _ _ _ _ _ _ _ _ _ _ c.ask-asked.ensures _ (sym c.stops.ensures ∙ c.if-stops.true) c.end_of.ensures
 
 pub factor_and_solve-fault-requires : goal.factor_and_solve-fault-requires
 factor_and_solve-fault-requires c =
@@ -16,8 +16,8 @@ pub returns : goal.returns
 returns c =
     let q = c.factor_and_solve-fault in
     let n = c.clear_numbers_if.ensures in
-    refactor-ends c.args.way _ _ _ _ _ _ _ _ _ _ _ _ _ _ _ _ c.ask-asked.ensures _ _ _ _ _ _ _ _ _ _ _ _ _ _ _ (pass_of _ (sym c.stops.ensures ∙ c.if-stops.left)) c.form_of-form.ensures q.ensures c.stops-refused.ensures c.end_of-2.ensures
-    q.kept.1.1.1.1.1.1.1.1.1.1.1.0 q.kept.1.1.1.1.1.1.1.1.1.1.1.1.1.1.1.0 q.kept.1.1.1.1.1.1.1.1.1.1.1.1.1.1.1.1.0 (q.kept.1.1.1.1.1.1.1.1.1.1.1.1.1.1.1.1.1.1.0 ∙ c.ask-asked.auto.work) (q.kept.1.1.1.1.1.1.1.1.1.1.1.1.1.1.1.1.1.1.1.0 ∙ c.ask-asked.auto.marks)
+    refactor-ends c.args.way _ _ _ _ _ _ _ _ _ _ _ _ _ _ _ _ c.ask-asked.ensures _ _ _ _ _ _ _ _ _ _ _ _ _ _ _ (pass_of _ (sym c.stops.ensures ∙ c.if-stops.false)) c.form_of-form.ensures q.ensures c.stops-refused.ensures c.end_of-2.ensures
+    q.auto.lower_values q.auto.upper_values q.auto.d (q.auto.work ∙ c.ask-asked.auto.work) (q.auto.marks ∙ c.ask-asked.auto.marks)
     n.0 n.1 n.2 c.clear_scratch.ensures
 
 pub ask-asked-requires : goal.ask-asked-requires
@@ -54,7 +54,7 @@ pub shape_of-x : goal.shape_of-x
 shape_of-x c = c.factor_and_solve-fault.auto.x
 
 pub shape_of-work : goal.shape_of-work
-shape_of-work c = c.clear_scratch.auto.work ∙ c.factor_and_solve-fault.auto.work ∙ (c).ask.auto.1.1.1.1.1.1.1.1.1.1.1.1.1.1.1.1.1.1.1.0
+shape_of-work c = c.clear_scratch.auto.work ∙ c.factor_and_solve-fault.auto.work ∙ c.ask-asked.auto.work
 
 pub shape_of-marks : goal.shape_of-marks
-shape_of-marks c = c.clear_scratch.auto.marks ∙ c.factor_and_solve-fault.auto.marks ∙ (c).ask.auto.1.1.1.1.1.1.1.1.1.1.1.1.1.1.1.1.1.1.1.1.0
+shape_of-marks c = c.clear_scratch.auto.marks ∙ c.factor_and_solve-fault.auto.marks ∙ c.ask-asked.auto.marks

@@ -1,9 +1,10 @@
 use Rattle.report.proofs.Laws.{span-rises, span-put, span-told}
-use borrow.Author.Rules.{rules}
 use Rattle.report.proofs.list_shared.Goals as goal
 
 pub put_span-requires : goal.put_span-requires
 put_span-requires c = span-rises _ _ _ _ _ _ _ c.span_shared-s.ensures
 
 pub returns : goal.returns
-returns c = span-put _ _ _ _ _ (span-told _ _ _ _ _ _ _ _ _ c.side_of.ensures c.place_of.ensures c.span_shared-s.ensures) c.put_span.ensures
+returns c =
+    let p = span-put _ _ _ _ _ (span-told _ _ _ _ _ _ _ _ _ c.side_of.ensures c.place_of.ensures c.span_shared-s.ensures) (c.put_span.ensures.value, c.put_span.ensures.report_after) in
+    record { value = p.0; report_after = p.1 }

@@ -1,5 +1,4 @@
 use Rattle.report.proofs.Laws.{place-below, place-beyond}
-use borrow.Author.Rules.{rules}
 use Rattle.report.proofs.place_of.Goals as goal
 
 pub returns-then-place-lt-MAX_ROWS : goal.returns-then-place-lt-MAX_ROWS

@@ -1,5 +1,4 @@
 use Rattle.report.proofs.Laws.{answer-put}
-use borrow.Author.Rules.{rules}
 use Rattle.report.proofs.put_answer.Goals as goal
 
 pub returns : goal.returns

@@ -1,5 +1,4 @@
 use Rattle.report.proofs.Laws.{checked-put}
-use borrow.Author.Rules.{rules}
 use Rattle.report.proofs.put_checked.Goals as goal
 
 pub returns : goal.returns

@@ -1,5 +1,4 @@
 use Rattle.report.proofs.Laws.{end-put}
-use borrow.Author.Rules.{rules}
 use Rattle.report.proofs.put_end.Goals as goal
 
 pub returns : goal.returns

@@ -1,5 +1,4 @@
 use Rattle.report.proofs.Laws.{kept_put}
-use borrow.Author.Rules.{rules}
 use Rattle.report.proofs.put_kept.Goals as goal
 
 pub returns : goal.returns

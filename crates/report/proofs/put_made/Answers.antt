@@ -1,5 +1,4 @@
 use Rattle.report.proofs.Laws.{made-put}
-use borrow.Author.Rules.{rules}
 use Rattle.report.proofs.put_made.Goals as goal
 
 pub returns : goal.returns

@@ -1,6 +1,5 @@
 use mathlib.Core.Path.{sym}
 use lib.Seq.{set_out}
-use borrow.Author.Rules.{rules}
 use Rattle.report.proofs.put_number.Goals as goal
 
 pub returns-else-at-pair : goal.returns-else-at-pair

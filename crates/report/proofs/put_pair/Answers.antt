@@ -1,5 +1,4 @@
 use Rattle.report.proofs.Laws.{pair_put}
-use borrow.Author.Rules.{rules}
 use Rattle.report.proofs.put_pair.Goals as goal
 
 pub returns-in-Pair : goal.returns-in-Pair

@@ -1,6 +1,5 @@
 use mathlib.Core.Path.{refl}
 use Rattle.report.specs.Report.{span_slots}
-use borrow.Author.Rules.{rules}
 use Rattle.report.proofs.put_span.Goals as goal
 
 pub returns : goal.returns

@@ -1,5 +1,4 @@
 use Rattle.report.proofs.Laws.{row_told}
-use borrow.Author.Rules.{rules}
 use Rattle.report.proofs.residual.Goals as goal
 
 pub returns : goal.returns

@@ -1,5 +1,4 @@
 use Rattle.report.proofs.Laws.{reported}
-use borrow.Author.Rules.{rules}
 use Rattle.report.proofs.test_load.Goals as goal
 
 pub returns : goal.returns

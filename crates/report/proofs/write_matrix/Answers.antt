@@ -1,5 +1,4 @@
 use Rattle.report.proofs.Laws.{reported}
-use borrow.Author.Rules.{rules}
 use Rattle.report.proofs.write_matrix.Goals as goal
 
 pub returns : goal.returns

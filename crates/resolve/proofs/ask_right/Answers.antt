@@ -22,10 +22,10 @@ ask_right-a-requires c =
 pub returns-then-stops-2 : goal.returns-then-stops-2
 returns-then-stops-2 c =
     let e = c.clear_scratch.ensures in
-    asking-on _ _ _ _ _ _ _ _ _ c.ask_shape-shape.ensures (sym c.stops.ensures ∙ c.if-stops.left) c.ask_right-a.ensures
+    asking-on _ _ _ _ _ _ _ _ _ c.ask_shape-shape.ensures (sym c.stops.ensures ∙ c.if-stops.false) c.ask_right-a.ensures
     (λ h. (e.0, blank_of 0 _ _ _ c.ask_right-a.auto.marks e.1)) (again-due c.args.form (given (goal.at.returns-then-stops-2 c).Start) c.args.sizes)
 
 pub returns : goal.returns
 returns c =
-    asking-on _ _ _ _ _ _ _ _ _ c.ask_shape-shape.ensures (sym c.stops.ensures ∙ c.if-stops.left) c.ask_right-a.ensures
+    asking-on _ _ _ _ _ _ _ _ _ c.ask_shape-shape.ensures (sym c.stops.ensures ∙ c.if-stops.false) c.ask_right-a.ensures
     (λ h. never _ (sym c.stops-2.ensures ∙ c.if-stops-2.false) h) (again-due c.args.form (given (goal.at.returns c).Start) c.args.sizes)

@@ -11,7 +11,7 @@ abbrev given : Start → Input
 given s = let a = s.args in input_of a.n [] [] [] a.r.now a.c.now a.b.now
 
 few : (c : Then-rows_within) → c.args.n ≤ max_rows
-few c = few-of c.args.form (given (goal.at.few c).Start) c.args.sizes _ c.rows_within.ensures c.if-rows_within.true
+few c = few-of c.args.form (let a = c.args in input_of a.n [] [] [] a.r.now a.c.now a.b.now) c.args.sizes _ c.rows_within.ensures c.if-rows_within.true
 
 pub returns-then-right-lists : goal.returns-then-right-lists
 returns-then-right-lists c =

@@ -13,10 +13,10 @@ abbrev given : Start → Input
 given s = let a = s.args in input_of a.n [] [] [] a.r.now a.c.now a.b.now
 
 abbrev lower : Start → SideBuffers
-lower s = let a = s.args in side_buffers a.lower-starts.now [] a.lower-index.now a.lower-values.now
+lower s = let a = s.args in side_buffers a.lower_starts.now [] a.lower_index.now a.lower_values.now
 
 abbrev upper : Start → SideBuffers
-upper s = let a = s.args in side_buffers a.upper-starts.now [] a.upper-index.now a.upper-values.now
+upper s = let a = s.args in side_buffers a.upper_starts.now [] a.upper_index.now a.upper_values.now
 
 pub returns-then-stops : goal.returns-then-stops
 returns-then-stops c =
@@ -29,7 +29,7 @@ pub solve_again-a-requires : goal.solve_again-a-requires
 solve_again-a-requires c =
     let a = c.args in
     let g = asking-of Plain (given (goal.at.solve_again-a-requires c).Start) _ _ _ _ _ _ _ _ _ _ _ _ _ c.side_sizes-lower.ensures c.side_sizes-upper.ensures c.ask_right-asked.ensures in
-    plain_ready (given (goal.at.solve_again-a-requires c).Start) a.lower-starts.now a.upper-starts.now _ _ _ _ _ _ _ _ _ _ (g.due (pass_of _ (sym c.stops.ensures ∙ c.if-stops.false))) _ c.ask_right-asked.auto.work
+    plain_ready (given (goal.at.solve_again-a-requires c).Start) a.lower_starts.now a.upper_starts.now _ _ _ _ _ _ _ _ _ _ (g.due (pass_of _ (sym c.stops.ensures ∙ c.if-stops.false))) _ c.ask_right-asked.auto.work
 
 pub returns : goal.returns
 returns c =
@@ -37,5 +37,5 @@ returns c =
     let g = asking-of Plain (given (goal.at.returns c).Start) _ _ _ _ _ _ _ _ _ _ _ _ _ c.side_sizes-lower.ensures c.side_sizes-upper.ensures c.ask_right-asked.ensures in
     resolve-ends Plain (given (goal.at.returns c).Start) (lower (goal.at.returns c).Start) (upper (goal.at.returns c).Start) a.d.now a.x.now a.work.now _ a.marks.now _ c.ask_right-asked.result g (sym c.stops.ensures ∙ c.if-stops.false)
     c.solve_again-a.result _ _ _ _ _ (c.solve_again-a.auto.work ∙ c.ask_right-asked.auto.work) c.ask_right-asked.auto.marks c.clear_scratch.ensures
-    (plain-again (given (goal.at.returns c).Start) a.lower-starts.now a.lower-index.now a.lower-values.now a.upper-starts.now a.upper-index.now a.upper-values.now a.d.now a.x.now _ _
+    (plain-again (given (goal.at.returns c).Start) a.lower_starts.now a.lower_index.now a.lower_values.now a.upper_starts.now a.upper_index.now a.upper_values.now a.d.now a.x.now _ _
     c.solve_again-a.ensures) _ c.end_of-2.ensures

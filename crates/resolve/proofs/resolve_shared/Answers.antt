@@ -13,10 +13,10 @@ abbrev given : Start → Input
 given s = let a = s.args in input_of a.n [] [] [] a.r.now a.c.now a.b.now
 
 abbrev lower : Start → SideBuffers
-lower s = let a = s.args in side_buffers a.lower-starts.now a.lower-runs.now a.lower-index.now a.lower-values.now
+lower s = let a = s.args in side_buffers a.lower_starts.now a.lower_runs.now a.lower_index.now a.lower_values.now
 
 abbrev upper : Start → SideBuffers
-upper s = let a = s.args in side_buffers a.upper-starts.now a.upper-runs.now a.upper-index.now a.upper-values.now
+upper s = let a = s.args in side_buffers a.upper_starts.now a.upper_runs.now a.upper_index.now a.upper_values.now
 
 pub returns-then-stops : goal.returns-then-stops
 returns-then-stops c =
@@ -29,7 +29,7 @@ pub solve_again-a-requires : goal.solve_again-a-requires
 solve_again-a-requires c =
     let a = c.args in
     let g = asking-of Shared (given (goal.at.solve_again-a-requires c).Start) _ _ _ _ _ _ _ _ _ _ _ _ _ c.side_sizes-lower.ensures c.side_sizes-upper.ensures c.ask_right-asked.ensures in
-    shared-ready (given (goal.at.solve_again-a-requires c).Start) a.lower-starts.now a.lower-runs.now a.upper-starts.now a.upper-runs.now _ _ _ _ _ _ _ _ (g.due (pass_of _ (sym c.stops.ensures ∙ c.if-stops.false))) _ c.ask_right-asked.auto.work
+    shared-ready (given (goal.at.solve_again-a-requires c).Start) a.lower_starts.now a.lower_runs.now a.upper_starts.now a.upper_runs.now _ _ _ _ _ _ _ _ (g.due (pass_of _ (sym c.stops.ensures ∙ c.if-stops.false))) _ c.ask_right-asked.auto.work
 
 pub returns : goal.returns
 returns c =

@@ -6,10 +6,6 @@ use Rattle.stages.specs.Branches.{done-with}
 use Rattle.stages.specs.Ends.{leaves-refused, row-due, row-leaves}
 use borrow.Author.Rules.{rules}
 use Rattle.row_form.proofs.analyze_and_solve.Goals as goal
-use Rattle.row_form.proofs.analyze_and_solve.Goals.{After-analyze_by_row-a, After-counts-counts}
-
-abbrev Earlier : After-counts-counts → After-analyze_by_row-a
-Earlier s = s
 
 pub analyze_by_row-a-requires : goal.analyze_by_row-a-requires
 analyze_by_row-a-requires c = let h = c.requires in row-lent _ _ _ _ _ _ _ _ _ _ h.shaped.structure (pattern-structured _ (settled _ h.passed).structured)
@@ -19,13 +15,12 @@ returns-then-refuses c = leaves-refused ByRow _ _ _ _ _ _ _ _ _ c.analyze_by_row
 
 pub factor_and_solve-fault-requires : goal.factor_and_solve-fault-requires
 factor_and_solve-fault-requires c =
-    let p = Earlier (goal.at.factor_and_solve-fault-requires c).After-counts-counts in
-    row-due _ _ _ _ _ _ _ _ _ _ _ _ _ _ _ _ p.analyze-by-row.ensures (done-with _ _ _ c.refuses.ensures c.if-refuses.false c.counts-counts.ensures) p.requires p.analyze-by-row.kept.1.1.1.1.1.1.1.1.1.0 refl refl refl refl
+    row-due _ _ _ _ _ _ _ _ _ _ _ _ _ _ _ _ c.analyze_by_row-a.ensures (done-with _ _ _ c.refuses.ensures c.if-refuses.false c.counts-counts.ensures) c.requires c.analyze_by_row-a.auto.marks refl refl refl refl
 
 pub returns : goal.returns
 returns c =
     let q = c.factor_and_solve-fault in
-    row-leaves _ _ _ _ _ _ _ _ _ _ _ _ _ _ q.last.1.1.1.1.1.1.1.1.1.1.1.0 _ _ _ _ _ _ _ _ (Earlier (goal.at.returns c).After-counts-counts).analyze-by-row.ensures (done-with _ _ _ c.refuses.ensures c.if-refuses.left c.counts-counts.ensures) q.ensures c.answer_of.ensures q.kept.1.1.1.1.1.1.1.1.1.1.1.0
+    row-leaves _ _ _ _ _ _ _ _ _ _ _ _ _ _ q.new.lower_values _ _ _ _ _ _ _ _ c.analyze_by_row-a.ensures (done-with _ _ _ c.refuses.ensures c.if-refuses.false c.counts-counts.ensures) q.ensures c.answer_of.ensures q.auto.lower_values
 
 pub shape_of-upper_starts-then-refuses : goal.shape_of-upper_starts-then-refuses
 shape_of-upper_starts-then-refuses c = c.analyze_by_row-a.auto.upper_starts
@@ -40,13 +35,13 @@ pub shape_of-marks-then-refuses : goal.shape_of-marks-then-refuses
 shape_of-marks-then-refuses c = c.analyze_by_row-a.auto.marks
 
 pub shape_of-upper_starts : goal.shape_of-upper_starts
-shape_of-upper_starts c = (Earlier (c)).analyze-by-row.auto.1.1.1.1.1.0
+shape_of-upper_starts c = c.analyze_by_row-a.auto.upper_starts
 
 pub shape_of-upper_runs : goal.shape_of-upper_runs
-shape_of-upper_runs c = (Earlier (c)).analyze-by-row.auto.1.1.1.1.1.1.0
+shape_of-upper_runs c = c.analyze_by_row-a.auto.upper_runs
 
 pub shape_of-upper_index : goal.shape_of-upper_index
-shape_of-upper_index c = (Earlier (c)).analyze-by-row.auto.1.1.1.1.1.1.1.0
+shape_of-upper_index c = c.analyze_by_row-a.auto.upper_index
 
 pub shape_of-upper_values : goal.shape_of-upper_values
 shape_of-upper_values c = c.factor_and_solve-fault.auto.upper_values
@@ -61,4 +56,4 @@ pub shape_of-work : goal.shape_of-work
 shape_of-work c = c.factor_and_solve-fault.auto.work
 
 pub shape_of-marks : goal.shape_of-marks
-shape_of-marks c = c.factor_and_solve-fault.auto.marks ∙ (Earlier (c)).analyze-by-row.auto.1.1.1.1.1.1.1.1.1.0
+shape_of-marks c = c.factor_and_solve-fault.auto.marks ∙ c.analyze_by_row-a.auto.marks

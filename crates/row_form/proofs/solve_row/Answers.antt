@@ -16,17 +16,17 @@ returns-then-stops c =
 pub analyze_and_solve-a-requires : goal.analyze_and_solve-a-requires
 analyze_and_solve-a-requires c =
     let p = c.ask_solve-asked in
-    due-again ByRow _ _ _ _ _ _ _ _ _ p.kept.1.1.1.1.1.1.1.1.1.1.0 p.kept.1.1.1.1.1.1.1.1.1.1.1.0 (p.ensures.due (pass_of _ (sym c.stops.ensures ∙ c.if-stops.false)))
+    due-again ByRow _ _ _ _ _ _ _ _ _ p.auto.work p.auto.marks (p.ensures.due (pass_of _ (sym c.stops.ensures ∙ c.if-stops.false)))
 
 pub returns : goal.returns
 returns c =
     let p = c.analyze_and_solve-a in
     let a = c.ask_solve-asked in
-    solve-ends ByRow _ _ _ _ _ _ _ _ _ _ _ _ _ _ _ _ _ _ _ _ _ _ true a.ensures (pass_of _ (sym c.stops.ensures ∙ c.if-stops.left)) p.ensures refl
-    a.kept.1.1.1.1.1.1.1.1.1.1.0 a.kept.1.1.1.1.1.1.1.1.1.1.1.0
+    solve-ends ByRow _ _ _ _ _ _ _ _ _ _ _ _ _ _ _ _ _ _ _ _ _ _ true a.ensures (pass_of _ (sym c.stops.ensures ∙ c.if-stops.false)) p.ensures refl
+    a.auto.work a.auto.marks
     (record { starts = refl; runs = refl; index = refl; values = refl })
-    (record { starts = p.kept.1.1.1.1.1.1.1.1.0; runs = p.kept.1.1.1.1.1.1.1.1.1.0; index = p.kept.1.1.1.1.1.1.1.1.1.1.0; values = p.kept.1.1.1.1.1.1.1.1.1.1.1.0 })
-    p.kept.1.1.1.1.1.1.1.1.1.1.1.1.0 p.kept.1.1.1.1.1.1.1.1.1.1.1.1.1.1.0 p.kept.1.1.1.1.1.1.1.1.1.1.1.1.1.1.1.0
+    (record { starts = p.auto.upper_starts; runs = p.auto.upper_runs; index = p.auto.upper_index; values = p.auto.upper_values })
+    p.auto.d p.auto.work p.auto.marks
     (record { starts = none-if true 0; runs = none-if true 0; index = none-if true 0; values = none-if true nought })
     (record { starts = c.clear_u32.ensures; runs = c.clear_u32-2.ensures; index = c.clear_index.ensures; values = c.clear_f64.ensures })
     c.clear_f64-2.ensures c.clear_scratch.ensures
@@ -56,7 +56,7 @@ pub shape_of-x : goal.shape_of-x
 shape_of-x c = c.analyze_and_solve-a.auto.x
 
 pub shape_of-work : goal.shape_of-work
-shape_of-work c = c.clear_scratch.auto.work ∙ c.analyze_and_solve-a.auto.work ∙ (c).ask-solve.auto.1.1.1.1.1.1.1.1.1.1.0
+shape_of-work c = c.clear_scratch.auto.work ∙ c.analyze_and_solve-a.auto.work ∙ c.ask_solve-asked.auto.work
 
 pub shape_of-marks : goal.shape_of-marks
-shape_of-marks c = c.clear_scratch.auto.marks ∙ c.analyze_and_solve-a.auto.marks ∙ (c).ask-solve.auto.1.1.1.1.1.1.1.1.1.1.1.0
+shape_of-marks c = c.clear_scratch.auto.marks ∙ c.analyze_and_solve-a.auto.marks ∙ c.ask_solve-asked.auto.marks

@@ -6,10 +6,6 @@ use Rattle.stages.specs.Branches.{done-with}
 use Rattle.stages.specs.Ends.{leaves-refused, both-due, both-leaves}
 use borrow.Author.Rules.{rules}
 use Rattle.shared_form.proofs.analyze_and_solve.Goals as goal
-use Rattle.shared_form.proofs.analyze_and_solve.Goals.{After-analyze_shared-a, After-counts-counts}
-
-abbrev Earlier : After-counts-counts → After-analyze_shared-a
-Earlier s = s
 
 pub analyze_shared-a-requires : goal.analyze_shared-a-requires
 analyze_shared-a-requires c = let h = c.requires in shared-lent _ _ _ _ _ _ _ _ _ _ _ _ _ h.shaped.structure (pattern-structured _ (settled _ h.passed).structured)
@@ -19,18 +15,17 @@ returns-then-refuses c = leaves-refused Shared _ _ _ _ _ _ _ _ _ c.analyze_share
 
 pub factor_and_solve-fault-requires : goal.factor_and_solve-fault-requires
 factor_and_solve-fault-requires c =
-    let p = Earlier (goal.at.factor_and_solve-fault-requires c).After-counts-counts in
-    both-due Shared _ _ _ _ _ _ _ _ _ _ _ _ _ _ _ _ _ p.analyze-shared.ensures (done-with _ _ _ c.refuses.ensures c.if-refuses.false c.counts-counts.ensures) p.requires p.analyze-shared.kept.1.1.1.1.1.1.1.1.1.1.1.1.1.0 refl refl refl (starts-of _ _ _ _ _)
+    both-due Shared _ _ _ _ _ _ _ _ _ _ _ _ _ _ _ _ _ c.analyze_shared-a.ensures (done-with _ _ _ c.refuses.ensures c.if-refuses.false c.counts-counts.ensures) c.requires c.analyze_shared-a.auto.marks refl refl refl (starts-of _ _ _ _ _)
 
 pub returns : goal.returns
 returns c =
-    let p = (Earlier (goal.at.returns c).After-counts-counts).analyze-shared in
+    let p = c.analyze_shared-a in
     let q = c.factor_and_solve-fault in
-    let e = done-with _ _ _ c.refuses.ensures c.if-refuses.left c.counts-counts.ensures in
+    let e = done-with _ _ _ c.refuses.ensures c.if-refuses.false c.counts-counts.ensures in
     both-leaves Shared _ _ _ _ _ _ _ _ _ _ _ _ _ _ _ _ _ _ _ _ _ _ _ _ _ _ _ _ _ _ _ _ p.ensures e q.ensures c.answer_of.ensures
-    p.kept.1.1.1.1.1.0 p.kept.1.1.1.1.1.1.0 p.kept.1.1.1.1.1.1.1.0 q.kept.1.1.1.1.1.1.1.1.1.1.1.0
-    p.kept.1.1.1.1.1.1.1.1.1.0 p.kept.1.1.1.1.1.1.1.1.1.1.0 p.kept.1.1.1.1.1.1.1.1.1.1.1.0 q.kept.1.1.1.1.1.1.1.1.1.1.1.1.1.1.1.0
-    q.kept.1.1.1.1.1.1.1.1.1.1.1.1.1.1.1.1.1.1.0 (q.kept.1.1.1.1.1.1.1.1.1.1.1.1.1.1.1.1.1.1.1.0 ∙ p.kept.1.1.1.1.1.1.1.1.1.1.1.1.1.0) (λ h. h) (λ h. h)
+    p.auto.lower_starts p.auto.lower_runs p.auto.lower_index q.auto.lower_values
+    p.auto.upper_starts p.auto.upper_runs p.auto.upper_index q.auto.upper_values
+    q.auto.work (q.auto.marks ∙ p.auto.marks) (λ h. h) (λ h. h)
 
 pub shape_of-lower_starts-then-refuses : goal.shape_of-lower_starts-then-refuses
 shape_of-lower_starts-then-refuses c = c.analyze_shared-a.auto.lower_starts
@@ -54,25 +49,25 @@ pub shape_of-marks-then-refuses : goal.shape_of-marks-then-refuses
 shape_of-marks-then-refuses c = c.analyze_shared-a.auto.marks
 
 pub shape_of-lower_starts : goal.shape_of-lower_starts
-shape_of-lower_starts c = (Earlier (c)).analyze-shared.auto.1.1.1.1.1.0
+shape_of-lower_starts c = c.analyze_shared-a.auto.lower_starts
 
 pub shape_of-lower_runs : goal.shape_of-lower_runs
-shape_of-lower_runs c = (Earlier (c)).analyze-shared.auto.1.1.1.1.1.1.0
+shape_of-lower_runs c = c.analyze_shared-a.auto.lower_runs
 
 pub shape_of-lower_index : goal.shape_of-lower_index
-shape_of-lower_index c = (Earlier (c)).analyze-shared.auto.1.1.1.1.1.1.1.0
+shape_of-lower_index c = c.analyze_shared-a.auto.lower_index
 
 pub shape_of-lower_values : goal.shape_of-lower_values
 shape_of-lower_values c = c.factor_and_solve-fault.auto.lower_values
 
 pub shape_of-upper_starts : goal.shape_of-upper_starts
-shape_of-upper_starts c = (Earlier (c)).analyze-shared.auto.1.1.1.1.1.1.1.1.1.0
+shape_of-upper_starts c = c.analyze_shared-a.auto.upper_starts
 
 pub shape_of-upper_runs : goal.shape_of-upper_runs
-shape_of-upper_runs c = (Earlier (c)).analyze-shared.auto.1.1.1.1.1.1.1.1.1.1.0
+shape_of-upper_runs c = c.analyze_shared-a.auto.upper_runs
 
 pub shape_of-upper_index : goal.shape_of-upper_index
-shape_of-upper_index c = (Earlier (c)).analyze-shared.auto.1.1.1.1.1.1.1.1.1.1.1.0
+shape_of-upper_index c = c.analyze_shared-a.auto.upper_index
 
 pub shape_of-upper_values : goal.shape_of-upper_values
 shape_of-upper_values c = c.factor_and_solve-fault.auto.upper_values
@@ -87,4 +82,4 @@ pub shape_of-work : goal.shape_of-work
 shape_of-work c = c.factor_and_solve-fault.auto.work
 
 pub shape_of-marks : goal.shape_of-marks
-shape_of-marks c = c.factor_and_solve-fault.auto.marks ∙ (Earlier (c)).analyze-shared.auto.1.1.1.1.1.1.1.1.1.1.1.1.1.0
+shape_of-marks c = c.factor_and_solve-fault.auto.marks ∙ c.analyze_shared-a.auto.marks

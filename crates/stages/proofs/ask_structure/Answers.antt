@@ -5,7 +5,6 @@ use Rattle.stages.specs.Branches.{never, pass_of}
 use Rattle.stages.specs.ShapedLaws.{structure-shaped, lent_of}
 use Rattle.stages.specs.Ends.{blank_of}
 use Rattle.stages.specs.Asking.{asking-stop, asking-on, structure-due}
-use borrow.Author.Rules.{rules}
 use Rattle.stages.proofs.ask_structure.Goals as goal
 use Rattle.stages.proofs.ask_structure.Goals.{Start}
 
@@ -23,10 +22,10 @@ ask_structure-a-requires c =
 pub returns-then-stops-2 : goal.returns-then-stops-2
 returns-then-stops-2 c =
     let e = c.clear_scratch.ensures in
-    asking-on _ _ _ _ _ _ _ _ _ c.shape_structure-shape.ensures (sym c.stops.ensures ∙ c.if-stops.left) c.ask_structure-a.ensures
+    asking-on _ _ _ _ _ _ _ _ _ c.shape_structure-shape.ensures (sym c.stops.ensures ∙ c.if-stops.false) c.ask_structure-a.ensures
     (λ h. (e.0, blank_of 0 _ _ _ c.ask_structure-a.auto.marks e.1)) (structure-due c.args.form (given (goal.at.returns-then-stops-2 c).Start) c.args.sizes)
 
 pub returns : goal.returns
 returns c =
-    asking-on _ _ _ _ _ _ _ _ _ c.shape_structure-shape.ensures (sym c.stops.ensures ∙ c.if-stops.left) c.ask_structure-a.ensures
+    asking-on _ _ _ _ _ _ _ _ _ c.shape_structure-shape.ensures (sym c.stops.ensures ∙ c.if-stops.false) c.ask_structure-a.ensures
     (λ h. never _ (sym c.stops-2.ensures ∙ c.if-stops-2.false) h) (structure-due c.args.form (given (goal.at.returns c).Start) c.args.sizes)

@@ -1,5 +1,4 @@
 use Rattle.stages.specs.Ends.{if_yes}
-use borrow.Author.Rules.{rules}
 use Rattle.stages.proofs.clear_lists_if.Goals as goal
 
 pub returns-then-refused : goal.returns-then-refused

@@ -1,6 +1,5 @@
 use Rattle.base.specs.declared.Asked.TheVariants.{Pass, Stop}
 use Rattle.stages.specs.Branches.{end-as}
-use borrow.Author.Rules.{rules}
 use Rattle.stages.proofs.end_of.Goals as goal
 
 pub returns-in-Pass : goal.returns-in-Pass

@@ -1,7 +1,6 @@
 use mathlib.Core.Path.{sym, ◌∙◌}
 use Rattle.stages.specs.ShapedLaws.{solution-due}
 use Rattle.stages.specs.Ends.{came-fault, came-solved}
-use borrow.Author.Rules.{rules}
 use Rattle.stages.proofs.factor_and_solve.Goals as goal
 
 pub factor-factored-requires : goal.factor-factored-requires

@@ -1,6 +1,5 @@
 use mathlib.Core.Path.{sym, ap}
 use Rattle.stages.specs.Shaped.{fault_asked}
-use borrow.Author.Rules.{rules}
 use Rattle.stages.proofs.fault_of.Goals as goal
 
 pub returns-in-Zero : goal.returns-in-Zero

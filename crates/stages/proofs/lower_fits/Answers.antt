@@ -1,6 +1,5 @@
 use Rattle.base.specs.declared.Form.TheVariants.{Plain, Shared}
 use Rattle.stages.specs.LengthLaws.{lower-as, side-of}
-use borrow.Author.Rules.{rules}
 use Rattle.stages.proofs.lower_fits.Goals as goal
 
 pub returns-in-Plain : goal.returns-in-Plain

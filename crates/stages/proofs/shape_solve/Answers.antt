@@ -6,7 +6,6 @@ use Rattle.outcome.specs.Buffers.{matrix_tests, buffer_tests}
 use Rattle.outcome.specs.Solve.{shape}
 use Rattle.outcome.proofs.Making.{made-few, made-stop, made-on}
 use Rattle.stages.specs.LengthLaws.{solve-tests}
-use borrow.Author.Rules.{rules}
 use Rattle.stages.proofs.shape_solve.Goals as goal
 use Rattle.stages.proofs.shape_solve.Goals.{Start}
 

@@ -5,7 +5,6 @@ use Rattle.matrix.specs.Input.{Input, input_of}
 use Rattle.outcome.specs.Buffers.{pattern_tests, structure_tests}
 use Rattle.outcome.proofs.Making.{made-few, made-stop, made-on}
 use Rattle.stages.specs.LengthLaws.{structure-tests}
-use borrow.Author.Rules.{rules}
 use Rattle.stages.proofs.shape_structure.Goals as goal
 use Rattle.stages.proofs.shape_structure.Goals.{Start}
 

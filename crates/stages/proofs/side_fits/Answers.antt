@@ -1,6 +1,5 @@
 use Rattle.base.specs.declared.Form.TheVariants.{Plain, Shared, ByRow}
 use Rattle.stages.specs.LengthLaws.{side-as}
-use borrow.Author.Rules.{rules}
 use Rattle.stages.proofs.side_fits.Goals as goal
 
 pub returns-in-Plain : goal.returns-in-Plain

@@ -1,6 +1,5 @@
 use Rattle.outcome.specs.Buffers.{side_tests, lower_tests}
 use Rattle.stages.specs.LengthLaws.{all-next}
-use borrow.Author.Rules.{rules}
 use Rattle.stages.proofs.sides_fit.Goals as goal
 
 pub returns : goal.returns

@@ -1,7 +1,6 @@
 use mathlib.Core.Path.{ap, ◌∙◌}
 use Rattle.matrix.specs.Input.{own_order}
 use Rattle.lent.specs.ReadingLaws.{take_rest}
-use borrow.Author.Rules.{rules}
 use Rattle.base.specs.Scratch.{z_from}
 use Rattle.stages.proofs.write_x.Goals as goal
 

@@ -1,7 +1,6 @@
 use mathlib.Core.Path.{refl}
 use native.Mathlib.Omega.{arith}
 use Rattle.substitution.specs.EndLaws.{stop-below, asked-as}
-use borrow.Author.Rules.{rules}
 use Rattle.substitution.proofs.overflow_of.Goals as goal
 
 pub overflow_cast-result : goal.overflow_cast-result

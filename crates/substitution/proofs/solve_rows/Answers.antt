@@ -11,7 +11,6 @@ use Rattle.outcome.specs.Resolve.{factors_of}
 use Rattle.factors.specs.Presented.{presented}
 use Rattle.substitution.specs.Sweep.{Swept}
 use Rattle.substitution.specs.EndLaws.{tied, begun, ends-early, ys-fine, ends, ends-below}
-use borrow.Author.Rules.{rules}
 use Rattle.substitution.proofs.solve_rows.Goals as goal
 use Rattle.substitution.proofs.solve_rows.Goals.{After-clear_f64, After-load_right, After-substitute_rows-a}
 

@@ -5,7 +5,6 @@ use Rattle.numeric.specs.StoreLaws.{ready}
 use Rattle.outcome.specs.Buffers.{SideBuffers, side_buffers}
 use Rattle.substitution.specs.SweepLaws.{spread-columns, spread-rows}
 use Rattle.substitution.specs.EndLaws.{column-spread}
-use borrow.Author.Rules.{rules}
 use Rattle.substitution.proofs.spread.Goals as goal
 use Rattle.substitution.proofs.spread.Goals.{Start}
 

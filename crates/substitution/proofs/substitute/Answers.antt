@@ -1,7 +1,6 @@
 use lib.ListN.{drop}
 use Rattle.base.specs.Scratch.{z_from}
 use Rattle.substitution.specs.EndLaws.{asked-13}
-use borrow.Author.Rules.{rules}
 use Rattle.substitution.proofs.substitute.Goals as goal
 
 pub overflow_of-requires : goal.overflow_of-requires

@@ -2,7 +2,6 @@ use mathlib.Core.Path.{sym, ◌∙◌}
 use lib.ListN.{length-set}
 use Rattle.outcome.specs.Buffers.{SideBuffers, side_buffers}
 use Rattle.substitution.specs.EndLaws.{sum-stops, product-stops, goes_on}
-use borrow.Author.Rules.{rules}
 use Rattle.substitution.proofs.substitute_row.Goals as goal
 use Rattle.substitution.proofs.substitute_row.Goals.{Start}
 

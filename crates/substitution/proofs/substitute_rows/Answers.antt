@@ -1,10 +1,6 @@
-use mathlib.Core.Path.{◌≡◌, refl, ◌∙◌}
-use Prim.Native.Nat.{◌-◌, ◌≤◌}
+use mathlib.Core.Path.{refl, ◌∙◌}
 use native.Mathlib.Omega.{arith}
-use lib.ListN.{length}
-use Rattle.arithmetic.specs.Again.{Factors}
 use Rattle.outcome.specs.Buffers.{SideBuffers, side_buffers}
-use Rattle.substitution.specs.Sweep.{Tied, Sweep}
 use Rattle.substitution.specs.EndLaws.{swept-on, swept-off, swept-whole}
 use borrow.Author.Rules.{rules}
 use Rattle.substitution.proofs.substitute_rows.Goals as goal

@@ -1,12 +1,9 @@
-use mathlib.Core.Path.{◌≡◌, refl, ◌∙◌}
+use mathlib.Core.Path.{◌≡◌}
 use Prim.Native.Nat.{◌-◌, ◌≤◌}
-use native.Mathlib.Omega.{arith}
 use lib.ListN.{length}
 use Rattle.arithmetic.specs.Again.{Factors}
-use Rattle.outcome.specs.Buffers.{SideBuffers, side_buffers}
+use Rattle.outcome.specs.Buffers.{side_buffers}
 use Rattle.substitution.specs.Sweep.{Tied, Sweep}
-use Rattle.substitution.specs.EndLaws.{swept-on, swept-off, swept-whole}
-use borrow.Author.Rules.{rules}
 use Rattle.substitution.proofs.substitute_rows.Given as goal
 
 abbrev pub invariant-loop-k : goal.invariant-loop-k

@@ -4,7 +4,6 @@ use Rattle.numeric.proofs.Turns.{rest-is}
 use Rattle.outcome.specs.Buffers.{SideBuffers, side_buffers}
 use Rattle.substitution.specs.SweepLaws.{sum-columns, sum_rows}
 use Rattle.substitution.specs.EndLaws.{below-tail}
-use borrow.Author.Rules.{rules}
 use Rattle.substitution.proofs.sum_at.Goals as goal
 use Rattle.substitution.proofs.sum_at.Goals.{Start}
 

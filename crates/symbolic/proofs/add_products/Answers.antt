@@ -1,7 +1,6 @@
 use Rattle.symbolic.proofs.Keeping.{adding-fits, adding-countable, products-next, products-small}
 use mathlib.Core.Path.{refl}
 use native.Mathlib.Omega.{arith}
-use borrow.Author.Rules.{rules}
 use Rattle.symbolic.proofs.add_products.Goals as goal
 
 pub overflow_add-end : goal.overflow_add-end

@@ -1,15 +1,11 @@
 use Rattle.symbolic.proofs.Starts.{inverse-lent, plain-start}
 use Rattle.symbolic.proofs.Ends.{both-stop, both_end}
 use Rattle.symbolic.proofs.Keeping.{told}
-use Rattle.symbolic.specs.Pass.{At, TurnEnds}
+use Rattle.symbolic.specs.Pass.{TurnEnds}
 use Rattle.base.specs.declared.Form.TheVariants.{Plain}
-use Rattle.matrix.specs.Input.{input_of}
 use mathlib.Core.Path.{◌≡◌, refl, ◌∙◌}
-use mathlib.Core.List.{[]}
-use Prim.Native.Nat.{◌-◌}
 use lib.ListN.{length}
 use native.Mathlib.Omega.{arith}
-use borrow.Author.Rules.{rules}
 use Rattle.symbolic.proofs.analyze_plain.Goals as goal
 use Rattle.symbolic.proofs.analyze_plain.Goals.{At-loop-k}
 
@@ -32,8 +28,8 @@ analyze_place_plain-turned-requires c = record { order = _; low = _; up = _; pla
 
 -- the stores are as long as they were lent
 lent : (l : At-loop-k) → let a = l.args in let b = l.loop-k in
-    (length b.lower-starts ≡ length a.lower-starts.now) × (length b.lower-index ≡ length a.lower-index.now)
-    × (length b.upper-starts ≡ length a.upper-starts.now) × (length b.upper-index ≡ length a.upper-index.now) × (length b.marks ≡ length a.marks.now)
+    (length b.lower_starts ≡ length a.lower_starts.now) × (length b.lower_index ≡ length a.lower_index.now)
+    × (length b.upper_starts ≡ length a.upper_starts.now) × (length b.upper_index ≡ length a.upper_index.now) × (length b.marks ≡ length a.marks.now)
 lent l =
     let v = l.loop-k.invariant in
     (v.1 ∙ l.clear_u32.auto.s, v.2 ∙ l.clear_index.auto.s, v.3 ∙ l.clear_u32-2.auto.s, v.4 ∙ l.clear_index-2.auto.s, v.5 ∙ l.begin_marks.auto.marks)
@@ -44,21 +40,21 @@ returns-in-Stopped c =
     (told (TurnEnds Plain _ _ _ _ _ _ _ _ _ _ _ _ _) c.in-Stopped.is (c.analyze_place_plain-turned.ensures _ _ _ c.loop-k.invariant.0)) _ _ _ _ _ _ _
 
 pub overflow_add-k : goal.overflow_add-k
-overflow_add-k c = omega (arith, c.loop-k-test.taken, c.requires.matrix.few)
+overflow_add-k c = omega (arith, c.loop-k-test.true, c.requires.matrix.few)
 
 pub loop-k-smaller : goal.loop-k-smaller
-loop-k-smaller c = omega (arith, c.loop-k-test.taken)
+loop-k-smaller c = omega (arith, c.loop-k-test.true)
 
 pub loop-k-preserved : goal.loop-k-preserved
 loop-k-preserved c =
     let v = c.loop-k.invariant in
     let k = c.analyze_place_plain-turned.auto in (
       told (TurnEnds Plain _ _ _ _ _ _ _ _ _ _ _ _ _) c.in-Next.is (c.analyze_place_plain-turned.ensures _ _ _ v.0),
-      k.1.1.1.1.0 ∙ v.1,
-      k.1.1.1.1.1.0 ∙ v.2,
-      k.1.1.1.1.1.1.1.0 ∙ v.3,
-      k.1.1.1.1.1.1.1.1.0 ∙ v.4,
-      k.1.1.1.1.1.1.1.1.1.1.0 ∙ v.5,
+      k.lower_starts ∙ v.1,
+      k.lower_index ∙ v.2,
+      k.upper_starts ∙ v.3,
+      k.upper_index ∙ v.4,
+      k.marks ∙ v.5,
     )
 
 pub returns : goal.returns

@@ -1,15 +1,10 @@
-use Rattle.symbolic.proofs.Starts.{inverse-lent, plain-start}
-use Rattle.symbolic.proofs.Ends.{both-stop, both_end}
-use Rattle.symbolic.proofs.Keeping.{told}
-use Rattle.symbolic.specs.Pass.{At, TurnEnds}
+use Rattle.symbolic.specs.Pass.{At}
 use Rattle.base.specs.declared.Form.TheVariants.{Plain}
 use Rattle.matrix.specs.Input.{input_of}
-use mathlib.Core.Path.{◌≡◌, refl, ◌∙◌}
+use mathlib.Core.Path.{◌≡◌}
 use mathlib.Core.List.{[]}
 use Prim.Native.Nat.{◌-◌}
 use lib.ListN.{length}
-use native.Mathlib.Omega.{arith}
-use borrow.Author.Rules.{rules}
 use Rattle.symbolic.proofs.analyze_plain.Given as goal
 
 abbrev pub invariant-loop-k : goal.invariant-loop-k

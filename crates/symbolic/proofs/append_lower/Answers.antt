@@ -2,7 +2,6 @@ use Rattle.symbolic.proofs.Keeping.{lower-fits, lower-turn, lower-ready, lower-s
 use Rattle.fill.specs.Fill.{lower_row, flip}
 use mathlib.Core.Path.{refl}
 use native.Mathlib.Omega.{arith}
-use borrow.Author.Rules.{rules}
 use Rattle.symbolic.proofs.append_lower.Goals as goal
 
 pub overflow_add-mid : goal.overflow_add-mid

@@ -6,15 +6,9 @@ use Rattle.storing.specs.declared.Way.TheVariants.{OneAfterAnother}
 use mathlib.Core.List.{List}
 use Prim.Native.Nat.{ℕ}
 use native.Mathlib.Omega.{arith}
-use borrow.Author.Rules.{rules}
 use Rattle.base.specs.Scratch.{upper_cuts}
 use Rattle.symbolic.proofs.append_upper.Goals as goal
-use Rattle.symbolic.proofs.append_upper.Goals.{After-append_list-put, Start}
-
--- what the caller holds, for a pattern and a store
-abbrev Held : Start → Pattern → List ℕ → ℕ → Type 0
-Held s P store t = let a = s.args in
-    Keep OneAfterAnother P a.n a.k.0 t (upper_cuts a.n) store a.values a.starts.now a.starts.now a.index.now a.marks.now a.row a.e
+use Rattle.symbolic.proofs.append_upper.Goals.{After-append_list-put}
 
 pub overflow_add-mid : goal.overflow_add-mid
 overflow_add-mid c = let h = c.requires.keep in omega (arith, keep-fits h, h.few)
@@ -34,8 +28,8 @@ append_list-put-requires c =
     keep-ready h _ _ tt (keep-list h)
 
 -- what placing tells
-step : (p : After-append_list-put) (P : Pattern) (store : List ℕ) (t : ℕ) → Held (goal.at.step p).Start P store t
-    → Stepped OneAfterAnother (upper_row P p.args.n) (lower_row P) p.args.values p.args.k.0 store p.append_list-put.new.starts p.append_list-put.new.starts p.append_list-put.new.index p.append_list-put.result
+step : (p : After-append_list-put) (P : Pattern) (store : List ℕ) (t : ℕ) → let a = p.args in
+    Keep OneAfterAnother P a.n a.k.0 t (upper_cuts a.n) store a.values a.starts.now a.starts.now a.index.now a.marks.now a.row a.e → Stepped OneAfterAnother (upper_row P p.args.n) (lower_row P) p.args.values p.args.k.0 store p.append_list-put.new.starts p.append_list-put.new.starts p.append_list-put.new.index p.append_list-put.result
 step p P store t h = p.append_list-put.ensures.steps (upper_row P p.args.n) (lower_row P) p.args.n store (keep-turn h _ _ tt (keep-list h))
 
 pub renew_cuts-requires : goal.renew_cuts-requires
@@ -52,4 +46,7 @@ returns-in-Done c =
 
 pub returns-in-Full : goal.returns-in-Full
 returns-in-Full c =
-    λ P store t h. stepped-full _ _ _ _ _ _ _ _ _ _ c.in-Full.is (step (goal.at.returns-in-Full c).After-append_list-put P store t h)
+    let a = c.args in
+    let r = c.append_list-put.new in
+    λ P store t h.
+    stepped-full OneAfterAnother (upper_row P a.n) (lower_row P) a.values a.k.0 store r.starts r.starts r.index _ c.in-Full.is (step (goal.at.returns-in-Full c).After-append_list-put P store t h)

@@ -2,7 +2,6 @@ use Rattle.symbolic.proofs.Starts.{begun-of, columns-begun}
 use Rattle.columns.proofs.Stored.{given-sound}
 use Rattle.matrix.specs.Input.{Input, input_of}
 use mathlib.Core.List.{[]}
-use borrow.Author.Rules.{rules}
 use Rattle.symbolic.proofs.begin_columns.Goals as goal
 use Rattle.symbolic.proofs.begin_columns.Goals.{Start}
 

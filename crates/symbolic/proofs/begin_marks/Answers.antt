@@ -1,5 +1,4 @@
 use Rattle.symbolic.proofs.Starts.{inverted-after}
-use borrow.Author.Rules.{rules}
 use Rattle.symbolic.proofs.begin_marks.Goals as goal
 
 pub returns : goal.returns

@@ -1,5 +1,4 @@
 use Rattle.symbolic.proofs.Opening.{cuts-upper, cuts-lower}
-use borrow.Author.Rules.{rules}
 use Rattle.symbolic.proofs.cuts_of.Goals as goal
 
 pub returns-in-Upper : goal.returns-in-Upper

@@ -6,14 +6,8 @@ use Rattle.storing.specs.declared.Way.TheVariants.{Sharing}
 use mathlib.Core.List.{List}
 use Prim.Native.Nat.{ℕ}
 use native.Mathlib.Omega.{arith}
-use borrow.Author.Rules.{rules}
 use Rattle.symbolic.proofs.share_list.Goals as goal
-use Rattle.symbolic.proofs.share_list.Goals.{After-place_list-put, Start}
-
--- what the caller holds, for a pattern and a store
-abbrev Held : Start → Pattern → List ℕ → ℕ → Type 0
-Held s P store t = let a = s.args in
-    Keep Sharing P a.n a.k.0 t a.cuts store a.values a.starts.now a.runs.now a.index.now a.marks.now a.row a.e
+use Rattle.symbolic.proofs.share_list.Goals.{After-place_list-put}
 
 pub overflow_add-mid : goal.overflow_add-mid
 overflow_add-mid c = let h = c.requires.keep in omega (arith, keep-fits h, h.few)
@@ -36,7 +30,9 @@ place_list-put-requires c =
     keep-ready h _ _ (keep_row h) (keep-list h)
 
 -- what placing tells
-step : (p : After-place_list-put) (P : Pattern) (store : List ℕ) (t : ℕ) → Held (goal.at.step p).Start P store t → let r = p.place_list-put in
+step : (p : After-place_list-put) (P : Pattern) (store : List ℕ) (t : ℕ) → let a = p.args in
+    let r = p.place_list-put in
+    Keep Sharing P a.n a.k.0 t a.cuts store a.values a.starts.now a.runs.now a.index.now a.marks.now a.row a.e →
     Stepped Sharing (upper_row P p.args.n) (lower_row P) p.args.values p.args.k.0 store r.new.starts r.new.runs r.new.index r.result
 step p P store t h =
     p.place_list-put.ensures.steps (upper_row P p.args.n) (lower_row P) p.args.n store
@@ -56,4 +52,7 @@ returns-in-Done c =
 
 pub returns-in-Full : goal.returns-in-Full
 returns-in-Full c =
-    λ P store t h. stepped-full _ _ _ _ _ _ _ _ _ _ c.in-Full.is (step (goal.at.returns-in-Full c).After-place_list-put P store t h)
+    let a = c.args in
+    let r = c.place_list-put.new in
+    λ P store t h.
+    stepped-full Sharing (upper_row P a.n) (lower_row P) a.values a.k.0 store r.starts r.runs r.index _ c.in-Full.is (step (goal.at.returns-in-Full c).After-place_list-put P store t h)

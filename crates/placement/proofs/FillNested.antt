@@ -7,10 +7,10 @@ use Rattle.std.proofs.Math.Decide.{dec_lt}
 use Rattle.base.specs.Lists.{asc, keep}
 use Rattle.base.specs.Tests.{by-test, and_cases}
 use Rattle.fill.specs.Fill.{Pattern, filled, upper, upper_row, lower_row}
-use Rattle.fill.specs.RowRule.{filled-through}
+use Rattle.fill.proofs.RowRule.{filled-through}
 use Rattle.placement.specs.Placing.{plain, shared, placed}
-use Rattle.placement.specs.PlacingLaws.{Nested, Kept, shared-way, plain-way, placed-kept}
-use Rattle.placement.specs.ListLaws.{Ascends}
+use Rattle.placement.proofs.PlacingLaws.{Nested, Kept, shared-way, plain-way, placed-kept}
+use Rattle.placement.proofs.ListLaws.{Ascends}
 
 -- ---- the members of an ascending list are the numbers that pass
 

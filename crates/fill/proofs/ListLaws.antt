@@ -8,7 +8,7 @@ use Rattle.std.proofs.Math.Dec.{ltb}
 use borrow.Author.Tests.{lt-ltb, le-ltb, ltb-true}
 use Rattle.fill.specs.Fill.{Pattern, filled, upper, flip, upper_row, lower_column, products, lower_row}
 use Rattle.base.specs.Tests.{and_cases}
-use Rattle.fill.specs.RowRule.{filled-through, filled-flip}
+use Rattle.fill.proofs.RowRule.{filled-through, filled-flip}
 use Rattle.base.specs.Lists.{sum, bit, count, asc, total}
 use Rattle.base.specs.AscLaws.{sum-ext, sum-mul, sum-swap, sum-le, sum-part, total-asc, length-asc, asc-ext, asc-drop, count-le, count_same}
 

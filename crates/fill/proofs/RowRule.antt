@@ -12,7 +12,7 @@ use Rattle.std.proofs.Math.Decide.{dec_lt}
 use borrow.Author.Tests.{lt-ltb, le-ltb, ltb-true}
 use Rattle.fill.specs.Fill.{Pattern, reach, filled, Walk, upper, flip}
 use Rattle.base.specs.Tests.{or_cases, or_right, and_cases, true-ext}
-use Rattle.fill.specs.Walks.{filled-walk}
+use Rattle.fill.proofs.Walks.{filled-walk}
 
 -- Is `test i` passed by some i below n?
 unfoldable pub some_below : ℕ → (ℕ → Bool) → Bool

@@ -6,7 +6,7 @@ use Rattle.std.proofs.Common.{arith, lt-ltb, ltb-true}
 use Rattle.std.proofs.Math.Decide.{dec_lt}
 use Rattle.fill.specs.Fill.{Pattern, filled, upper}
 use Rattle.base.specs.Tests.{or_cases, or_right, and_cases, true-ext}
-use Rattle.fill.specs.RowRule.{filled-cases, filled-stored, filled-through}
+use Rattle.fill.proofs.RowRule.{filled-cases, filled-stored, filled-through}
 
 module _ (stored : Pattern) where
   -- (i, p) and (p, i) are filled, and i < p

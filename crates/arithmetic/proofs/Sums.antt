@@ -10,8 +10,8 @@ use Rattle.std.specs.Float.Ieee.Scale.{finite}
 use Rattle.base.specs.Lists.{has, pairs}
 use Rattle.arithmetic.specs.Arith.{◌▸◌, judged, ok, met, overflow, enter_run, load_run}
 use Rattle.arithmetic.specs.Stopping.{◌>>=◌, any, enter, load}
-use Rattle.arithmetic.specs.StoppingLaws.{load-judged}
-use Rattle.arithmetic.specs.Sticky.{ok-inj, entered, load-more, load-keeps, load_at}
+use Rattle.arithmetic.proofs.StoppingLaws.{load-judged}
+use Rattle.arithmetic.proofs.Sticky.{ok-inj, entered, load-more, load-keeps, load_at}
 
 -- the values at place j, in stored order
 unfoldable pub values_at : List ℕ → List Float → ℕ → List Float

@@ -10,7 +10,7 @@ use Rattle.std.proofs.lemmas.List.{drop-append-le, get_or_at}
 use Rattle.std.proofs.Math.Seq.{take-length}
 use Rattle.std.proofs.lemmas.Bool.{eqb-false}
 use Rattle.placement.specs.Placing.{count_above, tails, Tail, best_from, best, agree, Plan, append_all, fresh, meets, overlap, tail_or, shared, plain, Way, State, run_of, plan_at, placed, start_of, after}
-use Rattle.placement.specs.ListLaws.{asc-least, Ascends, among-asc, among-drop, count-tail, take-drop, part-append, agree-take, count-le}
+use Rattle.placement.proofs.ListLaws.{asc-least, Ascends, among-asc, among-drop, count-tail, take-drop, part-append, agree-take, count-le}
 use Rattle.base.specs.Tests.{by-test}
 
 -- a plan for a list over the used slots: what is said to stand there does, and unless that is all of the list, it ends where the used slots do

@@ -1,0 +1,5 @@
+pub mod Meets
+pub mod Factors
+pub mod StoppingLaws
+pub mod Sticky
+pub mod Sums

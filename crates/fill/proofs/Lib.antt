@@ -1,0 +1,4 @@
+pub mod Walks
+pub mod RowRule
+pub mod ListLaws
+pub mod Prune
