@@ -21,7 +21,7 @@ use Rattle.outcome.specs.Buffers.{ask_shape, Buffers, side_sizes, sizes, side_of
 use Rattle.base.specs.declared.SideSizes.{SideSizes}
 use Rattle.base.specs.declared.Sizes.{Sizes}
 use Rattle.base.specs.ZerosLaws.{padded-length}
-use Rattle.fill.specs.Fill.{Pattern, flip, upper_row, upper}
+use Rattle.fill.specs.Fill.{Pattern, flip, upper_row}
 use Rattle.base.specs.Lists.{nought, joined}
 use Rattle.base.specs.TableLaws.{length-table}
 use Rattle.placement.specs.Placing.{Way, after, placed, start_of}

@@ -1,7 +1,6 @@
 use Rattle.std.proofs.Common.{ap}
 use mathlib.Core.Bool.{not}
 use Rattle.blocks.proofs.FileLaws.{asked-16, block-fits, asked-17, asked-pass}
-use borrow.Author.Rules.{rules}
 use Rattle.blocks.proofs.ask_blocks.Goals as goal
 
 pub returns-then-not-n : goal.returns-then-not-n

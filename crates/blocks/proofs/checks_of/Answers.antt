@@ -1,8 +1,5 @@
-use Prim.Native.Nat.{◌-◌}
-use Rattle.blocks.specs.Blocks.{byte_from}
-use Rattle.blocks.proofs.CheckLaws.{Running, run-start, run_more, run_end}
+use Rattle.blocks.proofs.CheckLaws.{run-start, run_more, run_end}
 use native.Mathlib.Omega.{arith}
-use borrow.Author.Rules.{rules}
 use Rattle.blocks.proofs.checks_of.Goals as goal
 
 pub loop-i-init : goal.loop-i-init

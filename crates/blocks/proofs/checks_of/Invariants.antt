@@ -1,8 +1,6 @@
 use Prim.Native.Nat.{◌-◌}
 use Rattle.blocks.specs.Blocks.{byte_from}
-use Rattle.blocks.proofs.CheckLaws.{Running, run-start, run_more, run_end}
-use native.Mathlib.Omega.{arith}
-use borrow.Author.Rules.{rules}
+use Rattle.blocks.proofs.CheckLaws.{Running}
 use Rattle.blocks.proofs.checks_of.Given as goal
 
 abbrev pub invariant-loop-i : goal.invariant-loop-i

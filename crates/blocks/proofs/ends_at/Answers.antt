@@ -1,5 +1,4 @@
 use borrow.Author.Tests.{eq-eqb, ne_eqb}
-use borrow.Author.Rules.{rules}
 use Rattle.blocks.proofs.ends_at.Goals as goal
 
 pub returns-then-file-size : goal.returns-then-file-size

@@ -1,6 +1,5 @@
 use mathlib.Core.Path.{◌∙◌}
 use Rattle.blocks.proofs.FileLaws.{finished}
-use borrow.Author.Rules.{rules}
 use Rattle.blocks.proofs.finish.Goals as goal
 
 pub returns : goal.returns

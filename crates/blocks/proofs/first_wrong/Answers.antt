@@ -1,11 +1,6 @@
 use Rattle.std.proofs.Common.{ap}
 use mathlib.Core.Bool.{not}
-use Prim.Native.Nat.{◌-◌, ◌≤◌}
-use mathlib.Core.Path.{◌≡◌}
-use Rattle.base.specs.First.{first}
 use Rattle.base.specs.FirstLaws.{first-zero, scan-hit, scan-more, first-end}
-use Rattle.base.specs.declared.Found.TheVariants.{Nothing}
-use Rattle.blocks.specs.Blocks.{wrong_block}
 use Rattle.blocks.proofs.CheckLaws.{wrong-from}
 use borrow.Author.Rules.{rules}
 use Rattle.blocks.proofs.first_wrong.Goals as goal

@@ -1,8 +1,5 @@
-use Prim.Native.Nat.{◌-◌}
-use Rattle.blocks.specs.Blocks.{byte_from}
-use Rattle.fields.proofs.NumberLaws.{Reading, read-start, read_more, read-room, read-end}
+use Rattle.fields.proofs.NumberLaws.{read-start, read_more, read-room, read-end}
 use native.Mathlib.Omega.{arith}
-use borrow.Author.Rules.{rules}
 use Rattle.blocks.proofs.number_in.Goals as goal
 
 pub loop-left-init : goal.loop-left-init

@@ -1,7 +1,5 @@
-use Prim.Native.Nat.{◌-◌}
-use Rattle.blocks.proofs.CheckLaws.{Storing, store-start, store-more, store-end}
+use Rattle.blocks.proofs.CheckLaws.{store-start, store-more, store-end}
 use native.Mathlib.Omega.{arith}
-use borrow.Author.Rules.{rules}
 use Rattle.blocks.proofs.put_bytes.Goals as goal
 
 pub loop-i-init : goal.loop-i-init

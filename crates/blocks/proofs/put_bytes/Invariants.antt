@@ -1,7 +1,5 @@
 use Prim.Native.Nat.{◌-◌}
-use Rattle.blocks.proofs.CheckLaws.{Storing, store-start, store-more, store-end}
-use native.Mathlib.Omega.{arith}
-use borrow.Author.Rules.{rules}
+use Rattle.blocks.proofs.CheckLaws.{Storing}
 use Rattle.blocks.proofs.put_bytes.Given as goal
 
 abbrev pub invariant-loop-i : goal.invariant-loop-i

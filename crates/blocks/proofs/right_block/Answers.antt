@@ -1,6 +1,5 @@
 use Rattle.blocks.specs.Blocks.{right_block}
 use Rattle.blocks.proofs.CheckLaws.{right-from}
-use borrow.Author.Rules.{rules}
 use Rattle.blocks.proofs.right_block.Goals as goal
 
 pub returns : goal.returns

@@ -1,6 +1,4 @@
-use Prim.Native.Nat.{◌-◌}
-use Rattle.blocks.proofs.SealLaws.{Sealing, seal-start, seal-more, seal-end}
-use borrow.Author.Rules.{rules}
+use Rattle.blocks.proofs.SealLaws.{seal-start, seal-more, seal-end}
 use native.Mathlib.Omega.{arith}
 use Rattle.blocks.proofs.seal_all.Goals as goal
 

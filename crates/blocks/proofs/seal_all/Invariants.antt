@@ -1,7 +1,5 @@
 use Prim.Native.Nat.{◌-◌}
-use Rattle.blocks.proofs.SealLaws.{Sealing, seal-start, seal-more, seal-end}
-use borrow.Author.Rules.{rules}
-use native.Mathlib.Omega.{arith}
+use Rattle.blocks.proofs.SealLaws.{Sealing}
 use Rattle.blocks.proofs.seal_all.Given as goal
 
 abbrev pub invariant-loop-k : goal.invariant-loop-k

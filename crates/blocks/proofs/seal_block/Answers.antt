@@ -1,5 +1,4 @@
 use Rattle.blocks.proofs.SealLaws.{block-sealed}
-use borrow.Author.Rules.{rules}
 use Rattle.blocks.proofs.seal_block.Goals as goal
 
 pub returns : goal.returns

@@ -1,7 +1,6 @@
 use Rattle.std.proofs.Common.{ap}
 use mathlib.Core.Bool.{not}
 use native.Mathlib.Omega.{arith}
-use borrow.Author.Rules.{rules}
 use Rattle.matrix.specs.ListsLaws.{range-of}
 use Rattle.fill_sheet.proofs.Call.{length-within, length-beyond}
 use Rattle.fill_sheet.proofs.wrong_length.Goals as goal

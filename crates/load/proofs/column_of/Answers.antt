@@ -1,6 +1,5 @@
 use mathlib.Core.Path.{refl}
 use native.Mathlib.Nat.{mod-lt}
-use borrow.Author.Rules.{rules}
 use Rattle.load.specs.Load.{column_of}
 use Rattle.load.proofs.column_of.Goals as goal
 

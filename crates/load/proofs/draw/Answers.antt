@@ -1,4 +1,3 @@
-use borrow.Author.Rules.{rules}
 use Rattle.load.proofs.DrawLaws.{drew-skip, drew-add}
 use Rattle.load.proofs.draw.Goals as goal
 

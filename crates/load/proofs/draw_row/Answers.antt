@@ -1,4 +1,3 @@
-use borrow.Author.Rules.{rules}
 use Rattle.load.proofs.DrawLaws.{first-drawable, second-drawable, third-drawable, row-drew}
 use Rattle.load.proofs.draw_row.Goals as goal
 

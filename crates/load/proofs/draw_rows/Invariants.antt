@@ -1,9 +1,5 @@
 use Prim.Native.Nat.{◌-◌}
-use mathlib.Core.Path.{refl}
-use native.Mathlib.Omega.{arith}
-use borrow.Author.Rules.{rules}
 use Rattle.load.specs.Stores.{RowsDrawing}
-use Rattle.load.proofs.RowsLaws.{drawing-start, row-drawable, drawing-more, drawing-end, columns-same, values_same}
 use Rattle.load.proofs.draw_rows.Given as goal
 
 abbrev pub invariant-loop-k : goal.invariant-loop-k

@@ -1,10 +1,8 @@
-use Prim.Native.Nat.{ℕ, ◌-◌}
+use Prim.Native.Nat.{ℕ}
 use mathlib.Core.Path.{refl}
 use native.Mathlib.Omega.{arith}
-use lib.ListN.{length}
-use borrow.Author.Rules.{rules}
 use Rattle.base.specs.Lists.{table}
-use Rattle.base.specs.TableLaws.{Filling, fill_more, fill_end}
+use Rattle.base.specs.TableLaws.{fill_more, fill_end}
 use Rattle.load.proofs.natural.Goals as goal
 
 pub loop-k-init : goal.loop-k-init

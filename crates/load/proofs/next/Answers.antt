@@ -1,6 +1,5 @@
 use mathlib.Core.Path.{refl}
 use native.Mathlib.Omega.{arith}
-use borrow.Author.Rules.{rules}
 use Rattle.load.specs.Load.{drawn}
 use Rattle.load.proofs.next.Goals as goal
 

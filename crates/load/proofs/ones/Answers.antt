@@ -1,11 +1,9 @@
-use Prim.Native.Nat.{ℕ, ◌-◌}
+use Prim.Native.Nat.{ℕ}
 use mathlib.Core.Path.{refl}
 use native.Mathlib.Omega.{arith}
-use lib.ListN.{length}
 use lib.Ieee.{of_bits}
-use borrow.Author.Rules.{rules}
 use Rattle.base.specs.Lists.{table}
-use Rattle.base.specs.TableLaws.{Filling, fill_more, fill_end}
+use Rattle.base.specs.TableLaws.{fill_more, fill_end}
 use Rattle.load.specs.Load.{one}
 use Rattle.load.proofs.ones.Goals as goal
 

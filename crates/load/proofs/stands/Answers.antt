@@ -1,9 +1,5 @@
-use Prim.Native.Nat.{◌-◌}
-use mathlib.Core.Path.{◌≡◌, refl, sym, ◌∙◌}
+use mathlib.Core.Path.{refl, sym, ◌∙◌}
 use native.Mathlib.Omega.{arith}
-use lib.ListN.{length, drop}
-use borrow.Author.Rules.{rules}
-use Rattle.base.specs.Lists.{has}
 use Rattle.load.proofs.DrawLaws.{has-hit, has-miss, has_end}
 use Rattle.load.proofs.stands.Goals as goal
 

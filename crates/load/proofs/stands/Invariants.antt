@@ -1,10 +1,7 @@
 use Prim.Native.Nat.{◌-◌}
-use mathlib.Core.Path.{◌≡◌, refl, sym, ◌∙◌}
-use native.Mathlib.Omega.{arith}
+use mathlib.Core.Path.{◌≡◌}
 use lib.ListN.{length, drop}
-use borrow.Author.Rules.{rules}
 use Rattle.base.specs.Lists.{has}
-use Rattle.load.proofs.DrawLaws.{has-hit, has-miss, has_end}
 use Rattle.load.proofs.stands.Given as goal
 
 abbrev pub invariant-loop-p : goal.invariant-loop-p

@@ -1,7 +1,6 @@
 use Rattle.std.proofs.Common.{ap}
 use mathlib.Core.Bool.{not}
 use native.Mathlib.Omega.{arith}
-use borrow.Author.Rules.{rules}
 use Rattle.matrix.specs.ListsLaws.{range-of}
 use Rattle.load.proofs.CallLaws.{out-rows, out-lengths, rows-lent, orders-few, out-made}
 use Rattle.load.proofs.test_load.Goals as goal

@@ -1,5 +1,4 @@
 use Rattle.program.proofs.Laws.{done-lines, refused-lines}
-use borrow.Author.Rules.{rules}
 use Rattle.program.proofs.put_answer.Goals as goal
 
 pub returns-in-Done : goal.returns-in-Done

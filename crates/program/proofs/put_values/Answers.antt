@@ -1,8 +1,5 @@
-use Prim.Native.Nat.{◌-◌}
-use mathlib.Core.Path.{◌≡◌, refl, sym, ◌∙◌}
-use lib.ListN.{length}
-use borrow.Author.Rules.{rules}
-use Rattle.program.proofs.Laws.{Before, values-start, values-more, values-end}
+use mathlib.Core.Path.{refl, sym, ◌∙◌}
+use Rattle.program.proofs.Laws.{values-start, values-more, values-end}
 use Rattle.program.proofs.put_values.Goals as goal
 
 pub loop-j-preserved : goal.loop-j-preserved

@@ -1,8 +1,7 @@
 use Prim.Native.Nat.{◌-◌}
-use mathlib.Core.Path.{◌≡◌, refl, sym, ◌∙◌}
+use mathlib.Core.Path.{◌≡◌}
 use lib.ListN.{length}
-use borrow.Author.Rules.{rules}
-use Rattle.program.proofs.Laws.{Before, values-start, values-more, values-end}
+use Rattle.program.proofs.Laws.{Before}
 use Rattle.program.proofs.put_values.Given as goal
 
 abbrev pub invariant-loop-j : goal.invariant-loop-j

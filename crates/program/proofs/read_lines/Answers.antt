@@ -1,5 +1,4 @@
 use Rattle.program.proofs.Laws.{read-input, read-lines}
-use borrow.Author.Rules.{rules}
 use Rattle.program.proofs.read_lines.Goals as goal
 
 pub returns : goal.returns

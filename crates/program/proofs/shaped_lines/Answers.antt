@@ -1,6 +1,5 @@
 use Rattle.program.proofs.Laws.{part-long, fitting}
 use native.Mathlib.Omega.{arith}
-use borrow.Author.Rules.{rules}
 use Rattle.program.proofs.shaped_lines.Goals as goal
 
 pub slice_bounds-read_lines-end : goal.slice_bounds-read_lines-end

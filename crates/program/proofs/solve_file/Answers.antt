@@ -1,5 +1,4 @@
 use Rattle.program.proofs.Laws.{over-length, small-shape, well-shaped, ill-shaped, over-size}
-use borrow.Author.Rules.{rules}
 use Rattle.program.proofs.solve_file.Goals as goal
 
 pub returns-then-file-gt11776 : goal.returns-then-file-gt11776

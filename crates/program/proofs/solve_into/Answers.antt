@@ -1,7 +1,6 @@
 use Rattle.program.proofs.Laws.{outcome-lines}
 use native.Mathlib.Omega.{arith}
 use lib.Ieee.{of_bits}
-use borrow.Author.Rules.{rules}
 use Rattle.program.proofs.solve_into.Goals as goal
 
 pub put_answer-requires : goal.put_answer-requires

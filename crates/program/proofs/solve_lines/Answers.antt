@@ -1,6 +1,5 @@
 use Rattle.program.proofs.Laws.{part-long, lent-lines}
 use native.Mathlib.Omega.{arith}
-use borrow.Author.Rules.{rules}
 use Rattle.program.proofs.solve_lines.Goals as goal
 
 pub slice_bounds-solve_into-end : goal.slice_bounds-solve_into-end

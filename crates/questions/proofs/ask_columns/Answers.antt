@@ -1,11 +1,7 @@
-use mathlib.Core.Path.{refl, ◌≡◌}
+use mathlib.Core.Path.{refl}
 use borrow.Author.Tests.{le-leb, lt-leb}
 use Rattle.base.specs.FirstLaws.{first_more, first-zero}
 use Rattle.questions.specs.AskLaws.{ask-at, ask-pass}
-use Prim.Native.Nat.{◌-◌, ◌≤◌}
-use Rattle.base.specs.First.{first}
-use Rattle.base.specs.declared.Found.TheVariants.{Nothing}
-use lib.ListN.{length}
 use Rattle.matrix.specs.Questions.{bad_column, ask4}
 use borrow.Author.Rules.{rules}
 use Rattle.questions.proofs.ask_columns.Goals as goal

@@ -1,13 +1,9 @@
-use mathlib.Core.Path.{refl, ◌≡◌}
-use borrow.Author.Tests.{le-leb, lt-leb}
-use Rattle.base.specs.FirstLaws.{first_more, first-zero}
-use Rattle.questions.specs.AskLaws.{ask-at, ask-pass}
+use mathlib.Core.Path.{◌≡◌}
 use Prim.Native.Nat.{◌-◌, ◌≤◌}
 use Rattle.base.specs.First.{first}
 use Rattle.base.specs.declared.Found.TheVariants.{Nothing}
 use lib.ListN.{length}
-use Rattle.matrix.specs.Questions.{bad_column, ask4}
-use borrow.Author.Rules.{rules}
+use Rattle.matrix.specs.Questions.{bad_column}
 use Rattle.questions.proofs.ask_columns.Given as goal
 
 abbrev pub invariant-loop-p : goal.invariant-loop-p

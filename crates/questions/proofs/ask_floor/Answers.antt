@@ -1,6 +1,5 @@
 use mathlib.Core.Path.{sym, ◌∙◌}
 use lib.Ieee.{of_bits}
-use borrow.Author.Rules.{rules}
 use Rattle.base.specs.Magnitude.{is_floor}
 use Rattle.matrix.specs.Questions.{ask_floor}
 use Rattle.questions.proofs.ask_floor.Goals as goal

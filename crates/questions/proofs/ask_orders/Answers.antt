@@ -1,5 +1,4 @@
 use Rattle.questions.specs.AskLaws.{orders-stop, orders-pass}
-use borrow.Author.Rules.{rules}
 use Rattle.questions.proofs.ask_orders.Goals as goal
 
 pub returns-in-Stop : goal.returns-in-Stop

@@ -1,6 +1,5 @@
 use Rattle.matrix.specs.Questions.{ask_right}
 use Rattle.questions.specs.AskLaws.{then-stop, then-pass}
-use borrow.Author.Rules.{rules}
 use Rattle.questions.proofs.ask_right.Goals as goal
 
 pub returns-in-Stop : goal.returns-in-Stop

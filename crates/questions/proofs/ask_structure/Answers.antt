@@ -1,7 +1,6 @@
 use Rattle.matrix.specs.Questions.{ask_structure}
 use Rattle.questions.specs.SettledLaws.{places-lent}
 use Rattle.questions.specs.AskLaws.{then-stop, then-pass}
-use borrow.Author.Rules.{rules}
 use Rattle.questions.proofs.ask_structure.Goals as goal
 
 pub returns-in-Stop : goal.returns-in-Stop

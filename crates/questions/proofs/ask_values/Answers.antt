@@ -1,6 +1,5 @@
 use Rattle.matrix.specs.Questions.{ask6}
 use Rattle.questions.specs.AskLaws.{then-stop, then-pass}
-use borrow.Author.Rules.{rules}
 use Rattle.questions.proofs.ask_values.Goals as goal
 
 pub returns-in-Stop : goal.returns-in-Stop

@@ -1,7 +1,5 @@
-use Rattle.questions.specs.MarkingLaws.{index-out, Marking, marking-none, marking-seen, marking-more}
-use Prim.Native.Nat.{◌-◌}
+use Rattle.questions.specs.MarkingLaws.{index-out, marking-none, marking-seen, marking-more}
 use mathlib.Core.Path.{sym, ◌∙◌}
-use lib.ListN.{length}
 use Rattle.base.specs.FirstLaws.{first-at, first-end}
 use borrow.Author.Rules.{rules}
 use Rattle.questions.proofs.first_fault.Goals as goal

@@ -1,9 +1,6 @@
-use Rattle.questions.specs.MarkingLaws.{index-out, Marking, marking-none, marking-seen, marking-more}
+use Rattle.questions.specs.MarkingLaws.{Marking}
 use Prim.Native.Nat.{◌-◌}
-use mathlib.Core.Path.{sym, ◌∙◌}
 use lib.ListN.{length}
-use Rattle.base.specs.FirstLaws.{first-at, first-end}
-use borrow.Author.Rules.{rules}
 use Rattle.questions.proofs.first_fault.Given as goal
 
 abbrev pub invariant-loop-p : goal.invariant-loop-p

@@ -1,7 +1,7 @@
-use Prim.Native.Nat.{ℕ, ◌-◌, ◌<◌}
+use Prim.Native.Nat.{◌<◌}
 use Rattle.matrix.proofs.OrderLaws.{order_below}
 use Rattle.questions.specs.Lent.{inverted}
-use Rattle.questions.specs.ScatterLaws.{Scattered, scattered-none, scattered-more, scattered-end}
+use Rattle.questions.specs.ScatterLaws.{scattered-none, scattered-more, scattered-end}
 use mathlib.Core.Path.{refl}
 use borrow.Author.Rules.{rules}
 use native.Mathlib.Omega.{arith}

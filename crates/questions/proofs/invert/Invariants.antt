@@ -1,10 +1,5 @@
-use Prim.Native.Nat.{ℕ, ◌-◌, ◌<◌}
-use Rattle.matrix.proofs.OrderLaws.{order_below}
-use Rattle.questions.specs.Lent.{inverted}
-use Rattle.questions.specs.ScatterLaws.{Scattered, scattered-none, scattered-more, scattered-end}
-use mathlib.Core.Path.{refl}
-use borrow.Author.Rules.{rules}
-use native.Mathlib.Omega.{arith}
+use Prim.Native.Nat.{ℕ, ◌-◌}
+use Rattle.questions.specs.ScatterLaws.{Scattered}
 use Rattle.questions.proofs.invert.Given as goal
 
 abbrev pub invariant-loop-k : goal.invariant-loop-k

@@ -1,10 +1,8 @@
-use Prim.Native.Nat.{ℕ, ◌-◌, ◌<◌}
-use lib.ListN.{get_or}
-use lib.Ieee.{nan}
+use Prim.Native.Nat.{◌<◌}
 use mathlib.Core.Path.{refl}
 use Rattle.matrix.specs.Input.{own_order}
 use Rattle.matrix.proofs.OrderLaws.{order_below}
-use Rattle.questions.specs.ScatterLaws.{Scattered, scattered-none, scattered-more, scattered-end, scattered-all}
+use Rattle.questions.specs.ScatterLaws.{scattered-none, scattered-more, scattered-end, scattered-all}
 use borrow.Author.Rules.{rules}
 use native.Mathlib.Omega.{arith}
 use Rattle.questions.proofs.write_solution.Goals as goal

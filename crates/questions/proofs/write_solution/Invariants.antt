@@ -1,12 +1,7 @@
-use Prim.Native.Nat.{ℕ, ◌-◌, ◌<◌}
+use Prim.Native.Nat.{ℕ, ◌-◌}
 use lib.ListN.{get_or}
 use lib.Ieee.{nan}
-use mathlib.Core.Path.{refl}
-use Rattle.matrix.specs.Input.{own_order}
-use Rattle.matrix.proofs.OrderLaws.{order_below}
-use Rattle.questions.specs.ScatterLaws.{Scattered, scattered-none, scattered-more, scattered-end, scattered-all}
-use borrow.Author.Rules.{rules}
-use native.Mathlib.Omega.{arith}
+use Rattle.questions.specs.ScatterLaws.{Scattered}
 use Rattle.questions.proofs.write_solution.Given as goal
 
 abbrev pub invariant-loop-k : goal.invariant-loop-k

@@ -6,7 +6,6 @@ use Rattle.stages.specs.Branches.{pass_of}
 use Rattle.stages.specs.Asking.{SolveAsking}
 use Rattle.stages.specs.Ends.{blank_of}
 use Rattle.refactor.specs.PresentedLaws.{presenting, asked_by, earlier-stop, presented-stop, presented-pass}
-use borrow.Author.Rules.{rules}
 use Rattle.refactor.proofs.ask.Goals as goal
 use Rattle.refactor.proofs.ask.Goals.{After-ask_solve-asked}
 

@@ -1,7 +1,6 @@
 use mathlib.Core.Path.{refl, sym, ◌∙◌}
 use Rattle.stages.specs.Branches.{pass_of}
 use Rattle.refactor.specs.PresentedLaws.{due-by, refactor-stops, refactor-ends}
-use borrow.Author.Rules.{rules}
 use Rattle.refactor.proofs.refactor_in.Goals as goal
 
 pub returns-then-stops : goal.returns-then-stops

@@ -1,6 +1,5 @@
 use Rattle.storing.specs.declared.Way.TheVariants.{OneAfterAnother, Sharing}
 use Rattle.refactor.specs.PresentedLaws.{runs_as}
-use borrow.Author.Rules.{rules}
 use Rattle.refactor.proofs.runs_lent.Goals as goal
 
 pub returns-in-OneAfterAnother : goal.returns-in-OneAfterAnother

@@ -5,7 +5,6 @@ use Rattle.stages.specs.Branches.{never, pass_of}
 use Rattle.stages.specs.Ends.{blank_of}
 use Rattle.stages.specs.Asking.{asking-stop, asking-on}
 use Rattle.resolve.specs.AgainLaws.{right-lent, again-due}
-use borrow.Author.Rules.{rules}
 use Rattle.resolve.proofs.ask_right.Goals as goal
 use Rattle.resolve.proofs.ask_right.Goals.{Start}
 

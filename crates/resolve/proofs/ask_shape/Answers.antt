@@ -3,7 +3,6 @@ use Prim.Native.Nat.{◌≤◌}
 use Rattle.base.specs.Limits.{max_rows}
 use Rattle.matrix.specs.Input.{Input, input_of}
 use Rattle.resolve.specs.AgainLaws.{few-of, shape-rows, shape-pass, shape-lengths}
-use borrow.Author.Rules.{rules}
 use Rattle.resolve.proofs.ask_shape.Goals as goal
 use Rattle.resolve.proofs.ask_shape.Goals.{Start, Then-rows_within}
 

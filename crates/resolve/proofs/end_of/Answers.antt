@@ -1,6 +1,5 @@
 use mathlib.Core.Path.{refl}
 use Rattle.resolve.specs.AgainLaws.{end-as}
-use borrow.Author.Rules.{rules}
 use Rattle.resolve.proofs.end_of.Goals as goal
 
 pub returns-in-Stop : goal.returns-in-Stop

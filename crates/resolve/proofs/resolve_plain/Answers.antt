@@ -5,7 +5,6 @@ use Rattle.matrix.specs.Input.{Input, input_of}
 use Rattle.outcome.specs.Buffers.{SideBuffers, side_buffers}
 use Rattle.stages.specs.Branches.{pass_of}
 use Rattle.resolve.specs.AgainLaws.{asking-of, resolve-stops, resolve-ends, plain_ready, plain-again}
-use borrow.Author.Rules.{rules}
 use Rattle.resolve.proofs.resolve_plain.Goals as goal
 use Rattle.resolve.proofs.resolve_plain.Goals.{Start}
 

@@ -5,7 +5,6 @@ use Rattle.base.specs.Scratch.{z_from}
 use Rattle.matrix.specs.Input.{Input, input_of}
 use Rattle.outcome.specs.Buffers.{SideBuffers, side_buffers}
 use Rattle.resolve.specs.AgainLaws.{solvable, solution-due, again-15, again-13, again-x}
-use borrow.Author.Rules.{rules}
 use Rattle.resolve.proofs.solve_again.Goals as goal
 use Rattle.resolve.proofs.solve_again.Goals.{Start}
 

@@ -4,7 +4,6 @@ use Rattle.questions.specs.SettledLaws.{settled}
 use Rattle.stages.specs.ShapedLaws.{row-lent, pattern-structured}
 use Rattle.stages.specs.Branches.{done-with}
 use Rattle.stages.specs.Ends.{leaves-refused, row-due, row-leaves}
-use borrow.Author.Rules.{rules}
 use Rattle.row_form.proofs.analyze_and_solve.Goals as goal
 
 pub analyze_by_row-a-requires : goal.analyze_by_row-a-requires

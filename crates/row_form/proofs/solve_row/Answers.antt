@@ -6,7 +6,6 @@ use Rattle.stages.specs.ShapedLaws.{due-again}
 use Rattle.stages.specs.Branches.{pass_of}
 use Rattle.stages.specs.Asking.{solve-stops}
 use Rattle.stages.specs.Ends.{none-if, solve-ends}
-use borrow.Author.Rules.{rules}
 use Rattle.row_form.proofs.solve_row.Goals as goal
 
 pub returns-then-stops : goal.returns-then-stops

@@ -4,7 +4,6 @@ use Rattle.questions.specs.SettledLaws.{settled}
 use Rattle.stages.specs.ShapedLaws.{shared-lent, pattern-structured, starts-of}
 use Rattle.stages.specs.Branches.{done-with}
 use Rattle.stages.specs.Ends.{leaves-refused, both-due, both-leaves}
-use borrow.Author.Rules.{rules}
 use Rattle.shared_form.proofs.analyze_and_solve.Goals as goal
 
 pub analyze_shared-a-requires : goal.analyze_shared-a-requires

@@ -4,7 +4,6 @@ use Rattle.stages.specs.ShapedLaws.{due-again}
 use Rattle.stages.specs.Branches.{pass_of}
 use Rattle.stages.specs.Asking.{solve-stops}
 use Rattle.stages.specs.Ends.{solve-ends}
-use borrow.Author.Rules.{rules}
 use Rattle.shared_form.proofs.solve_shared.Goals as goal
 
 pub returns-then-stops : goal.returns-then-stops

@@ -6,7 +6,6 @@ use Rattle.stages.specs.ShapedLaws.{shaped-again, shared-lent}
 use Rattle.stages.specs.Branches.{pass_of}
 use Rattle.stages.specs.Asking.{structure-stops}
 use Rattle.stages.specs.Ends.{structure-ends}
-use borrow.Author.Rules.{rules}
 use Rattle.shared_form.proofs.structure_shared.Goals as goal
 use Rattle.shared_form.proofs.structure_shared.Goals.{After-analyze_shared-a}
 
