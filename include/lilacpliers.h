@@ -13,7 +13,7 @@
  * The caller's floating-point environment must be the default of IEEE 754: rounding to nearest, no flush to zero, no
  * denormals as zero, no traps. In another one numbers and answers may be others than promised here (n = 1, b = 1, the
  * floor 0 and the value 2^-1023 give x = 2^1023, but LP_ZERO_PIVOT where denormals are zero), and with a trap for
- * overflow a refusal LP_OVERFLOW or LP_RESIDUAL becomes a signal.
+ * overflow a refusal LP_OVERFLOW becomes a signal.
  *
  * Matrix, orders, right side, floor:
  *   n        rows, 1 to LP_MAX_ROWS
@@ -69,7 +69,7 @@ extern "C" {
 
 /* The version of this interface. It is raised whenever a function, a number or what a buffer holds changes, so that
  * a caller can refuse to be compiled against another one. */
-#define LP_VERSION 8
+#define LP_VERSION 7
 
 /* The limits of n, of e and of the slots of a store. */
 #define LP_MAX_ROWS 4096
@@ -95,9 +95,8 @@ extern "C" {
 #define LP_LENGTHS 2          /* a length is not as stated, or e or a store is over its limit */
 #define LP_STARTS 3           /* starts do not begin at 0, fall, or do not end at e: own row */
 #define LP_COLUMN 4           /* a column is not below n: index of the entry */
-#define LP_ORDER 5            /* r or c is no order: index of the first number out of range or repeated; in c, plus n;
-                                 lp_residual: the row is not below n: that row */
-#define LP_NOT_FINITE 6       /* a value or a number of b is not finite: its index; in b, plus e; in x, plus e + n */
+#define LP_ORDER 5            /* r or c is no order: index of the first number out of range or repeated; in c, plus n */
+#define LP_NOT_FINITE 6       /* a value or a number of b is not finite: its index; in b, plus e */
 #define LP_EMPTY_ROW 7        /* a row has no entry: own row */
 #define LP_REPEATED 8         /* reserved; no longer answered, since a row may have a column several times */
 #define LP_NULL_PIVOT 9       /* (k, k) is not filled: k */
@@ -113,7 +112,6 @@ extern "C" {
 #define LP_FLOOR 19           /* the floor is negative, infinite or not a number; asked right after 6 */
 #define LP_FACTOR_SHAPE 20    /* blocks and closing zeros of a factor file do not fit n, lower and upper; before 2 */
 #define LP_PRODUCTS 21        /* products is not the sum over the lists; last */
-#define LP_RESIDUAL 22        /* a result on the way to a residual or its width is not finite: own row */
 
 /* Sides of the diagonal, for lp_list_plain and lp_list_shared. Every number but LP_LOWER is the upper side. */
 #define LP_LOWER 0
@@ -468,26 +466,6 @@ uint32_t lp_test_load(
     uint16_t *r, size_t r_len,
     uint16_t *c, size_t c_len,
     double *b, size_t b_len,
-    uint64_t *report, size_t report_len);
-
-/* Tells how far off a row's equation is at x, by own column, such as a solve left it: pair[0] is the residual and
- * pair[1] its width, as far as pair_len goes. The residual starts as b[row] and subtracts each product value * x in
- * stored order; a column that stands several times is so many entries. T starts as the magnitude of b[row] and adds
- * each product's magnitude; with q entries, the width is T * ((q + 2) * 2^-52) + q * 2^-1074; each operation is rounded
- * once. The exact residual of the stored numbers is never farther from pair[0] than pair[1]. With S the exact sum of
- * the magnitudes of b[row] and of all products, pair[1] is at most (2q + 10) * S / 2^53 + (2q + 4) / 2^1074.
- * Lengths: n + 1 for starts, e for columns and values, n for b and x.
- * Asks 1 to 4, 5 (the row is not below n), 6 (values, b, then x plus e + n), 7 (of that row only), then 22. A refusal
- * writes nothing but the report. report[0] is the place; there are no counts. */
-uint32_t lp_residual(
-    size_t n,
-    const uint32_t *starts, size_t starts_len,
-    const uint16_t *columns, size_t columns_len,
-    const double *values, size_t values_len,
-    const double *b, size_t b_len,
-    const double *x, size_t x_len,
-    uint32_t row,
-    double *pair, size_t pair_len,
     uint64_t *report, size_t report_len);
 
 #ifdef __cplusplus

@@ -1,4 +1,4 @@
-//! The foreign calls of include/lilacpliers.h, and the only unsafe code.
+//! The foreign calls of include/lilacpliers.h and include/lilacpliers_residual.h, and the only unsafe code.
 //!
 //! Every function here lends whole slices and vectors of their own, so that each pointer leads to as many slots as its
 //! length says and no written buffer overlaps another. The library itself refuses lengths that do not fit.
@@ -6,7 +6,7 @@ use crate::buffers::{Lists, Pair, Scratch, Values};
 use crate::form::Kept;
 use crate::{Counts, Matrix, Orders, Side};
 
-/// The functions as the header declares them: `lent` and `out` stand for a pointer and a length.
+/// The functions as the headers declare them: `lent` and `out` stand for a pointer and a length.
 mod raw {
     macro_rules! declare {
         ($name:ident [$($done:tt)*]) => { extern "C" { pub fn $name($($done)*) -> u32; } };

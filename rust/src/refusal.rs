@@ -24,7 +24,7 @@ pub struct Refusal {
 }
 
 impl Refusal {
-    /// The number of the question, as include/lilacpliers.h lists them.
+    /// The number of the question, as the headers list them.
     pub fn number(&self) -> u32 {
         self.number
     }

@@ -12,8 +12,8 @@
 #include <string.h>
 #include <xmmintrin.h>
 
-#if LP_VERSION != 8
-#error "this test is written for version 8 of the interface"
+#if LP_VERSION != 7
+#error "this test is written for version 7 of the interface"
 #endif
 
 #define NONE NULL, 0
@@ -547,31 +547,6 @@ static void test_load(void)
     expect_refused("1 comes before 2");
 }
 
-/* Asks for a row of the example at x, into a pair that held other numbers. */
-static uint32_t residual_of(uint32_t row, const double *scores, double pair[3])
-{
-    pair[0] = pair[1] = pair[2] = 7.0;
-    memset(report, 0xA5, sizeof report);
-    return lp_residual(N, LENT(starts), LENT(columns), LENT(values), LENT(right), scores, N, row, pair, 3,
-                       LENT(report));
-}
-
-static void residuals(void)
-{
-    static const double good[N] = {1, 2}, off[N] = {1, 2.125}, wide[N] = {1e308, 1e308}, none[N] = {0, INFINITY};
-    double pair[3];
-    expect(residual_of(0, good, pair) == LP_DONE && report[0] == 0, "residual");
-    expect(pair[0] == 0.0 && pair[1] == 80 * 0x1p-52 && pair[2] == 7.0, "residual and width of row 0");
-    expect(report[1] == report[3] && report[1] == 0xA5A5A5A5A5A5A5A5, "a residual's report has one slot");
-    expect(residual_of(1, off, pair) == LP_DONE && pair[0] == -0.5 && pair[1] == 74 * 0x1p-52, "row 1, off by a half");
-    expect(residual_of(N, good, pair) == LP_ORDER && report[0] == N, "residual, a row not below n");
-    expect(pair[0] == 7.0 && pair[1] == 7.0, "5 writes nothing but the report");
-    expect(residual_of(UINT32_MAX, good, pair) == LP_ORDER && report[0] == UINT32_MAX, "residual, the greatest row");
-    expect(residual_of(0, none, pair) == LP_NOT_FINITE && report[0] == E + N + 1, "residual, x not finite");
-    expect(residual_of(1, wide, pair) == LP_RESIDUAL && report[0] == 1, "residual, a product over the greatest number");
-    expect(pair[0] == 7.0 && pair[1] == 7.0, "22 writes nothing but the report");
-}
-
 /* The most rows and entries that the length macros are tried with; SHEET_ROWS is more than three pages. */
 enum { ROWS = 40, ENTRIES = 160, SHEET_ROWS = 150 };
 
@@ -768,7 +743,6 @@ static void nulls(void)
     expect(lp_write_factors(1, 0, 0, 0, NONE, NONE, NONE, NONE, NONE, NONE, NONE, NONE, NONE, NONE,
                             NONE) == LP_LENGTHS, "write factors, all NULL");
     expect(lp_test_load(1, 1, NONE, NONE, NONE, NONE, NONE, NONE, NONE) == LP_LENGTHS, "load, all NULL");
-    expect(lp_residual(1, NONE, NONE, NONE, NONE, NONE, 0, NONE, NONE) == LP_LENGTHS, "residual, all NULL");
 }
 
 /* Bits of MXCSR, the register of the floating-point environment. */
@@ -822,22 +796,6 @@ static int traps(unsigned environment, double value)
     return signal_number == SIGFPE;
 }
 
-/* Whether a residual that is refused with 22 ends in a trap. */
-static int residual_traps(unsigned environment)
-{
-    static const double wide[N] = {1e308, 1e308};
-    double pair[3];
-    void (*usual)(int) = signal(SIGFPE, trapped);
-    int signal_number = setjmp(before_trap);
-    if (signal_number == 0) {
-        _mm_setcsr(environment);
-        residual_of(1, wide, pair);
-    }
-    _mm_setcsr(DEFAULT);
-    signal(SIGFPE, usual);
-    return signal_number == SIGFPE;
-}
-
 static void environments(void)
 {
     double solution = 0.0;
@@ -851,8 +809,6 @@ static void environments(void)
     expect(solve_in(DEFAULT, 0x1p-1024, 1.0, &solution) == LP_OVERFLOW, "2^-1024 overflows");
     expect(!traps(DEFAULT, 0x1p-1024), "the default environment does not trap");
     expect(traps(DEFAULT & ~OVERFLOW_MASKED, 0x1p-1024), "with a trap for overflow 2^-1024 ends in a signal");
-    expect(!residual_traps(DEFAULT), "the default environment does not trap in a residual");
-    expect(residual_traps(DEFAULT & ~OVERFLOW_MASKED), "with a trap for overflow a residual ends in a signal");
     expect(!traps(DEFAULT & ~ZERO_DIVISION_MASKED, 0x1p-1024) && !traps(DEFAULT & ~ZERO_DIVISION_MASKED, 0.0),
            "nothing is divided by zero");
     expect(!traps(DEFAULT & ~INVALID_MASKED, 3.0), "a solve that is done has no invalid operation");
@@ -868,7 +824,6 @@ int main(void)
     cited_twice();
     fill_sheet();
     test_load();
-    residuals();
     lengths();
     factor_lengths();
     sheet_lengths();

@@ -1,11 +1,11 @@
-//! The C interface of the library (include/lilacpliers.h), and safe calls of it that watch the slots around every
-//! lent buffer.
+//! The C interface of the library (include/lilacpliers.h, include/lilacpliers_residual.h), and safe calls of it that
+//! watch the slots around every lent buffer.
 use crate::compare::{self, differ, Compared, Difference};
 use crate::model::*;
 use crate::reference::Lists;
 use std::cell::Cell;
 
-/// The functions as the header declares them: `lent` and `out` stand for a pointer and a length, `count` for a number of
+/// The functions as the headers declare them: `lent` and `out` stand for a pointer and a length, `count` for a number of
 /// 64 bits, `real` for a double.
 pub mod raw {
     macro_rules! declare {

@@ -131,7 +131,7 @@ fn named(refusals: bool) -> Result<Vec<(String, usize)>, Difference> {
 /// The table of refusals begins each row with the header's number and name, in order.
 fn refusals() -> Compared {
     let named = named(true)?;
-    compare::same("refusals of the header", &named.len(), &22)?;
+    compare::same("refusals of the header", &named.len(), &21)?;
     let expected: Vec<String> = named.iter().map(|(name, number)| format!("| {number} | `{name}` |")).collect();
     let cells = |line: &str| line.split_inclusive('|').take(3).collect::<String>() + "\n";
     let begins: String = text_of(GUIDE)?.lines().map(cells).collect();

@@ -1,4 +1,4 @@
-//! The C header: read by a C compiler, and used by a C program with the library.
+//! The C headers: each read by a C compiler, and used by a C program with the library.
 use super::Tally;
 use crate::compare::{self, Compared};
 use std::path::PathBuf;
@@ -11,10 +11,10 @@ pub fn repository() -> PathBuf {
 
 const WARNINGS: [&str; 5] = ["-std=c99", "-Wall", "-Wextra", "-Werror", "-pedantic"];
 
-fn gcc() -> Command {
+fn gcc(program: &str) -> Command {
     let root = repository();
     let mut command = Command::new("gcc");
-    command.args(WARNINGS).arg("-I").arg(root.join("include")).arg(root.join("tests/c/header_test.c"));
+    command.args(WARNINGS).arg("-I").arg(root.join("include")).arg(root.join(format!("tests/c/{program}.c")));
     command
 }
 
@@ -27,27 +27,29 @@ fn succeeds(what: &str, mut command: Command) -> Compared {
     }
 }
 
-fn syntax() -> Compared {
-    let mut command = gcc();
+fn syntax(program: &str) -> Compared {
+    let mut command = gcc(program);
     command.arg("-fsyntax-only");
     succeeds("gcc -fsyntax-only", command)
 }
 
-fn linked() -> Compared {
+fn linked(name: &str) -> Compared {
     let folder = std::env::temp_dir().join(format!("lilacpliers-header-{}", std::process::id()));
     if let Err(error) = std::fs::create_dir_all(&folder) {
         return compare::differ("temporary folder", error.to_string(), "made");
     }
-    let program = folder.join("header_test");
-    let mut command = gcc();
+    let program = folder.join(name);
+    let mut command = gcc(name);
     command.arg(repository().join("crates/capi/out/libcapi.a")).arg("-o").arg(&program);
-    let result = succeeds("gcc", command).and_then(|()| succeeds("header_test", Command::new(&program)));
+    let result = succeeds("gcc", command).and_then(|()| succeeds(name, Command::new(&program)));
     let _ = std::fs::remove_dir_all(&folder);
     result
 }
 
-/// Checks the header by itself, and with a C program that uses the library.
+/// Checks the headers by themselves, and with C programs that use the library.
 pub fn run(tally: &mut Tally) {
-    tally.add(|| "C header".to_string(), syntax());
-    tally.add(|| "C program over the library".to_string(), linked());
+    tally.add(|| "C header".to_string(), syntax("header_test"));
+    tally.add(|| "C program over the library".to_string(), linked("header_test"));
+    tally.add(|| "C header of the residual".to_string(), syntax("residual_test"));
+    tally.add(|| "C program over the library, the residual".to_string(), linked("residual_test"));
 }

@@ -1,4 +1,4 @@
-//! No compiler compares the C header, the declarations in Rust and the exports of the library: the texts are compared.
+//! No compiler compares the C headers, the declarations in Rust and the exports of the library: the texts are compared.
 use super::header::repository;
 use super::Tally;
 use crate::compare::{self, Compared, Difference};
@@ -111,6 +111,11 @@ fn same_signatures(found: &Signatures, expected: &Signatures) -> Compared {
     compare::same("functions", &found.len(), &expected.len())
 }
 
+/// The headers, one behind the other.
+fn headers() -> Result<String, Difference> {
+    Ok(text_of("include/lilacpliers.h")? + &text_of("include/lilacpliers_residual.h")?)
+}
+
 /// The declarations of a file against the text of the header.
 fn declarations(path: &str, header: &str) -> Compared {
     same_signatures(&declared_signatures(&text_of(path)?), &header_signatures(header))
@@ -165,7 +170,7 @@ fn commented(text: &str) -> Compared {
 
 /// Checks that header, declarations and exports have the same functions with the same arguments.
 pub fn run(tally: &mut Tally) {
-    let header = match text_of("include/lilacpliers.h") {
+    let header = match headers() {
         Ok(text) => text,
         Err(difference) => return tally.add(|| "header".to_string(), Err(difference)),
     };
