@@ -1,4 +1,3 @@
-use borrow.Author.Rules.{rules}
 use Rattle.capi.proofs.lp_factor_shape.Goals as goal
 
 pub returns : goal.returns

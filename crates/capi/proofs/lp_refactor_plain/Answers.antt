@@ -1,5 +1,4 @@
 use Rattle.report.proofs.Laws.{told}
-use borrow.Author.Rules.{rules}
 use Rattle.capi.proofs.lp_refactor_plain.Goals as goal
 
 pub returns : goal.returns

@@ -1,5 +1,4 @@
 use Rattle.report.proofs.Laws.{reported}
-use borrow.Author.Rules.{rules}
 use Rattle.capi.proofs.lp_write_factors.Goals as goal
 
 pub returns : goal.returns
