@@ -304,7 +304,7 @@ fn ask_copies(
     questions::ask_orders(n, rows, columns, marks)
 }
 
-// Asks 5 of the orders that stand at `r` and at `c`. It takes 32 k_b of the stack.
+// Asks 5 of the orders that stand at `r` and at `c`. It takes 32 kB of the stack.
 fn ask_orders_in(file: &[u8], n: usize, r: usize, c: usize) -> Asked
     requires { (n ≤ max_rows) × (r + 2 * n ≤ room file.now) × (c + 2 * n ≤ room file.now) }
     ensures { result ≡ ask5 n (fields_at 2 file.now r n) (fields_at 2 file.now c n) }
@@ -409,7 +409,7 @@ fn ask_15(
     Asked::Pass
 }
 
-// Asks 5 of lent orders. It takes 16 k_b of the stack.
+// Asks 5 of lent orders. It takes 16 kB of the stack.
 fn ask_orders(n: usize, r: &[Index], c: &[Index]) -> Asked
     requires { (n ≤ max_rows) × (length r.now ≡ n) × (length c.now ≡ n) }
     ensures { result ≡ ask5 n r.now c.now }
