@@ -1,4 +1,5 @@
 -- Demand 3 proved: the three solves answer alike, and what they answer.
+use Rattle.std.specs.Prelude.{Some, Ok, None, Err}
 use mathlib.Core.Path.{◌≡◌, refl, sym, ap, ◌∙◌, subst, fun_ext}
 use mathlib.Core.Bool.{true, true≢false}
 use mathlib.Core.Logic.{◌⊎◌, inl, inr, ◌↔◌}
@@ -11,14 +12,8 @@ use Rattle.base.specs.First.{first}
 use Rattle.base.specs.FirstLaws.{first-none, first_found}
 use Rattle.arithmetic.specs.Arith.{Fault, zero_pivot, overflow, Out, ok, met, Result, whole_run}
 use Rattle.arithmetic.specs.Meets.{Meets, judged-meets, judged-value}
-use Rattle.base.specs.declared.Found.{Found}
-use Rattle.base.specs.declared.Found.TheVariants.{At, Nothing}
 use Rattle.base.specs.declared.Counts.{Counts}
 use Rattle.base.specs.declared.Refusal.{Refusal}
-use Rattle.base.specs.declared.Asked.{Asked}
-use Rattle.base.specs.declared.Asked.TheVariants.{Pass, Stop}
-use Rattle.base.specs.declared.Answer.{Answer}
-use Rattle.base.specs.declared.Answer.TheVariants.{Done, Refused}
 use Rattle.matrix.specs.Input.{Input, stored, own_order}
 use Rattle.outcome.specs.Calls.{SolvesPlain, SolvesShared, SolvesByRow}
 use Rattle.outcome.specs.Solve.{system, listed, fault_of, earlier, solve, Solves}
@@ -31,7 +26,7 @@ use lib.Ieee.{Float}
 use mathlib.Core.List.{List}
 use borrow.Author.Tests.{not-true, not-false}
 use Rattle.outcome.specs.Buffers.{plain_buffers, shared_buffers, row_buffers, Buffers, sizes, Outcome}
-use Rattle.base.specs.Answers.{number_of, number_of_answer, counts_of, absent, place_of_answer}
+use Rattle.base.specs.Answers.{number_of, number_of_answer, counts_of, absent, place_of_answer, Pass, Found, Asked, Answer}
 use Rattle.base.specs.Tests.{by-test}
 use Rattle.outcome.proofs.Asking.{number-some, turned, Within}
 use Rattle.outcome.proofs.Places.{null, null_at, wants, wanting, Fails, unfilled, lack, places-pass, places-stop, lack-stops, only_null}
@@ -49,7 +44,7 @@ back→ i k = (diagonal-walk (stored i) k).1
 abbrev nulls : Input → Found
 nulls i = first (null (stored i)) i.n
 
-null-found : (i : Input) (k : ℕ) → nulls i ≡ At k → FirstNull i k
+null-found : (i : Input) (k : ℕ) → nulls i ≡ Some k → FirstNull i k
 null-found i k e =
     let h = first_found (null (stored i)) i.n k e in
     record {
@@ -58,7 +53,7 @@ null-found i k e =
       before = λ j l. →back i j (not-false (filled (stored i) j j) (first-none (null (stored i)) k h.2 j l));
     }
 
-null-none : (i : Input) → nulls i ≡ Nothing → AllBack i
+null-none : (i : Input) → nulls i ≡ None → AllBack i
 null-none i e k l = →back i k (not-false (filled (stored i) k k) (first-none (null (stored i)) i.n e k l))
 
 -- ---- what is answered without a lack of slots
@@ -80,8 +75,8 @@ answer-is f i s h room = solve-answer f i s ∙ go (earlier f i (sizes s)) refl
     same = earlier-stated f i (sizes s) h
 
     go : (a : Asked) → earlier f i (sizes s) ≡ a → verdict (earlier f i (sizes s)) (ask_places f (stored i) i.n (sizes s) i.n) (listed i) (counts i) ≡ expected i
-    go (Stop q) e = rw (← same, e)
-    go Pass e = rw (← same, e, only_null f (stored i) i.n (sizes s) i.n (fits-unless f i s room e))
+    go (Err q) e = rw (← same, e)
+    go (Ok _) e = rw (← same, e, only_null f (stored i) i.n (sizes s) i.n (fits-unless f i s room e))
 
 -- ---- what is told
 
@@ -106,7 +101,7 @@ record Heard (i : Input) (a : Answer) : Type 0 where
   solution : (number_of_answer a ≡ 0) ↔ (AllBack i × ((q : Fault) → listed i ≡ met q → ⊥))
 
 told : (i : Input) (f : Found) (l : Out Result) → nulls i ≡ f → listed i ≡ l → Heard i (verdict Pass (absent f null_at) l (counts i))
-told i (At k) l g e =
+told i (Some k) l g e =
     let n = null-found i k g in
     record {
       null = (λ h. (k, n.below, n.none), λ h. refl);
@@ -115,7 +110,7 @@ told i (At k) l g e =
       over = λ j. (λ h. absurd (omega (arith, h.0)), λ h. absurd (n.none (h.0 k n.below)));
       solution = (λ h. absurd (omega arith), λ h. absurd (n.none (h.0 k n.below)));
     }
-told i Nothing (met (zero_pivot k)) g e =
+told i None (met (zero_pivot k)) g e =
     let all = null-none i g in
     record {
       null = (λ h. absurd (omega arith), λ h. absurd (h.2 (all h.0 h.1)));
@@ -124,7 +119,7 @@ told i Nothing (met (zero_pivot k)) g e =
       over = λ j. (λ h. absurd (omega (arith, h.0)), λ h. absurd (zero-over k j (sym e ∙ h.1)));
       solution = (λ h. absurd (omega arith), λ h. absurd (h.1 (zero_pivot k) e));
     }
-told i Nothing (met (overflow k)) g e =
+told i None (met (overflow k)) g e =
     let all = null-none i g in
     record {
       null = (λ h. absurd (omega arith), λ h. absurd (h.2 (all h.0 h.1)));
@@ -133,7 +128,7 @@ told i Nothing (met (overflow k)) g e =
       over = λ j. (λ h. (all, e ∙ ap (λ (m : ℕ). met (overflow m)) h.1), λ h. (refl, met-over k j (sym e ∙ h.1)));
       solution = (λ h. absurd (omega arith), λ h. absurd (h.1 (overflow k) e));
     }
-told i Nothing (ok a) g e =
+told i None (ok a) g e =
     let all = null-none i g in
     record {
       null = (λ h. absurd (omega arith), λ h. absurd (h.2 (all h.0 h.1)));
@@ -165,10 +160,10 @@ heard f i s h room p =
 
 -- a solution's counts are the paper's
 counts-told : (a b : Asked) (o : Out Result) (c : Counts) → number_of_answer (verdict a b o c) ≡ 0 → counts_of (verdict a b o c) ≡ c
-counts-told (Stop q) b o c e = absurd (number-some q e)
-counts-told Pass (Stop q) o c e = absurd (number-some q e)
-counts-told Pass Pass (met q) c e = absurd (number-some (fault_of q) e)
-counts-told Pass Pass (ok a) c e = refl
+counts-told (Err q) b o c e = absurd (number-some q e)
+counts-told (Ok _) (Err q) o c e = absurd (number-some q e)
+counts-told (Ok _) (Ok _) (met q) c e = absurd (number-some (fault_of q) e)
+counts-told (Ok _) (Ok _) (ok a) c e = refl
 
 -- x after a solution is what the listed operations come to
 bits-told : (f : Form) (i : Input) (s : Buffers) → number_of_answer (solve f i s).answer ≡ 0 → (solve f i s).buffers.x ≡ own_order i.c i.n (result i).z
@@ -176,7 +171,7 @@ bits-told f i s e = let b = solve-x f i s e in b.2 ∙ ap (λ (a : Result). own_
 
 -- ---- short of slots
 
-early-not : (a : Asked) (q : Refusal) → Early a → a ≡ Stop q → ((number_of q ≡ 10) ⊎ (number_of q ≡ 11)) → ⊥
+early-not : (a : Asked) (q : Refusal) → Early a → a ≡ Err q → ((number_of q ≡ 10) ⊎ (number_of q ≡ 11)) → ⊥
 unfolding Within
 early-not a q h e (inl n) = omega (arith, (h q e).1, turned q)
 early-not a q h e (inr n) = omega (arith, (h q e).1, turned q)
@@ -190,17 +185,17 @@ fault-not (overflow k) (inr n) = omega arith
 abbrev Slots : Answer → Type 0
 Slots a = (number_of_answer a ≡ 10) ⊎ (number_of_answer a ≡ 11)
 
-zero-not : (c : Counts) → Slots (Done c) → ⊥
+zero-not : (c : Counts) → Slots (Ok c) → ⊥
 zero-not c (inl n) = omega arith
 zero-not c (inr n) = omega arith
 
-slots-from : (a b : Asked) (o : Out Result) (c : Counts) → Early a → Slots (verdict a b o c) → (a ≡ Pass) × (q : Refusal) × (b ≡ Stop q) × ((number_of q ≡ 10) ⊎ (number_of q ≡ 11))
-slots-from (Stop q) b o c h n = absurd (early-not (Stop q) q h refl n)
-slots-from Pass (Stop q) o c h n = (refl, q, refl, n)
-slots-from Pass Pass (ok r) c h n = absurd (zero-not c n)
-slots-from Pass Pass (met q) c h n = absurd (fault-not q n)
+slots-from : (a b : Asked) (o : Out Result) (c : Counts) → Early a → Slots (verdict a b o c) → (a ≡ Pass) × (q : Refusal) × (b ≡ Err q) × ((number_of q ≡ 10) ⊎ (number_of q ≡ 11))
+slots-from (Err q) b o c h n = absurd (early-not (Err q) q h refl n)
+slots-from (Ok _) (Err q) o c h n = (refl, q, refl, n)
+slots-from (Ok _) (Ok _) (ok r) c h n = absurd (zero-not c n)
+slots-from (Ok _) (Ok _) (met q) c h n = absurd (fault-not q n)
 
-slots-to : (a b : Asked) (o : Out Result) (c : Counts) (q : Refusal) → a ≡ Pass → b ≡ Stop q → ((number_of q ≡ 10) ⊎ (number_of q ≡ 11)) → Slots (verdict a b o c)
+slots-to : (a b : Asked) (o : Out Result) (c : Counts) (q : Refusal) → a ≡ Pass → b ≡ Err q → ((number_of q ≡ 10) ⊎ (number_of q ≡ 11)) → Slots (verdict a b o c)
 slots-to a b o c q e h n = rw (e, h) n
 
 number-null : (q : Refusal) (k : ℕ) → q ≡ null_at k → ((number_of q ≡ 10) ⊎ (number_of q ≡ 11)) → ⊥
@@ -239,7 +234,7 @@ short-told f i s = (from, to)
 
 -- ---- demand 3
 
-early-told : (a b : Asked) (o : Out Result) (c : Counts) (q : Refusal) → a ≡ Stop q → verdict a b o c ≡ Refused q
+early-told : (a b : Asked) (o : Out Result) (c : Counts) (q : Refusal) → a ≡ Err q → verdict a b o c ≡ Err q
 early-told a b o c q e = rw e
 
 -- "For every matrix, orders and right side, the solves .., with buffers of the stated lengths, whatever these held before, .."

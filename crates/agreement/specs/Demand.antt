@@ -1,8 +1,8 @@
 -- Demand 3 in words, as types: what the three solves owe each other and the paper. Definitions only.
-use Rattle.std.specs.Prelude.{◌≡◌, true, ◌⊎◌, ◌↔◌, List, ℕ, suc, ◌≤◌, ◌<◌}
+use Rattle.std.specs.Prelude.{◌≡◌, true, ◌⊎◌, ◌↔◌, List, ℕ, suc, ◌≤◌, ◌<◌, Err}
 use Rattle.fill.specs.Fill.{Walk}
 use Rattle.base.specs.All.{all}
-use Rattle.base.specs.Answers.{number_of_answer, place_of_answer, counts_of}
+use Rattle.base.specs.Answers.{number_of_answer, place_of_answer, counts_of, Pass, Answer}
 use Rattle.arithmetic.specs.Arith.{Event, Fault, zero_pivot, overflow, Result, whole_run}
 use Rattle.arithmetic.specs.Meets.{Meets}
 use Rattle.matrix.specs.Input.{Input, stored, own_order}
@@ -13,10 +13,7 @@ use Rattle.outcome.specs.Solve.{system, earlier}
 use Rattle.base.specs.declared.Form.{Form}
 use Rattle.base.specs.declared.Form.TheVariants.{Plain, Shared, ByRow}
 use Rattle.base.specs.declared.Side.{Side}
-use Rattle.base.specs.declared.Asked.TheVariants.{Pass, Stop}
 use Rattle.base.specs.declared.Refusal.{Refusal}
-use Rattle.base.specs.declared.Answer.{Answer}
-use Rattle.base.specs.declared.Answer.TheVariants.{Refused}
 
 -- "a walk back is one from k to k as under Fill"
 abbrev pub WalkBack : Input → ℕ → Type 0
@@ -82,7 +79,7 @@ pub record FormsAgree (i : Input) (s : Form → Buffers) (a : Form → Answer) (
   -- "x is untouched by every refusal": each x is that of its own entry
   pub untouched : (f : Form) → 1 ≤ number_of_answer (a f) → (t f).x ≡ (s f).x
   -- an earlier question that is answered no is the answer, short of slots or not; the forms put the same ones
-  pub early : (f : Form) (q : Refusal) → earlier f i (sizes (s f)) ≡ Stop q → a f ≡ Refused q
+  pub early : (f : Form) (q : Refusal) → earlier f i (sizes (s f)) ≡ Err q → a f ≡ Err q
   pub asked : (f g : Form) → earlier f i (sizes (s f)) ≡ earlier g i (sizes (s g))
   -- "Once the paper's earlier questions are passed, the answer is null pivot exactly when some place has no such walk back to itself,"
   pub null : (f : Form) → Roomy f i (s f) → Passed f i (s f) → (number_of_answer (a f) ≡ 9) ↔ ((k : ℕ) × (k < i.n) × (WalkBack i k → ⊥))

@@ -1,23 +1,33 @@
--- The paper's number, place, counts and entries for each case of an answer; questions one after another; what a call leaves. Definitions only.
-use Rattle.std.specs.Prelude.{ℕ, Bool, true, false}
+-- The paper's number, place, counts and entries of how a call ends; questions one after another; what a call leaves. Definitions only.
+use Rattle.std.specs.Prelude.{ℕ, Bool, true, false, Some, None, Ok, Err}
+use Rattle.std.specs.declared.option.Option.{Option}
+use Rattle.std.specs.declared.result.Result.{Result}
 use Rattle.base.specs.declared.OwnNumber.{OwnNumber}
 use Rattle.base.specs.declared.Place.{Place}
 use Rattle.base.specs.declared.Counts.{Counts}
+use Rattle.base.specs.declared.FactorSizes.{FactorSizes}
 use Rattle.base.specs.declared.Refusal.{Refusal}
 use Rattle.base.specs.declared.Refusal.TheVariants.{Rows, Lengths, Starts, Column, Order, NotFinite, EmptyRow, NullPivot, LowerSlots, UpperSlots, ZeroPivot, Overflow, OtherStructure, BadFactors, FileLength, Block, FileShape, Floor, FactorShape, Products}
-use Rattle.base.specs.declared.Found.{Found}
-use Rattle.base.specs.declared.Found.TheVariants.{At, Nothing}
-use Rattle.base.specs.declared.Asked.{Asked}
-use Rattle.base.specs.declared.Asked.TheVariants.{Pass, Stop}
-use Rattle.base.specs.declared.Answer.{Answer}
-use Rattle.base.specs.declared.Answer.TheVariants.{Done, Refused}
-use Rattle.base.specs.declared.Ended.{Ended}
-use Rattle.base.specs.declared.Ended.TheVariants as ends
-use Rattle.base.specs.declared.FactorSizes.{FactorSizes}
-use Rattle.base.specs.declared.Kept.{Kept}
-use Rattle.base.specs.declared.Kept.TheVariants as keeps
-use Rattle.base.specs.declared.Made.{Made}
-use Rattle.base.specs.declared.Made.TheVariants as makes
+
+-- the first index at which a test holds, or none
+abbrev pub Found : Type 0
+Found = Option ℕ
+
+-- what a question, or a run of questions, answers, and how a call without counts ends
+abbrev pub Asked : Type 0
+Asked = Result (Unit {0}) Refusal
+
+-- how a structure call or a solve ends
+abbrev pub Answer : Type 0
+Answer = Result Counts Refusal
+
+-- how a call that makes a matrix ends: with so many entries, or not
+abbrev pub Made : Type 0
+Made = Result ℕ Refusal
+
+-- what a factor file is found to hold: factors of these sizes, or none
+abbrev pub Kept : Type 0
+Kept = Result FactorSizes Refusal
 
 -- "Questions, in order": the number of each
 abbrev pub number_of : Refusal → ℕ
@@ -66,52 +76,28 @@ place_of FactorShape = 0
 place_of Products = 0
 
 -- 0 for done
-abbrev pub number_of_answer : Answer → ℕ
-number_of_answer (Done c) = 0
-number_of_answer (Refused q) = number_of q
+abbrev pub number_of_answer : {A : Type 0} → Result A Refusal → ℕ
+number_of_answer (Ok a) = 0
+number_of_answer (Err q) = number_of q
 
-abbrev pub place_of_answer : Answer → ℕ
-place_of_answer (Done c) = 0
-place_of_answer (Refused q) = place_of q
+abbrev pub place_of_answer : {A : Type 0} → Result A Refusal → ℕ
+place_of_answer (Ok a) = 0
+place_of_answer (Err q) = place_of q
 
 -- "its counts are then 0"
 abbrev pub counts_of : Answer → Counts
-counts_of (Done c) = c
-counts_of (Refused q) = record { lower = 0; upper = 0; products = 0 }
-
-abbrev pub number_of_end : Ended → ℕ
-number_of_end ends.Done = 0
-number_of_end (ends.Refused q) = number_of q
-
-abbrev pub place_of_end : Ended → ℕ
-place_of_end ends.Done = 0
-place_of_end (ends.Refused q) = place_of q
-
-abbrev pub number_of_made : Made → ℕ
-number_of_made (makes.Entries e) = 0
-number_of_made (makes.Refused q) = number_of q
-
-abbrev pub place_of_made : Made → ℕ
-place_of_made (makes.Entries e) = 0
-place_of_made (makes.Refused q) = place_of q
+counts_of (Ok c) = c
+counts_of (Err q) = record { lower = 0; upper = 0; products = 0 }
 
 -- "and the entry count is returned": 0 after a refusal
 abbrev pub entries_of : Made → ℕ
-entries_of (makes.Entries e) = e
-entries_of (makes.Refused q) = 0
-
-abbrev pub number_of_kept : Kept → ℕ
-number_of_kept (keeps.Factors s) = 0
-number_of_kept (keeps.Refused q) = number_of q
-
-abbrev pub place_of_kept : Kept → ℕ
-place_of_kept (keeps.Factors s) = 0
-place_of_kept (keeps.Refused q) = place_of q
+entries_of (Ok e) = e
+entries_of (Err q) = 0
 
 -- n, lower and upper of factors: 0 after a refusal
 abbrev pub sizes_of_kept : Kept → FactorSizes
-sizes_of_kept (keeps.Factors s) = s
-sizes_of_kept (keeps.Refused q) = record { n = 0; lower = 0; upper = 0 }
+sizes_of_kept (Ok s) = s
+sizes_of_kept (Err q) = record { n = 0; lower = 0; upper = 0 }
 
 -- an own number, and an elimination place
 abbrev pub own : ℕ → OwnNumber
@@ -122,20 +108,24 @@ spot k = record { 0 = k }
 
 -- ---- questions one after another
 
+-- a question that is passed
+abbrev pub Pass : Asked
+Pass = Ok tt
+
 -- a test that must hold
 abbrev pub holds : Bool → Refusal → Asked
 holds true q = Pass
-holds false q = Stop q
+holds false q = Err q
 
 -- a fault that must not be found, refused by where it is
 abbrev pub absent : Found → (ℕ → Refusal) → Asked
-absent (At k) f = Stop (f k)
-absent Nothing f = Pass
+absent (Some k) f = Err (f k)
+absent None f = Pass
 
 -- "A 'no' ends the call": the first question, and then the second
 abbrev pub and_then : Asked → Asked → Asked
-and_then (Stop q) next = Stop q
-and_then Pass next = next
+and_then (Err q) next = Err q
+and_then (Ok u) next = next
 
 -- ---- what a call leaves
 
@@ -149,5 +139,5 @@ left a h = record { answer = a; held = h }
 
 -- "refusals write nothing": the new contents, or the old
 abbrev pub or_untouched : {R A : Type 0} → (Refusal → R) → Asked → R → A → A → Left R A
-or_untouched refused Pass done new old = left done new
-or_untouched refused (Stop q) done new old = left (refused q) old
+or_untouched refused (Ok u) done new old = left done new
+or_untouched refused (Err q) done new old = left (refused q) old

@@ -1,12 +1,12 @@
 // The words in which every call answers, index numbers and lengths, and the clearing of lent buffers.
 #![tactic(auto)]
 
-ghost use Rattle.std.specs.Prelude.{◌≡◌, ◌<◌};
+ghost use Rattle.std.specs.Prelude.{◌≡◌, ℕ, ◌<◌, set};
 ghost use Rattle.std.specs.Float.Ieee.Scale.{finite};
 ghost use Rattle.base.specs.Lists.{blank, nought};
 ghost use Rattle.base.specs.Magnitude.{magnitude, at_most};
 ghost use Rattle.base.specs.Index.{index_bound};
-ghost use Rattle.base.specs.Answers.{number_of, place_of, number_of_answer, place_of_answer, counts_of, number_of_end, place_of_end, number_of_made, place_of_made, entries_of, number_of_kept, place_of_kept, sizes_of_kept};
+ghost use Rattle.base.specs.Answers.{number_of, place_of, number_of_answer, place_of_answer, counts_of, entries_of, sizes_of_kept};
 
 pub mod scratch;
 
@@ -45,13 +45,6 @@ pub fn slot(x: u32) -> usize
 }
 
 // ---- answers
-
-// The first index at which a test holds, or none.
-#[derive(Clone, Copy)]
-pub enum Found {
-    At(usize),
-    Nothing,
-}
 
 // A row or a column by its own number in the matrix.
 #[derive(Clone, Copy)]
@@ -138,27 +131,6 @@ pub enum Refusal {
     Products,
 }
 
-// What a question, or a run of questions, answers.
-#[derive(Clone, Copy)]
-pub enum Asked {
-    Pass,
-    Stop(Refusal),
-}
-
-// How a structure call or a solve ends.
-#[derive(Clone, Copy)]
-pub enum Answer {
-    Done(Counts),
-    Refused(Refusal),
-}
-
-// How a call without counts ends.
-#[derive(Clone, Copy)]
-pub enum Ended {
-    Done,
-    Refused(Refusal),
-}
-
 // The rows of factors in the plain form, and the entries of their two sides.
 #[derive(Clone, Copy)]
 pub struct FactorSizes {
@@ -167,27 +139,28 @@ pub struct FactorSizes {
     pub upper: usize,
 }
 
-// What a factor file is found to hold: factors of these sizes, or none.
-#[derive(Clone, Copy)]
-pub enum Kept {
-    Factors(FactorSizes),
-    Refused(Refusal),
+// What is told of how a call ends: the paper's number and place, of a refusal as of the call that it ends.
+pub trait Numbered {
+    ghost number_in: { Self → ℕ };
+
+    ghost place_in: { Self → ℕ };
+
+    // Gives the paper's number, 0 for done.
+    fn number(self) -> u32
+        ensures { result ≡ number_in self };
+
+    // Gives the paper's place, 0 for done and where it names none.
+    fn place(self) -> u32
+        ensures { result ≡ place_in self };
 }
 
-// How a call that makes a matrix ends: with so many entries, or not.
-#[derive(Clone, Copy)]
-pub enum Made {
-    Entries(usize),
-    Refused(Refusal),
-}
+impl Numbered for Refusal {
+    ghost number_in = { number_of };
 
-impl Refusal {
-    // Gives the paper's number.
-    pub fn number(self) -> u32
-        ensures { result ≡ number_of self }
-    {
-        let q = self;
-        match q {
+    ghost place_in = { place_of };
+
+    fn number(self) -> u32 {
+        match self {
             Refusal::Rows => 1,
             Refusal::Lengths => 2,
             Refusal::Starts(_) => 3,
@@ -211,28 +184,20 @@ impl Refusal {
         }
     }
 
-    // Gives the paper's place, 0 where it names none.
-    pub fn place(self) -> u32
-        ensures { result ≡ place_of self }
-    {
-        let q = self;
-        match q {
+    fn place(self) -> u32 {
+        match self {
+            Refusal::Starts(i) | Refusal::EmptyRow(i) => i.0,
+            Refusal::Column(p) | Refusal::Order(p) | Refusal::NotFinite(p) | Refusal::Block(p) => p,
+            Refusal::NullPivot(k)
+            | Refusal::LowerSlots(k)
+            | Refusal::UpperSlots(k)
+            | Refusal::ZeroPivot(k)
+            | Refusal::Overflow(k)
+            | Refusal::OtherStructure(k)
+            | Refusal::BadFactors(k) => k.0,
             Refusal::Rows => 0,
             Refusal::Lengths => 0,
-            Refusal::Starts(i) => i.0,
-            Refusal::Column(p) => p,
-            Refusal::Order(p) => p,
-            Refusal::NotFinite(p) => p,
-            Refusal::EmptyRow(i) => i.0,
-            Refusal::NullPivot(k) => k.0,
-            Refusal::LowerSlots(k) => k.0,
-            Refusal::UpperSlots(k) => k.0,
-            Refusal::ZeroPivot(k) => k.0,
-            Refusal::Overflow(k) => k.0,
-            Refusal::OtherStructure(k) => k.0,
-            Refusal::BadFactors(k) => k.0,
             Refusal::FileLength => 0,
-            Refusal::Block(p) => p,
             Refusal::FileShape => 0,
             Refusal::Floor => 0,
             Refusal::FactorShape => 0,
@@ -241,141 +206,53 @@ impl Refusal {
     }
 }
 
-impl Answer {
-    // Gives 0 for done, else the refusal's number.
-    pub fn number(self) -> u32
-        ensures { result ≡ number_of_answer self }
-    {
-        let a = self;
-        match a {
-            Answer::Done(_) => 0,
-            Answer::Refused(q) => q.number(),
+impl<T: Copy> Numbered for Result<T, Refusal> {
+    ghost number_in = { number_of_answer };
+
+    ghost place_in = { place_of_answer };
+
+    fn number(self) -> u32 {
+        match self {
+            Ok(_) => 0,
+            Err(q) => q.number(),
         }
     }
 
-    // Gives 0 for done, else the refusal's place.
-    pub fn place(self) -> u32
-        ensures { result ≡ place_of_answer self }
-    {
-        let a = self;
-        match a {
-            Answer::Done(_) => 0,
-            Answer::Refused(q) => q.place(),
-        }
-    }
-
-    // Gives the counts, 0 after a refusal.
-    pub fn counts(self) -> Counts
-        ensures { result ≡ counts_of self }
-    {
-        let a = self;
-        match a {
-            Answer::Done(c) => c,
-            Answer::Refused(_) => Counts {
-                lower: 0,
-                upper: 0,
-                products: 0,
-            },
+    fn place(self) -> u32 {
+        match self {
+            Ok(_) => 0,
+            Err(q) => q.place(),
         }
     }
 }
 
-impl Ended {
-    // Gives 0 for done, else the refusal's number.
-    pub fn number(self) -> u32
-        ensures { result ≡ number_of_end self }
-    {
-        let a = self;
-        match a {
-            Ended::Done => 0,
-            Ended::Refused(q) => q.number(),
-        }
-    }
-
-    // Gives 0 for done, else the refusal's place.
-    pub fn place(self) -> u32
-        ensures { result ≡ place_of_end self }
-    {
-        let a = self;
-        match a {
-            Ended::Done => 0,
-            Ended::Refused(q) => q.place(),
-        }
-    }
+// Gives the counts of a structure call or a solve, 0 after a refusal.
+pub fn counts_of(answer: Result<Counts, Refusal>) -> Counts
+    ensures { result ≡ counts_of answer }
+{
+    answer.unwrap_or(Counts {
+        lower: 0,
+        upper: 0,
+        products: 0,
+    })
 }
 
-impl Made {
-    // Gives 0 for made, else the refusal's number.
-    pub fn number(self) -> u32
-        ensures { result ≡ number_of_made self }
-    {
-        let a = self;
-        match a {
-            Made::Entries(_) => 0,
-            Made::Refused(q) => q.number(),
-        }
-    }
-
-    // Gives 0 for made, else the refusal's place.
-    pub fn place(self) -> u32
-        ensures { result ≡ place_of_made self }
-    {
-        let a = self;
-        match a {
-            Made::Entries(_) => 0,
-            Made::Refused(q) => q.place(),
-        }
-    }
-
-    // Gives the entries, 0 after a refusal.
-    pub fn entries(self) -> usize
-        ensures { result ≡ entries_of self }
-    {
-        let a = self;
-        match a {
-            Made::Entries(e) => e,
-            Made::Refused(_) => 0,
-        }
-    }
+// Gives the entries of a matrix that was made, 0 after a refusal.
+pub fn entries_of(made: Result<usize, Refusal>) -> usize
+    ensures { result ≡ entries_of made }
+{
+    made.unwrap_or(0)
 }
 
-impl Kept {
-    // Gives 0 for factors, else the refusal's number.
-    pub fn number(self) -> u32
-        ensures { result ≡ number_of_kept self }
-    {
-        let a = self;
-        match a {
-            Kept::Factors(_) => 0,
-            Kept::Refused(q) => q.number(),
-        }
-    }
-
-    // Gives 0 for factors, else the refusal's place.
-    pub fn place(self) -> u32
-        ensures { result ≡ place_of_kept self }
-    {
-        let a = self;
-        match a {
-            Kept::Factors(_) => 0,
-            Kept::Refused(q) => q.place(),
-        }
-    }
-
-    // Gives the sizes, 0 after a refusal.
-    pub fn sizes(self) -> FactorSizes
-        ensures { result ≡ sizes_of_kept self }
-    {
-        let a = self;
-        match a {
-            Kept::Factors(s) => s,
-            Kept::Refused(_) => FactorSizes {
-                n: 0,
-                lower: 0,
-                upper: 0,
-            },
-        }
-    }
+// Gives the sizes of the factors in a file, 0 after a refusal.
+pub fn sizes_of(kept: Result<FactorSizes, Refusal>) -> FactorSizes
+    ensures { result ≡ sizes_of_kept kept }
+{
+    kept.unwrap_or(FactorSizes {
+        n: 0,
+        lower: 0,
+        upper: 0,
+    })
 }
 
 // Tells whether x is neither a NaN nor an infinity: the difference of these with themselves is a NaN.
@@ -408,35 +285,52 @@ pub fn at_most(p: f64, f: f64) -> bool
     p <= f
 }
 
-// Writes 0 into every slot.
-pub fn clear_index(s: &mut [Index])
-    ensures { s.new ≡ blank 0 s.old }
-{
-    let mut i = 0;
-    while i < s.len() {
-        s[i] = 0;
-        i += 1;
+// A slot's zero: 0, or +0.
+pub trait Zero: Copy {
+    ghost nil: { Self };
+
+    fn zero() -> Self
+        ensures { result ≡ nil };
+}
+
+impl Zero for Index {
+    ghost nil = { 0 };
+
+    fn zero() -> Index {
+        0
     }
 }
 
-// Writes 0 into every slot.
-pub fn clear_u32(s: &mut [u32])
-    ensures { s.new ≡ blank 0 s.old }
-{
-    let mut i = 0;
-    while i < s.len() {
-        s[i] = 0;
-        i += 1;
+impl Zero for u32 {
+    ghost nil = { 0 };
+
+    fn zero() -> u32 {
+        0
     }
 }
 
-// Writes +0 into every slot.
-pub fn clear_f64(s: &mut [f64])
-    ensures { s.new ≡ blank nought s.old }
+impl Zero for f64 {
+    ghost nil = { nought };
+
+    fn zero() -> f64 {
+        0.0
+    }
+}
+
+// Writes zero into every slot.
+pub fn clear<T: Zero>(s: &mut [T])
+    ensures { s.new ≡ blank T.nil s.old }
 {
-    let mut i = 0;
-    while i < s.len() {
-        s[i] = 0.0;
-        i += 1;
+    for x in s.iter_mut() {
+        *x = T::zero();
+    }
+}
+
+// Writes v at a place, if s has it: a text or a report goes as far as its buffer does.
+pub fn put<T: Copy>(s: &mut [T], at: usize, v: T)
+    ensures { s.new ≡ set s.old at v }
+{
+    if at < s.len() {
+        s[at] = v;
     }
 }

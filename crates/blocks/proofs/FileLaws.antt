@@ -1,4 +1,5 @@
 -- The file of a stream passes its questions and holds the stream; a file that passes them is the file of its payloads.
+use Rattle.std.specs.Prelude.{Some, None, Err}
 use mathlib.Core.Path.{◌≡◌, refl, sym, ap, ◌∙◌}
 use mathlib.Core.Bool.{true, false, not, ◌&&◌}
 use mathlib.Core.List.{List, [], ◌∷◌, ◌++◌, append-nil}
@@ -16,10 +17,7 @@ use Rattle.base.specs.FirstLaws.{first-none, first-all, first_found, both-pass, 
 use Rattle.base.specs.TableLaws.{length-table, get_or-table, joined-ext}
 use Rattle.base.specs.ZerosLaws.{padded-length}
 use Rattle.base.specs.Tests.{and_cases}
-use Rattle.base.specs.Answers.{holds, absent}
-use Rattle.base.specs.declared.Found.{Found}
-use Rattle.base.specs.declared.Found.TheVariants.{At, Nothing}
-use Rattle.base.specs.declared.Asked.TheVariants.{Pass, Stop}
+use Rattle.base.specs.Answers.{holds, absent, Pass, Found}
 use Rattle.base.specs.declared.Refusal.TheVariants.{FileLength, Block}
 use Rattle.fields.specs.Numbers.{le, bytes}
 use Rattle.fields.specs.Payload.{place, room, payload, payloads, zero_from}
@@ -152,7 +150,7 @@ module _ (s : List ℕ) where
   file_of-asked some few =
       let n : length (file_of s) / 512 ≡ blocks = omega (arith, length-file_of) in
       let len = length-file_of in
-      let none : first (wrong_block (file_of s)) (length (file_of s) / 512) ≡ Nothing =
+      let none : first (wrong_block (file_of s)) (length (file_of s) / 512) ≡ None =
       rw n (first-all (wrong_block (file_of s)) blocks (λ k h. ap not (right-file_of few k h))) in
       rw (lt-ltb 0 (length (file_of s)) (omega arith), eq-eqb (length (file_of s) % 512) 0 (omega arith), le-leb (length (file_of s)) 2199023255552 (omega arith), none)
 
@@ -179,23 +177,23 @@ asked-whole file p =
 
 -- the ways to ask
 module _ (file : List ℕ) where
-  pub asked-16 : not (whole_blocks (length file)) ≡ true → Stop FileLength ≡ ask_blocks file
+  pub asked-16 : not (whole_blocks (length file)) ≡ true → Err FileLength ≡ ask_blocks file
   unfolding ask_blocks
   asked-16 w = rw (not-true (whole_blocks (length file)) w)
 
   module _ (f : Found) (w : not (whole_blocks (length file)) ≡ false) (e : f ≡ first_wrong file) where
     -- 2^41 bytes are 2^32 blocks
-    pub block-fits : (k : ℕ) → f ≡ At k → k < 2 ^ 32
+    pub block-fits : (k : ℕ) → f ≡ Some k → k < 2 ^ 32
     block-fits k a =
         let whole = whole_parts (length file) (not-false (whole_blocks (length file)) w) in
         let l = (first_found (wrong_block file) (length file / 512) k (sym e ∙ a)).0 in
         omega arith
 
-    pub asked-17 : (k : ℕ) → f ≡ At k → Stop (Block k) ≡ ask_blocks file
+    pub asked-17 : (k : ℕ) → f ≡ Some k → Err (Block k) ≡ ask_blocks file
     unfolding ask_blocks
     asked-17 k a = rw (not-false (whole_blocks (length file)) w, ← e, a)
 
-    pub asked-pass : f ≡ Nothing → Pass ≡ ask_blocks file
+    pub asked-pass : f ≡ None → Pass ≡ ask_blocks file
     unfolding ask_blocks
     asked-pass a = rw (not-false (whole_blocks (length file)) w, ← e, a)
 

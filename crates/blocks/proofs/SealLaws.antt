@@ -79,36 +79,31 @@ module _ (l : List ℕ) (k : ℕ) (h : 512 * k + 512 ≤ length l) where
 abbrev pub sealed_at : List ℕ → ℕ → List ℕ
 sealed_at l k = seal_block k (payload_of l k)
 
-pub record Sealing (l : List ℕ) (n : ℕ) (file : List ℕ) (k : ℕ) : Type 0 where
-  pub within : k ≤ n
-  pub long : length file ≡ length l
-  pub held : file ≡ joined (sealed_at l) k ++ drop (512 * k) l
-
 length-sealed : (l : List ℕ) (k : ℕ) → 512 * k ≤ length l → length (joined (sealed_at l) k) ≡ 512 * k
 unfolding joined
 length-sealed l zero h = refl
 length-sealed l (suc k) h =
     simp (length-append, length-sealed l k (omega arith), length-seal_block k (payload_of l k) (length-payload l k (omega arith))) (omega arith)
 
-pub seal-start : (l : List ℕ) (n : ℕ) → Sealing l n l 0
-unfolding joined
-seal-start l n = record { within = omega arith; long = refl; held = refl }
+-- k blocks are sealed
+abbrev pub Sealing : List ℕ → List ℕ → ℕ → Type 0
+Sealing l file k = file ≡ joined (sealed_at l) k ++ drop (512 * k) l
 
-pub seal-more : (l : List ℕ) (n : ℕ) (file file' : List ℕ) (k : ℕ) → k < n → 512 * n ≤ length l → length file' ≡ length file
-    → file' ≡ take (512 * k) file ++ (seal_block k (payload_of file k) ++ drop (512 * k + 512) file) → Sealing l n file k → Sealing l n file' (k + 1)
+pub seal-start : (l : List ℕ) → Sealing l l 0
 unfolding joined
-seal-more l n file file' k h r len e s =
+seal-start l = refl
+
+pub seal-more : (l file file' : List ℕ) (k : ℕ) → 512 * k + 512 ≤ length l
+    → file' ≡ take (512 * k) file ++ (seal_block k (payload_of file k) ++ drop (512 * k + 512) file) → Sealing l file k → Sealing l file' (k + 1)
+unfolding joined
+seal-more l file file' k r e s =
     let fl : length (joined (sealed_at l) k) ≡ 512 * k = length-sealed l k (omega arith) in
-    let t : take (512 * k) file ≡ joined (sealed_at l) k = rw s.held (take_at (joined (sealed_at l) k) (drop (512 * k) l) (512 * k) fl) in
-    let d : drop (512 * k) file ≡ drop (512 * k) l = rw s.held (drop_at (joined (sealed_at l) k) (drop (512 * k) l) (512 * k) fl) in
+    let t : take (512 * k) file ≡ joined (sealed_at l) k = rw s (take_at (joined (sealed_at l) k) (drop (512 * k) l) (512 * k) fl) in
+    let d : drop (512 * k) file ≡ drop (512 * k) l = rw s (drop_at (joined (sealed_at l) k) (drop (512 * k) l) (512 * k) fl) in
     let d₂ : drop (512 * k + 512) file ≡ drop (512 * k + 512) l = rw (← drop-drop 512 (512 * k) file, d, drop-drop 512 (512 * k) l) in
     let m : 512 * (k + 1) ≡ 512 * k + 512 = omega arith in
-    record {
-      within = omega arith;
-      long = len ∙ s.long;
-      held = e ∙ rw (m, add-one, t, d, d₂, append_assoc);
-    }
+    e ∙ rw (m, add-one, t, d, d₂, append_assoc)
 
-pub seal-end : (l : List ℕ) (file : List ℕ) (k : ℕ) → length l / 512 ≤ k → Sealing l (length l / 512) file k → file ≡ sealed l
+pub seal-end : (l file : List ℕ) (k : ℕ) → k ≡ length l / 512 → Sealing l file k → file ≡ sealed l
 unfolding sealed
-seal-end l file k h s = let e : k ≡ length l / 512 = omega arith in rw e at s.held
+seal-end l file k e s = rw e at s

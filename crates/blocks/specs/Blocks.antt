@@ -2,9 +2,7 @@
 use Rattle.std.specs.Prelude.{Bool, not, ◌&&◌, List, ◌++◌, ℕ, ◌+◌, ◌-◌, ◌*◌, ◌/◌, ◌%◌, length, get_or, take, drop, eqb, leb, ltb}
 use Rattle.base.specs.Lists.{sum, joined, padded}
 use Rattle.base.specs.First.{first}
-use Rattle.base.specs.Answers.{holds, absent, and_then}
-use Rattle.base.specs.declared.Found.{Found}
-use Rattle.base.specs.declared.Asked.{Asked}
+use Rattle.base.specs.Answers.{holds, absent, and_then, Found, Asked}
 use Rattle.base.specs.declared.Refusal.TheVariants.{FileLength, Block}
 use Rattle.fields.specs.Numbers.{le, bytes}
 use Rattle.fields.specs.Payload.{zero_from}

@@ -7,19 +7,13 @@ ghost use Rattle.fields.specs.Numbers.{le, bytes};
 ghost use Rattle.fields.specs.Payload.{payloads};
 ghost use Rattle.blocks.specs.Blocks.{byte_from, check_a, check_b, right_block, first_wrong, ask_blocks, payload_of, seal_block, sealed, blocks_for, file_of, ends_at};
 
-use base::{Asked, Found, Refusal};
+use base::Refusal;
 
 // Check A and check B of a block.
 #[derive(Clone, Copy)]
 pub struct Checks {
     pub a: u32,
     pub b: u32,
-}
-
-fn wide(x: u8) -> u32
-    ensures { (result ≡ x) × (result < 256) }
-{
-    x as u32
 }
 
 // Gives the checks of the block that starts at `from`. B adds up the sums so far; neither passes 65,806,320 before the division.
@@ -29,11 +23,9 @@ pub fn checks_of(file: &[u8], from: usize) -> Checks
 {
     let mut a: u32 = 0;
     let mut b: u32 = 0;
-    let mut i: usize = 0;
-    while i < 508 {
-        a = a + wide(file[from + i]);
-        b = b + a;
-        i += 1;
+    for x in &file[from..from + 508] {
+        a += u32::from(*x);
+        b += a;
     }
     Checks {
         a: a % 65521,
@@ -47,10 +39,8 @@ pub fn number_in(file: &[u8], from: usize, at: usize, width: usize) -> u64
     ensures { (result ≡ le width (byte_from file.now from) at) × (result < 256 ^ width) }
 {
     let mut n: u64 = 0;
-    let mut left = width;
-    while 0 < left {
-        left -= 1;
-        n = n * 256 + (wide(file[from + (at + left)]) as u64);
+    for i in (0..width).rev() {
+        n = n * 256 + u64::from(file[from + (at + i)]);
     }
     n
 }
@@ -69,32 +59,29 @@ pub fn right_block(file: &[u8], k: usize) -> bool
 }
 
 // Finds the first block at fault.
-pub fn first_wrong(file: &[u8]) -> Found
+pub fn first_wrong(file: &[u8]) -> Option<usize>
     ensures { result ≡ first_wrong file.now }
 {
-    let n = file.len() / 512;
-    let mut k: usize = 0;
-    while k < n {
+    for k in 0..file.len() / 512 {
         if !right_block(file, k) {
-            return Found::At(k);
+            return Some(k);
         }
-        k += 1;
     }
-    Found::Nothing
+    None
 }
 
 // Asks 16 and 17.
-pub fn ask_blocks(file: &[u8]) -> Asked
+pub fn ask_blocks(file: &[u8]) -> Result<(), Refusal>
     ensures { result ≡ ask_blocks file.now }
 {
     let n = file.len();
     if !((0 < n) & (n % 512 == 0) & (n <= 2199023255552)) {
-        return Asked::Stop(Refusal::FileLength);
+        return Err(Refusal::FileLength);
     }
     let wrong = first_wrong(file);
     match wrong {
-        Found::At(k) => Asked::Stop(Refusal::Block(k as u32)),
-        Found::Nothing => Asked::Pass,
+        Some(k) => Err(Refusal::Block(k as u32)),
+        None => Ok(()),
     }
 }
 
@@ -115,11 +102,9 @@ pub fn put_bytes(file: &mut [u8], at: usize, width: usize, v: u64)
     ensures { file.new ≡ sets file.old at (bytes width v) }
 {
     let mut rest = v;
-    let mut i: usize = 0;
-    while i < width {
-        file[at + i] = (rest % 256) as u8;
-        rest = rest / 256;
-        i += 1;
+    for p in at..at + width {
+        file[p] = (rest % 256) as u8;
+        rest /= 256;
     }
 }
 
@@ -140,10 +125,8 @@ pub fn seal_all(file: &mut [u8])
     ensures { file.new ≡ sealed file.old }
 {
     let n = file.len() / 512;
-    let mut k: usize = 0;
-    while k < n {
+    for k in 0..n {
         seal_block(file, k);
-        k += 1;
     }
 }
 

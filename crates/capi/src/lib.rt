@@ -4,7 +4,7 @@
 
 ghost use Rattle.std.specs.Prelude.{◌≡◌, []};
 ghost use Rattle.std.proofs.lemmas.List.Edits.{sets};
-ghost use Rattle.base.specs.Answers.{number_of_kept, own};
+ghost use Rattle.base.specs.Answers.{number_of_answer, own};
 ghost use Rattle.base.specs.declared.Form.{Form};
 ghost use Rattle.matrix.specs.Input.{input_of, with_floor};
 ghost use Rattle.outcome.specs.Buffers.{plain_buffers, shared_buffers, row_buffers};
@@ -22,6 +22,7 @@ ghost use Rattle.factor_contents.specs.FactorFile as factors;
 ghost use Rattle.report.specs.Report.{Told, ToldEnd, ToldMade, ToldRead, ToldRow, as_left, kept_slots, number_of_shape, shape_slots, list_slots};
 
 use base::{Counts, Index};
+use matrix::System;
 
 // Finds the fill and its lists, lower rows and T(k) one after another.
 #[unsafe(no_mangle)]
@@ -47,11 +48,16 @@ pub extern "C" fn lp_structure_plain(
         (plain_buffers lower_starts.new lower_index.new lower_values.new upper_starts.new upper_index.new upper_values.new [] [] scratch_f64.new scratch_u32.new) result }
 {
     let a = plain_form::structure_plain(
-        n,
-        starts,
-        columns,
-        r,
-        c,
+        System {
+            n,
+            starts,
+            columns,
+            values: &[],
+            r,
+            c,
+            b: &[],
+            floor: 0.0,
+        },
         lower_starts,
         lower_index,
         lower_values,
@@ -93,14 +99,16 @@ pub extern "C" fn lp_solve_plain(
         (plain_buffers lower_starts.new lower_index.new lower_values.new upper_starts.new upper_index.new upper_values.new d.new x.new scratch_f64.new scratch_u32.new) result }
 {
     let a = plain_form::solve_plain(
-        n,
-        starts,
-        columns,
-        values,
-        r,
-        c,
-        b,
-        floor,
+        System {
+            n,
+            starts,
+            columns,
+            values,
+            r,
+            c,
+            b,
+            floor,
+        },
         lower_starts,
         lower_index,
         lower_values,
@@ -141,11 +149,16 @@ pub extern "C" fn lp_structure_shared(
         (shared_buffers lower_starts.new lower_runs.new lower_index.new lower_values.new upper_starts.new upper_runs.new upper_index.new upper_values.new [] [] scratch_f64.new scratch_u32.new) result }
 {
     let a = shared_form::structure_shared(
-        n,
-        starts,
-        columns,
-        r,
-        c,
+        System {
+            n,
+            starts,
+            columns,
+            values: &[],
+            r,
+            c,
+            b: &[],
+            floor: 0.0,
+        },
         lower_starts,
         lower_runs,
         lower_index,
@@ -187,11 +200,16 @@ pub extern "C" fn lp_fill_sheet(
         (sheet_buffers (shared_buffers lower_starts.new lower_runs.new lower_index.new lower_values.new upper_starts.new upper_runs.new upper_index.new upper_values.new [] [] scratch_f64.new scratch_u32.new) sheet.new) result }
 {
     let a = fill_sheet::fill_sheet(
-        n,
-        starts,
-        columns,
-        r,
-        c,
+        System {
+            n,
+            starts,
+            columns,
+            values: &[],
+            r,
+            c,
+            b: &[],
+            floor: 0.0,
+        },
         lower_starts,
         lower_runs,
         lower_index,
@@ -238,14 +256,16 @@ pub extern "C" fn lp_solve_shared(
         (shared_buffers lower_starts.new lower_runs.new lower_index.new lower_values.new upper_starts.new upper_runs.new upper_index.new upper_values.new d.new x.new scratch_f64.new scratch_u32.new) result }
 {
     let a = shared_form::solve_shared(
-        n,
-        starts,
-        columns,
-        values,
-        r,
-        c,
-        b,
-        floor,
+        System {
+            n,
+            starts,
+            columns,
+            values,
+            r,
+            c,
+            b,
+            floor,
+        },
         lower_starts,
         lower_runs,
         lower_index,
@@ -289,14 +309,16 @@ pub extern "C" fn lp_solve_row(
         (row_buffers upper_starts.new upper_runs.new upper_index.new upper_values.new d.new x.new scratch_f64.new scratch_u32.new) result }
 {
     let a = row_form::solve_row(
-        n,
-        starts,
-        columns,
-        values,
-        r,
-        c,
-        b,
-        floor,
+        System {
+            n,
+            starts,
+            columns,
+            values,
+            r,
+            c,
+            b,
+            floor,
+        },
         upper_starts,
         upper_runs,
         upper_index,
@@ -338,14 +360,16 @@ pub extern "C" fn lp_refactor_plain(
         (plain_buffers lower_starts.now lower_index.now lower_values.new upper_starts.now upper_index.now upper_values.new d.new x.new scratch_f64.new scratch_u32.new) result }
 {
     let a = refactor::refactor_plain(
-        n,
-        starts,
-        columns,
-        values,
-        r,
-        c,
-        b,
-        floor,
+        System {
+            n,
+            starts,
+            columns,
+            values,
+            r,
+            c,
+            b,
+            floor,
+        },
         lower_starts,
         lower_index,
         lower_values,
@@ -391,14 +415,16 @@ pub extern "C" fn lp_refactor_shared(
         (shared_buffers lower_starts.now lower_runs.now lower_index.now lower_values.new upper_starts.now upper_runs.now upper_index.now upper_values.new d.new x.new scratch_f64.new scratch_u32.new) result }
 {
     let a = refactor::refactor_shared(
-        n,
-        starts,
-        columns,
-        values,
-        r,
-        c,
-        b,
-        floor,
+        System {
+            n,
+            starts,
+            columns,
+            values,
+            r,
+            c,
+            b,
+            floor,
+        },
         lower_starts,
         lower_runs,
         lower_index,
@@ -612,7 +638,7 @@ pub extern "C" fn lp_write_matrix(
 // Gives n, lower and upper of a factor file.
 #[unsafe(no_mangle)]
 pub extern "C" fn lp_factor_shape(file: &[u8], report: &mut [u64]) -> u32
-    ensures value { result ≡ number_of_kept (factors.opened file.now) }
+    ensures value { result ≡ number_of_answer (factors.opened file.now) }
     ensures report_after { report.new ≡ sets report.old 0 (kept_slots (factors.opened file.now)) }
 {
     let a = factor_reading::factor_file_shape(file);

@@ -1,4 +1,5 @@
 -- Question 1 of every call that takes an n, whatever else it is lent.
+use Rattle.std.specs.Prelude.{Ok, Err}
 use mathlib.Core.Path.{◌≡◌, refl, sym, ap, ◌∙◌}
 use mathlib.Core.Bool.{Bool, true, false, ◌&&◌}
 use mathlib.Core.List.{List, []}
@@ -11,7 +12,7 @@ use lib.Ieee.{Float}
 use Rattle.base.specs.All.{all}
 use Rattle.base.specs.First.{first}
 use Rattle.base.specs.Lists.{list_at, nought}
-use Rattle.base.specs.Answers.{number_of, number_of_answer, number_of_end, number_of_made, number_of_kept, spot, holds, and_then, left, or_untouched}
+use Rattle.base.specs.Answers.{number_of, number_of_answer, spot, holds, and_then, left, or_untouched, Pass, Asked}
 use Rattle.base.specs.Limits.{max_entries, rows_within}
 use Rattle.matrix.specs.Input.{Input, stored}
 use Rattle.matrix.specs.Shape.{shape_of}
@@ -39,7 +40,6 @@ use Rattle.outcome.proofs.Asking.{turned, Within, within-wide, within-holds, wit
 use Rattle.outcome.proofs.Answers.{ask5-within, structure-within, solve-within, right-within, places-within}
 use Rattle.cases.specs.Boundary.{Refuses, Passes}
 use Rattle.matrix.specs.declared.Matrix.{Matrix}
-use Rattle.matrix.specs.declared.Shaped.TheVariants.{Shape, Unshaped}
 use Rattle.base.specs.declared.Counts.{Counts}
 use Rattle.base.specs.declared.FactorSizes.{FactorSizes}
 use Rattle.base.specs.declared.Form.{Form}
@@ -49,55 +49,50 @@ use Rattle.base.specs.declared.Place.{Place}
 use Rattle.base.specs.declared.OwnNumber.{OwnNumber}
 use Rattle.base.specs.declared.Refusal.{Refusal}
 use Rattle.base.specs.declared.Refusal.TheVariants.{Rows, Lengths, FileShape, FileLength, Block, OtherStructure, BadFactors, FactorShape, Products}
-use Rattle.base.specs.declared.Asked.{Asked}
-use Rattle.base.specs.declared.Asked.TheVariants.{Pass, Stop}
-use Rattle.base.specs.declared.Answer.TheVariants.{Refused}
-use Rattle.base.specs.declared.Ended.TheVariants as ends
-use Rattle.base.specs.declared.Made.TheVariants as mades
 
 -- ---- an n that is refused
 
-first-stop : {A : Type 0} (r : Refusal → A) (a : Asked) (s : Buffers) (rest : Outcome A) (q : Refusal) → a ≡ Stop q → stop r a s rest ≡ ended (r q) s
+first-stop : {A : Type 0} (r : Refusal → A) (a : Asked) (s : Buffers) (rest : Outcome A) (q : Refusal) → a ≡ Err q → stop r a s rest ≡ ended (r q) s
 first-stop r a s rest q e = rw e
 
-shape-1 : (n : ℕ) (tests : List Bool) → rows_within n ≡ false → ask_shape n tests ≡ Stop Rows
+shape-1 : (n : ℕ) (tests : List Bool) → rows_within n ≡ false → ask_shape n tests ≡ Err Rows
 unfolding ask_shape
 shape-1 n tests o = rw o
 
-head-1 : (file : List ℕ) (n e : ℕ) → rows_within n ≡ false → ask_head file n e ≡ Stop Rows
+head-1 : (file : List ℕ) (n e : ℕ) → rows_within n ≡ false → ask_head file n e ≡ Err Rows
 unfolding ask_head
 head-1 file n e o = rw o
 
-file-1 : (file : List ℕ) → ask_blocks file ≡ Pass → rows_within (n_of file) ≡ false → ask_file file ≡ Stop Rows
+file-1 : (file : List ℕ) → ask_blocks file ≡ Pass → rows_within (n_of file) ≡ false → ask_file file ≡ Err Rows
 unfolding ask_file
 file-1 file p o = rw p (head-1 file (n_of file) (e_of file) o)
 
-read-1 : (file : List ℕ) (l : MatrixLists) → ask_file file ≡ Stop Rows → ask_read file l ≡ Stop Rows
+read-1 : (file : List ℕ) (l : MatrixLists) → ask_file file ≡ Err Rows → ask_read file l ≡ Err Rows
 unfolding ask_read
 read-1 file l e = rw e
 
-write-1 : (i : Input) (len : ℕ) → rows_within i.n ≡ false → ask_write i len ≡ Stop Rows
+write-1 : (i : Input) (len : ℕ) → rows_within i.n ≡ false → ask_write i len ≡ Err Rows
 unfolding ask_write ask_lengths
 write-1 i len o = rw o
 
 -- of the factor file
-factors-1 : (file : List ℕ) → ask_blocks file ≡ Pass → rows_within (factors.n_of file) ≡ false → factors.ask_file file ≡ Stop Rows
+factors-1 : (file : List ℕ) → ask_blocks file ≡ Pass → rows_within (factors.n_of file) ≡ false → factors.ask_file file ≡ Err Rows
 unfolding factors.ask_file factors.ask_head
 factors-1 file p o = rw (p, o)
 
-restored-1 : (file : List ℕ) (fit : Bool) → factors.ask_file file ≡ Stop Rows → factors.ask_through file fit ≡ Stop Rows
+restored-1 : (file : List ℕ) (fit : Bool) → factors.ask_file file ≡ Err Rows → factors.ask_through file fit ≡ Err Rows
 unfolding factors.ask_through
 restored-1 file fit e = rw e
 
-kept-1 : (n : ℕ) (k : Counts) (l : factors.FactorLists) (len : ℕ) → rows_within n ≡ false → factors.ask_write n k l len ≡ Stop Rows
+kept-1 : (n : ℕ) (k : Counts) (l : factors.FactorLists) (len : ℕ) → rows_within n ≡ false → factors.ask_write n k l len ≡ Err Rows
 unfolding factors.ask_write factors.ask_lengths
 kept-1 n k l len o = rw o
 
-made-1 : (n e : ℕ) → rows_within n ≡ false → shape_of n e ≡ Unshaped Rows
+made-1 : (n e : ℕ) → rows_within n ≡ false → shape_of n e ≡ Err Rows
 unfolding shape_of
 made-1 n e o = rw o
 
-load-1 : (n : ℕ) (l : MatrixLists) → rows_within n ≡ false → ask_load n l ≡ Stop Rows
+load-1 : (n : ℕ) (l : MatrixLists) → rows_within n ≡ false → ask_load n l ≡ Err Rows
 unfolding ask_load
 load-1 n l o = rw o
 
@@ -105,7 +100,7 @@ check-1 : (i : Input) (x : List Float) (k : OwnNumber) → rows_within i.n ≡ f
 unfolding checked ask_row ask_sizes ask_shape
 check-1 i x k o = rw o
 
-declined : {R A : Type 0} (refused : Refusal → R) (a : Asked) (done : R) (new old : A) (q : Refusal) → a ≡ Stop q → or_untouched refused a done new old ≡ left (refused q) old
+declined : {R A : Type 0} (refused : Refusal → R) (a : Asked) (done : R) (new old : A) (q : Refusal) → a ≡ Err q → or_untouched refused a done new old ≡ left (refused q) old
 declined refused a done new old q e = rw e
 
 span-1 : (f : Form) (side : Side) (k : Place) (n : ℕ) (l u : lookup.SideLists) → rows_within n ≡ false → lookup.span_in f side k n l u ≡ lookup.span_from 0 0
@@ -126,20 +121,20 @@ module _ (n : ℕ) (o : rows_within n ≡ false) where
   unfolding structure solve shape refactor resolve opened read_outcome write_outcome factors.opened factors.read_outcome factors.write_outcome load_outcome sheet_outcome sheet_structure ask_sheet
   refuses =
       record {
-        structures = λ f i s e. first-stop Refused _ s _ Rows (shape-1 i.n _ (out i.n e));
-        solves = λ f i s e. first-stop Refused _ s _ Rows (shape-1 i.n _ (out i.n e));
-        refactors = λ f i s e. first-stop ends.Refused _ s _ Rows (shape-1 i.n _ (out i.n e));
-        resolves = λ f i s e. first-stop ends.Refused _ s _ Rows (shape-1 i.n _ (out i.n e));
+        structures = λ f i s e. first-stop Err _ s _ Rows (shape-1 i.n _ (out i.n e));
+        solves = λ f i s e. first-stop Err _ s _ Rows (shape-1 i.n _ (out i.n e));
+        refactors = λ f i s e. first-stop Err _ s _ Rows (shape-1 i.n _ (out i.n e));
+        resolves = λ f i s e. first-stop Err _ s _ Rows (shape-1 i.n _ (out i.n e));
         makes = λ e. made-1 n e o;
         opens = λ file p e. ap (λ (a : Asked). shaped a (record { rows = n_of file; entries = e_of file })) (file-1 file p (out (n_of file) e));
-        reads = λ file l p e. declined ends.Refused (ask_read file l) _ _ l Rows (read-1 file l (file-1 file p (out (n_of file) e)));
-        writes = λ i file e. declined ends.Refused (ask_write i (length file)) _ _ file Rows (write-1 i (length file) (out i.n e));
+        reads = λ file l p e. declined Err (ask_read file l) _ _ l Rows (read-1 file l (file-1 file p (out (n_of file) e)));
+        writes = λ i file e. declined Err (ask_write i (length file)) _ _ file Rows (write-1 i (length file) (out i.n e));
         finds-factors = λ file p e. ap (λ (a : Asked). factors.shaped a (factors.sizes_in file)) (factors-1 file p (out (factors.n_of file) e));
-        reads-factors = λ file l p e. declined Refused (factors.ask_read file l) _ _ l Rows (restored-1 file _ (factors-1 file p (out (factors.n_of file) e)));
-        writes-factors = λ k l file. declined ends.Refused (factors.ask_write n k l (length file)) _ _ file Rows (kept-1 n k l (length file) o);
-        sheets = λ i s e. ap (with_sheet i s.sheet) (first-stop Refused _ s.stores _ Rows (shape-1 i.n _ (out i.n e)));
+        reads-factors = λ file l p e. declined Err (factors.ask_read file l) _ _ l Rows (restored-1 file _ (factors-1 file p (out (factors.n_of file) e)));
+        writes-factors = λ k l file. declined Err (factors.ask_write n k l (length file)) _ _ file Rows (kept-1 n k l (length file) o);
+        sheets = λ i s e. ap (with_sheet i s.sheet) (first-stop Err _ s.stores _ Rows (shape-1 i.n _ (out i.n e)));
         checks = λ i x k e. check-1 i x k (out i.n e);
-        loads = λ s l. declined mades.Refused (ask_load n l) _ _ l Rows (load-1 n l o);
+        loads = λ s l. declined Err (ask_load n l) _ _ l Rows (load-1 n l o);
         looks = λ f side k l u. (span-1 f side k n l u o, none_1 f side k n l u o);
       }
 
@@ -152,8 +147,8 @@ Later a = Within 2 21 a
 module _ {A : Type 0} (number : A → ℕ) (refuse : Refusal → A) (told : (q : Refusal) → number (refuse q) ≡ number_of q) where
   first-not : (a : Asked) (s : Buffers) (o : Outcome A) → Later a → (number o.answer ≡ 1 → ⊥) → number (stop refuse a s o).answer ≡ 1 → ⊥
   unfolding Within
-  first-not Pass s o v h e = h e
-  first-not (Stop q) s o v h e = omega (arith, v q refl, told q, turned q)
+  first-not (Ok _) s o v h e = h e
+  first-not (Err q) s o v h e = omega (arith, v q refl, told q, turned q)
 
   -- three questions, and what follows
   never : (a b c : Asked) (s t u : Buffers) (o : Outcome A) → Later a → Later b → Later c → (number o.answer ≡ 1 → ⊥) → number (stop refuse a s (stop refuse b t (stop refuse c u o))).answer ≡ 1 → ⊥
@@ -194,14 +189,14 @@ write-later : (i : Input) (len : ℕ) → rows_within i.n ≡ true → Later (as
 unfolding ask_write
 write-later i len o = lengths-later i.n _ _ _ _ _ _ len o
 
-made : (n e : ℕ) → rows_within n ≡ true → e ≤ max_entries → shape_of n e ≡ Shape (record { rows = n; entries = e })
+made : (n e : ℕ) → rows_within n ≡ true → e ≤ max_entries → shape_of n e ≡ Ok (record { rows = n; entries = e })
 unfolding shape_of
 made n e o l = rw (o, le-leb e max_entries l)
 
-not-shaped : (a : Asked) (m : Matrix) → Within 16 18 a → shaped a m ≡ Unshaped Rows → ⊥
+not-shaped : (a : Asked) (m : Matrix) → Within 16 18 a → shaped a m ≡ Err Rows → ⊥
 unfolding Within
-not-shaped Pass m w e = let z : ◌≡◌ {A = ℕ} 0 1 = cc in omega arith
-not-shaped (Stop q) m w e = let r : q ≡ Rows = cc in omega (arith, w q refl, ap number_of r, turned q)
+not-shaped (Ok _) m w e = let z : ◌≡◌ {A = ℕ} 0 1 = cc in omega arith
+not-shaped (Err q) m w e = let r : q ≡ Rows = cc in omega (arith, w q refl, ap number_of r, turned q)
 
 -- ---- the factor file's questions
 
@@ -243,10 +238,10 @@ kept-later n k l len o =
     let t = factors.lists_fit n k.lower k.upper l && eqb len (factors.file_length n k.lower k.upper) in
     rw o (within-then 2 21 (holds t Lengths) (factors.ask_contents n k (factors.cut k l)) (within-holds 2 21 t Lengths (omega arith) (omega arith)) (contents-later n k (factors.cut k l)))
 
-not_found : (a : Asked) (s : FactorSizes) → Later a → number_of_kept (factors.shaped a s) ≡ 1 → ⊥
+not_found : (a : Asked) (s : FactorSizes) → Later a → number_of_answer (factors.shaped a s) ≡ 1 → ⊥
 unfolding Within
-not_found Pass s w e = omega arith
-not_found (Stop q) s w e = omega (arith, w q refl, turned q)
+not_found (Ok _) s w e = omega arith
+not_found (Err q) s w e = omega (arith, w q refl, turned q)
 
 -- ---- the others
 
@@ -257,8 +252,8 @@ load-later n l o = rw o (within-holds 2 21 (lists_right n (4 * n) l) Lengths (om
 not_left : {R A : Type 0} (number : R → ℕ) (refused : Refusal → R) (told : (q : Refusal) → number (refused q) ≡ number_of q) (a : Asked) (done : R) (new old : A)
     → number done ≡ 0 → Later a → number (or_untouched refused a done new old).answer ≡ 1 → ⊥
 unfolding Within
-not_left number refused told Pass done new old z w e = omega arith
-not_left number refused told (Stop q) done new old z w e = omega (arith, w q refl, told q, turned q)
+not_left number refused told (Ok _) done new old z w e = omega arith
+not_left number refused told (Err q) done new old z w e = omega (arith, w q refl, told q, turned q)
 
 looked : (f : Form) (side : Side) (k : Place) (n : ℕ) (l u : lookup.SideLists) → lookup.sized f n l ≡ true → lookup.sized f n u ≡ true
     → k.0 < n → (o : lookup.SideLists) → o ≡ lookup.of_side side l u → get_or o.starts k.0 0 ≤ get_or o.starts (k.0 + 1) 0
@@ -276,11 +271,11 @@ module _ (f : Form) (i : Input) (s : Buffers) where
   concluded-not (ok a) e = omega arith
   concluded-not (met q) e = fault-not q e
 
-  refactored-not : (o : Out Result) → number_of_end (refactored f i s o).answer ≡ 1 → ⊥
+  refactored-not : (o : Out Result) → number_of_answer (refactored f i s o).answer ≡ 1 → ⊥
   refactored-not (ok a) e = omega arith
   refactored-not (met q) e = fault-not q e
 
-  resolved-not : (o : Out (List Float)) → number_of_end (resolved i s o).answer ≡ 1 → ⊥
+  resolved-not : (o : Out (List Float)) → number_of_answer (resolved i s o).answer ≡ 1 → ⊥
   resolved-not (ok a) e = omega arith
   resolved-not (met q) e = fault-not q e
 
@@ -297,23 +292,23 @@ module _ (f : Form) (i : Input) (s : Buffers) where
   module _ (o : rows_within i.n ≡ true) where
     structure-not : number_of_answer (structure f i s).answer ≡ 1 → ⊥
     unfolding structure
-    structure-not = never number_of_answer Refused (λ q. refl) _ (ask_structure i) _ _ _ _ _ (shape-later i.n _ o) (later 3 7 _ (omega arith) (omega arith) (structure-within i)) placed (λ e. omega arith)
+    structure-not = never number_of_answer Err (λ q. refl) _ (ask_structure i) _ _ _ _ _ (shape-later i.n _ o) (later 3 7 _ (omega arith) (omega arith) (structure-within i)) placed (λ e. omega arith)
 
     solve-not : number_of_answer (solve f i s).answer ≡ 1 → ⊥
     unfolding solve shape
-    solve-not = never number_of_answer Refused (λ q. refl) _ (ask_solve i) _ _ _ _ _ (shape-later i.n _ o) solved placed (concluded-not (listed i))
+    solve-not = never number_of_answer Err (λ q. refl) _ (ask_solve i) _ _ _ _ _ (shape-later i.n _ o) solved placed (concluded-not (listed i))
 
-    refactor-not : number_of_end (refactor f i s).answer ≡ 1 → ⊥
+    refactor-not : number_of_answer (refactor f i s).answer ≡ 1 → ⊥
     unfolding refactor shape
-    refactor-not = never number_of_end ends.Refused (λ q. refl) _ (ask_solve i) _ _ _ _ _ (shape-later i.n _ o) solved presented (refactored-not (listed i))
+    refactor-not = never number_of_answer Err (λ q. refl) _ (ask_solve i) _ _ _ _ _ (shape-later i.n _ o) solved presented (refactored-not (listed i))
 
-    resolve-not : number_of_end (resolve f i s).answer ≡ 1 → ⊥
+    resolve-not : number_of_answer (resolve f i s).answer ≡ 1 → ⊥
     unfolding resolve
-    resolve-not = never number_of_end ends.Refused (λ q. refl) _ (ask_right i.n i.r i.c i.b) _ _ _ _ _ (shape-later i.n _ o) (later 5 6 _ (omega arith) (omega arith) (right-within i.n i.r i.c i.b)) (factors-later f i.n s) (resolved-not (judged nought (whole_again (factors_of f i s))))
+    resolve-not = never number_of_answer Err (λ q. refl) _ (ask_right i.n i.r i.c i.b) _ _ _ _ _ (shape-later i.n _ o) (later 5 6 _ (omega arith) (omega arith) (right-within i.n i.r i.c i.b)) (factors-later f i.n s) (resolved-not (judged nought (whole_again (factors_of f i s))))
 
 sheet-not : (i : Input) (s : SheetBuffers) → rows_within i.n ≡ true → number_of_answer (sheet_outcome i s).answer ≡ 1 → ⊥
 unfolding sheet_outcome sheet_structure ask_sheet
-sheet-not i s o = first-not number_of_answer Refused (λ q. refl) _ s.stores (structure Shared i s.stores) (shape-later i.n _ o) (structure-not Shared i s.stores o)
+sheet-not i s o = first-not number_of_answer Err (λ q. refl) _ s.stores (structure Shared i s.stores) (shape-later i.n _ o) (structure-not Shared i s.stores o)
 
 module _ (n : ℕ) (o : rows_within n ≡ true) where
   in-limits : (m : ℕ) → m ≡ n → rows_within m ≡ true
@@ -329,13 +324,13 @@ module _ (n : ℕ) (o : rows_within n ≡ true) where
         resolves = λ f i s e. resolve-not f i s (in-limits i.n e);
         makes = λ e. made n e o;
         opens = λ file e. not-shaped (ask_file file) _ (file-later file (in-limits (n_of file) e));
-        reads = λ file l e. not_left number_of_end ends.Refused (λ q. refl) (ask_read file l) _ _ l refl (read-later file l (in-limits (n_of file) e));
-        writes = λ i file e. not_left number_of_end ends.Refused (λ q. refl) (ask_write i (length file)) _ _ file refl (write-later i (length file) (in-limits i.n e));
+        reads = λ file l e. not_left number_of_answer Err (λ q. refl) (ask_read file l) _ _ l refl (read-later file l (in-limits (n_of file) e));
+        writes = λ i file e. not_left number_of_answer Err (λ q. refl) (ask_write i (length file)) _ _ file refl (write-later i (length file) (in-limits i.n e));
         finds-factors = λ file e. not_found (factors.ask_file file) _ (found-later file (in-limits (factors.n_of file) e));
-        reads-factors = λ file l e. not_left number_of_answer Refused (λ q. refl) (factors.ask_read file l) _ _ l refl (restored-later file _ (in-limits (factors.n_of file) e));
-        writes-factors = λ k l file. not_left number_of_end ends.Refused (λ q. refl) (factors.ask_write n k l (length file)) _ _ file refl (kept-later n k l (length file) o);
+        reads-factors = λ file l e. not_left number_of_answer Err (λ q. refl) (factors.ask_read file l) _ _ l refl (restored-later file _ (in-limits (factors.n_of file) e));
+        writes-factors = λ k l file. not_left number_of_answer Err (λ q. refl) (factors.ask_write n k l (length file)) _ _ file refl (kept-later n k l (length file) o);
         sheets = λ i s e. sheet-not i s (in-limits i.n e);
         checks = λ i x k e. checked-not i x k (in-limits i.n e);
-        loads = λ s l. not_left number_of_made mades.Refused (λ q. refl) (ask_load n l) _ _ l refl (load-later n l o);
+        loads = λ s l. not_left number_of_answer Err (λ q. refl) (ask_load n l) _ _ l refl (load-later n l o);
         looks = λ f side k l u. looked f side k n l u;
       }

@@ -1,4 +1,5 @@
 -- The test load passes questions 1 to 7 of every solve, its entry count being e, in buffers of the lengths that the solve states, and 19 with every floor that is one.
+use Rattle.base.specs.Answers.{Pass}
 use Prim.Native.Nat.{ℕ}
 use mathlib.Core.Path.{◌≡◌, ap, ◌∙◌}
 use mathlib.Core.Bool.{true}
@@ -7,7 +8,6 @@ use borrow.Author.Tests.{eq-eqb, le-leb}
 use Rattle.base.specs.All.{all}
 use Rattle.base.specs.AllLaws.{all_join}
 use Rattle.base.specs.Limits.{max_entries, rows_within}
-use Rattle.base.specs.declared.Asked.TheVariants.{Pass}
 use Rattle.base.specs.declared.Form.{Form}
 use Rattle.base.specs.declared.Sizes.{Sizes}
 use Rattle.base.specs.Magnitude.{is_floor}

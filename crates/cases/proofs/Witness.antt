@@ -1,11 +1,12 @@
 -- The premises of the agreement can be met together, for every kind of answer, and a form can be short of slots where others are not.
+use Rattle.std.specs.Prelude.{Ok, Err}
 use mathlib.Core.Path.{◌≡◌, refl, sym, ap, ◌∙◌}
 use mathlib.Core.Logic.{inl, inr}
 use mathlib.Core.List.{List, [], ◌∷◌}
 use Prim.Native.Nat.{ℕ, ◌≤◌}
 use lib.ListN.{get_or}
 use native.Mathlib.Omega.{arith}
-use Rattle.base.specs.Answers.{number_of_answer}
+use Rattle.base.specs.Answers.{number_of_answer, Pass, Asked}
 use Rattle.arithmetic.specs.Arith.{Out, Result}
 use Rattle.matrix.specs.Input.{Input, stored}
 use Rattle.outcome.specs.Buffers.{Buffers, sizes}
@@ -18,8 +19,6 @@ use Rattle.agreement.proofs.Agree.{short-told, by_form-cases}
 use Rattle.cases.specs.Table.{slots, dirty, Seen, seen, outcome_of, graph, two, single, swapped, arrow, boundary}
 use Rattle.cases.proofs.Boundary.{holds}
 use Rattle.base.specs.declared.Counts.{Counts}
-use Rattle.base.specs.declared.Asked.{Asked}
-use Rattle.base.specs.declared.Asked.TheVariants.{Pass, Stop}
 use Rattle.base.specs.declared.Form.{Form}
 use Rattle.base.specs.declared.Form.TheVariants.{Plain, Shared}
 
@@ -32,8 +31,8 @@ pub record Met (i : Input) (s : Form → Buffers) (m : ℕ) : Type 0 where
 
 passed-of : (a b : Asked) (o : Out Result) (c : Counts) (m : ℕ) → Early a → number_of_answer (verdict a b o c) ≡ m → (1 ≤ m → 9 ≤ m) → m ≤ 18 → a ≡ Pass
 unfolding Within
-passed-of Pass b o c m w e h k = refl
-passed-of (Stop q) b o c m w e h k = absurd (omega (arith, w q refl, e, turned q, h (omega (arith, w q refl, e, turned q))))
+passed-of (Ok _) b o c m w e h k = refl
+passed-of (Err q) b o c m w e h k = absurd (omega (arith, w q refl, e, turned q, h (omega (arith, w q refl, e, turned q))))
 
 -- neither 10 nor 11 is answered
 roomy_of : (f : Form) (i : Input) (s : Buffers) (m : ℕ) → number_of_answer (solve f i s).answer ≡ m → (m ≡ 10 → ⊥) → (m ≡ 11 → ⊥) → Roomy f i s

@@ -2,10 +2,9 @@
 use Rattle.std.specs.Prelude.{List, [], ◌∷◌, ◌++◌, map, ℕ, ◌+◌, ◌*◌, length, replicate, Float}
 use Rattle.std.specs.Float.{nan, binary64}
 use Rattle.std.specs.Float.Ieee.{of_bits, to_bits}
-use Rattle.base.specs.Answers.{number_of_answer, place_of_answer, counts_of}
+use Rattle.base.specs.Answers.{number_of_answer, place_of_answer, counts_of, Answer}
 use Rattle.base.specs.declared.Form.{Form}
 use Rattle.base.specs.declared.Form.TheVariants.{Plain, Shared, ByRow}
-use Rattle.base.specs.declared.Answer.{Answer}
 use Rattle.matrix.specs.Input.{Input, input_of, with_floor}
 use Rattle.outcome.specs.Buffers.{SideBuffers, side_buffers, no_side, Buffers, all_buffers, Outcome}
 use Rattle.outcome.specs.Solve.{solve}

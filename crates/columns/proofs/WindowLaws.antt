@@ -3,15 +3,19 @@ use mathlib.Core.Path.{◌≡◌, refl, sym, ◌∙◌}
 use mathlib.Core.List.{List, [], ◌∷◌}
 use Prim.Native.Nat.{ℕ, zero, suc, ◌+◌, ◌-◌, ◌<◌, ◌≤◌}
 use native.Mathlib.Omega.{arith}
-use native.Mathlib.Decide.{ℕ_discrete}
+use native.Mathlib.Decide.{ℕ_discrete, dec_lt}
 use native.Mathlib.Numerals.{add-one}
-use lib.ListN.{length, get_or, set, length-set}
+use lib.ListN.{length, get_or, set, take, drop, replicate, length-set}
+use borrow.Rule.Slice.PartMut.{put_mid, mid_of, same_len_mid}
+use Rattle.std.proofs.Common.{ap, length-drop, length-take-le, get_or-take, get_or-drop}
+use Rattle.std.proofs.lemmas.List.{get_or-append_right, get_or-replicate, length-replicate}
+use Rattle.std.proofs.lemmas.Slice.{take-put_mid, take-put_mid_below, drop-put_mid}
 use lib.Dec.{eqb, eqb-suc-suc}
 use borrow.Author.Tests.{eq-eqb, ne_eqb}
 use lib.Seq.{get_or-set_other, get_or-set_same}
 use Rattle.base.specs.Lists.{sum}
 use Rattle.base.specs.AscLaws.{sum-ext}
-use Rattle.marks.specs.MarkLaws.{room-kept, unmarked-stamped, both-stamped}
+use Rattle.marks.specs.MarkLaws.{unmarked-stamped, both-stamped}
 use Rattle.lent.specs.ReadingLaws.{same, then, stored}
 use Rattle.lent.specs.Reading.{Below, order_of}
 use Rattle.marks.specs.Marks.{Room, stamped}
@@ -50,27 +54,66 @@ module _ (n j v w : ℕ) (s : List ℕ) (sp : Room n s) (h : j < n) where
         | no e ↦ rw (other (heads_from n + x) (omega arith) (omega arith), other (lasts_from n + x) (omega arith) (omega arith)) (there x g e)
       ]
 
-pub record Clearing (n i : ℕ) (s₀ s : List ℕ) : Type 0 where
-  pub kept : HeadsKept n 0 n s₀ s
-  pub zero : (j : ℕ) → j < n → j < i → (get_or s (heads_from n + j) 0 ≡ 0) × (get_or s (lasts_from n + j) 0 ≡ 0)
+-- a part of k slots from slot a on that is filled with 0
+module _ (a k : ℕ) (s z : List ℕ) (fits : a + k ≤ length s) (e : z ≡ replicate (length (mid_of a k s)) 0) where
+  part-size : length (mid_of a k s) ≡ k
+  part-size = length-take-le k (drop a s) (omega (arith, length-drop a s))
 
-pub clear-start : (n : ℕ) (s : List ℕ) → Clearing n 0 s s
-clear-start n s = record { kept = same s; zero = λ j h g. absurd (omega arith) }
+  filled-size : length z ≡ k
+  filled-size = ap length e ∙ length-replicate (length (mid_of a k s)) 0 ∙ part-size
 
-pub clear-more : {n i : ℕ} {s₀ s : List ℕ} → Room n s₀ → i < n → Clearing n i s₀ s → Clearing n (i + 1) s₀ (set (set s (heads_from n + i) 0) (lasts_from n + i) 0)
-clear-more {n} {i} {s₀} {s} sp' h c =
-    let sp = room-kept _ _ _ c.kept.size sp' in
-    record {
-      kept = then c.kept (written-kept n i 0 0 s sp h);
-      zero = written_at n i 0 0 s sp h (λ x a b. x < i + 1 → (a ≡ 0) × (b ≡ 0)) (λ g. (refl, refl)) (λ x g q k. c.zero x g (omega arith));
-    }
+  fill-kept : length (put_mid a k s z) ≡ length s
+  fill-kept = same_len_mid a k s z (filled-size ∙ sym part-size)
 
-pub clear-end : {n i : ℕ} {s₀ s : List ℕ} → n ≤ i → Clearing n i s₀ s → Tally n bare s₀ s
-unfolding bare
-clear-end h c = record {
-  kept = c.kept;
-  counting = record { counts = record { slot = λ j a b. (c.zero j b (omega arith)).0 }; lasts = λ j b i. ne_eqb _ (i + 1) (omega (arith, (c.zero j b (omega arith)).1)) };
-}
+  fill-in : (q : ℕ) → a ≤ q → q < a + k → get_or (put_mid a k s z) q 0 ≡ 0
+  fill-in q l h =
+      sym (get_or-take (a + k) (put_mid a k s z) q 0 h) ∙ ap (λ u. get_or u q 0) (take-put_mid a k s z (a + k) (omega (arith, filled-size)) (omega arith))
+      ∙ get_or-append_right (take a s) z a q 0 (length-take-le a s (omega arith)) l ∙ rw e (get_or-replicate (length (mid_of a k s)) (q - a) 0 0 (omega (arith, part-size)))
+
+  fill-out : (q : ℕ) → (a ≤ q → a + k ≤ q) → get_or (put_mid a k s z) q 0 ≡ get_or s q 0
+  fill-out q w = elim (dec_lt q a) [
+    | yes h ↦ sym (get_or-take a (put_mid a k s z) q 0 h) ∙ ap (λ u. get_or u q 0) (take-put_mid_below a k s z a (omega arith) (omega arith)) ∙ get_or-take a s q 0 h
+    | no h ↦ past (w (omega arith))
+  ]
+    where
+      past : a + k ≤ q → get_or (put_mid a k s z) q 0 ≡ get_or s q 0
+      past b =
+          let d = q - (a + k) in
+          let m : a + k + d ≡ q = omega arith in
+          rw m at (sym (get_or-drop (a + k) (put_mid a k s z) d 0) ∙ ap (λ u. get_or u d 0) (drop-put_mid a k s z (a + k) (omega arith) (omega arith) filled-size) ∙ get_or-drop (a + k) s d 0)
+
+-- the heads and the last rows are filled with 0
+module _ (n k m : ℕ) (s z w : List ℕ) (room : Room n s) (ek : k ≡ n) (em : m ≡ n)
+    (ez : z ≡ replicate (length (mid_of (heads_from n) k s)) 0) (ew : w ≡ replicate (length (mid_of (lasts_from n) m (put_mid (heads_from n) k s z))) 0) where
+  abbrev heads : List ℕ
+  heads = put_mid (heads_from n) k s z
+
+  abbrev lasts : List ℕ
+  lasts = put_mid (lasts_from n) m heads w
+
+  first : heads_from n + k ≤ length s
+  first = omega (arith, room.long)
+
+  second : lasts_from n + m ≤ length heads
+  second = omega (arith, room.long, fill-kept (heads_from n) k s z first ez)
+
+  last_at : (j : ℕ) → j < n → get_or lasts (lasts_from n + j) 0 ≡ 0
+  last_at j h = fill-in (lasts_from n) m heads w second ew (lasts_from n + j) (omega arith) (omega arith)
+
+  head_of : (j : ℕ) → j < n → get_or lasts (heads_from n + j) 0 ≡ 0
+  head_of j h =
+      fill-out (lasts_from n) m heads w second ew (heads_from n + j) (λ g. omega arith)
+      ∙ fill-in (heads_from n) k s z first ez (heads_from n + j) (omega arith) (omega arith)
+
+  pub both-cleared : Tally n bare s lasts
+  unfolding bare
+  both-cleared = record {
+    kept = record {
+      size = fill-kept (lasts_from n) m heads w second ew ∙ fill-kept (heads_from n) k s z first ez;
+      slots = λ q a b. fill-out (lasts_from n) m heads w second ew q (λ g. omega (arith, b g)) ∙ fill-out (heads_from n) k s z first ez q (λ g. omega (arith, a (omega arith)));
+    };
+    counting = record { counts = record { slot = λ j a b. head_of j b }; lasts = λ j b i. ne_eqb _ (i + 1) (omega (arith, last_at j b)) };
+  }
 
 -- a row counted for a column, where it is not yet
 pub one-counted : {n i j : ℕ} {s u : List ℕ} → Room n s → j < n → (get_or s (lasts_from n + j) 0 ≡ i + 1 → ⊥)

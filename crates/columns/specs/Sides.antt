@@ -7,7 +7,7 @@ use Rattle.matrix.specs.Input.{Input}
 use Rattle.lent.specs.Reading.{order_of}
 use Rattle.questions.specs.Settled.{Structured}
 use Rattle.marks.specs.Marks.{stamped}
-use Rattle.columns.specs.Columns.{column, places_by_row, Ready, Loaded}
+use Rattle.columns.specs.Columns.{column, places_by_row, Given, Ready, Loaded}
 
 -- "the same three steps with rows and columns exchanged": the pattern whose upper lists are the side's
 abbrev pub side_pattern : Side → Pattern → Pattern
@@ -32,6 +32,10 @@ SideLoaded Lower n t k hi₀ hi R s₀ s = Loaded n t k hi R s₀ s
 -- the places of the entries of the rows of M', by the inverse order in scratch
 abbrev pub rows_in : Input → List ℕ → ℕ → List ℕ
 rows_in i s = places_by_row (order_of i.n s) i.starts i.columns i.r
+
+-- the rows of M' can be read
+abbrev pub Readable : Input → List ℕ → Type 0
+Readable i s = Given i.n i.starts i.columns i.r s
 
 -- what question 2 settles of the starts and the row order, and 3, 4, 5 and 7
 pub record Sound (i : Input) : Type 0 where

@@ -5,22 +5,24 @@
 ghost use Rattle.std.specs.Prelude.{◌≡◌, List, [], ◌∷◌, ℕ, ◌+◌, ◌*◌, ◌≤◌, ◌<◌, length, get_or};
 ghost use Rattle.base.specs.Lists.{row_of};
 ghost use Rattle.lent.specs.Reading.{ListIn, Below, order_of, placed};
+ghost use Rattle.matrix.specs.Input.{lent_pattern};
 ghost use Rattle.marks.specs.Marks.{Room, Order, stamped};
-ghost use Rattle.columns.specs.Columns.{Given, places_by_row, bare, column, Counting, Countable, Counted, Tally, Started, Emptied, Roomy, Offered, push_at, held, Filled, Ready, Windowed, Chain, HasChain, Leading, Loaded};
-ghost use Rattle.columns.specs.Sides.{SideReady, SideLoaded};
+ghost use Rattle.columns.specs.Columns.{bare, column, Counting, Countable, Counted, Tally, Started, Emptied, Roomy, Offered, push_at, held, Filled, Ready, Windowed, Chain, HasChain, Leading, Loaded};
+ghost use Rattle.columns.specs.Sides.{SideReady, SideLoaded, Readable, rows_in};
 ghost use Rattle.base.specs.Scratch.{heads_from};
 ghost use Rattle.base.specs.Limits.{max_rows};
 
-use base::{Index, Place, Side, scratch};
+use base::{Index, OwnNumber, Place, Side, scratch};
+use matrix::System;
 
 // The own columns of the row at place k.
-fn row_of<'a>(starts: &[u32], columns: &'a [Index], r: &[Index], k: usize) -> &'a [Index]
-    requires k_in_bounds { (k < length r.now) × (k < max_rows) }
-    requires list_in { ListIn starts.now starts.now (length columns.now) (get_or r.now k 0) }
-    ensures { result.now ≡ row_of starts.now columns.now (get_or r.now k 0) }
+fn row_of<'a>(input: System<'a>, k: usize) -> &'a [Index]
+    requires place { (k < length input.r.now) × (k < max_rows) }
+    requires list_in { ListIn input.starts.now input.starts.now (length input.columns.now) (get_or input.r.now k 0) }
+    ensures { result.now ≡ row_of input.entry.starts.now input.entry.columns.now (get_or input.entry.r.now k 0) }
 {
-    let i = lent::own_row(r, Place(k as u32));
-    lent::row_columns(starts, columns, i)
+    let i = lent::own_row(input.r, Place(k as u32));
+    lent::row_columns(input.starts, input.columns, i)
 }
 
 // ---- counts
@@ -30,18 +32,14 @@ fn clear_counts(marks: &mut [u32], n: usize)
     requires { Room n marks.old }
     ensures { Tally n bare marks.old marks.new }
 {
-    let mut j = 0;
-    while j < n {
-        marks[scratch::HEADS * n + j] = 0;
-        marks[scratch::LASTS * n + j] = 0;
-        j += 1;
-    }
+    marks[scratch::HEADS * n..scratch::HEADS * n + n].fill(0);
+    marks[scratch::LASTS * n..scratch::LASTS * n + n].fill(0);
 }
 
 // Counts row i for column j, unless it is counted there.
 fn count_one(marks: &mut [u32], n: usize, i: usize, j: usize)
     requires room { Room n marks.old }
-    requires i_lt_n { (i < n) × (j < n) × (get_or marks.old (heads_from n + j) 0 ≤ n) }
+    requires bounds { (i < n) × (j < n) × (get_or marks.old (heads_from n + j) 0 ≤ n) }
     ensures { Counted n i (j ∷ []) marks.old marks.new }
 {
     let last = (i + 1) as u32;
@@ -58,38 +56,34 @@ fn count_row(marks: &mut [u32], n: usize, i: usize, cols: &[Index])
     requires room { Room n marks.old }
     requires order { Order n marks.old }
     requires below { Below n cols.now }
-    requires i_lt_n { (i < n) × Countable n i marks.old }
+    requires countable { (i < n) × Countable n i marks.old }
     ensures { Counted n i (placed (order_of n marks.old) cols.now) marks.old marks.new }
 {
-    let mut q = 0;
-    while q < cols.len() {
-        let j = lent::entry_place(n, marks, cols, q);
-        count_one(marks, n, i, j);
-        q += 1;
+    for &column in cols {
+        let place = lent::place_of(n, marks, OwnNumber(base::number(column)));
+        count_one(marks, n, i, place.0 as usize);
     }
 }
 
 // Counts the rows of each column in heads that are empty.
-fn count_columns(marks: &mut [u32], n: usize, starts: &[u32], columns: &[Index], r: &[Index])
-    requires given { Given n starts.now columns.now r.now marks.old }
-    requires counting { Counting n marks.old bare }
-    ensures { Tally n (column (places_by_row (order_of n marks.old) starts.now columns.now r.now) n) marks.old marks.new }
+fn count_columns(marks: &mut [u32], input: System<'_>)
+    requires given { Readable (lent_pattern input) marks.old }
+    requires counting { Counting input.n marks.old bare }
+    ensures { Tally input.entry.n (column (rows_in (lent_pattern input.entry) marks.old) input.entry.n) marks.old marks.new }
 {
-    let mut k = 0;
-    while k < n {
-        let cols = row_of(starts, columns, r, k);
-        count_row(marks, n, k, cols);
-        k += 1;
+    for k in 0..input.n {
+        let cols = row_of(input, k);
+        count_row(marks, input.n, k, cols);
     }
 }
 
 // Makes ready for the first column: no window is open.
-pub fn start_columns(marks: &mut [u32], n: usize, starts: &[u32], columns: &[Index], r: &[Index])
-    requires { Given n starts.now columns.now r.now marks.old }
-    ensures { Started n (places_by_row (order_of n marks.old) starts.now columns.now r.now) marks.old marks.new }
+pub fn start_columns(marks: &mut [u32], input: System<'_>)
+    requires { Readable (lent_pattern input) marks.old }
+    ensures { Started input.entry.n (rows_in (lent_pattern input.entry) marks.old) marks.old marks.new }
 {
-    clear_counts(marks, n);
-    count_columns(marks, n, starts, columns, r);
+    clear_counts(marks, input.n);
+    count_columns(marks, input);
 }
 
 // ---- windows
@@ -97,27 +91,25 @@ pub fn start_columns(marks: &mut [u32], n: usize, starts: &[u32], columns: &[Ind
 // Empties the heads from lo on, as long as what they count fits the nodes, and answers where it stops.
 fn open_window(marks: &mut [u32], n: usize, lo: usize) -> usize
     requires room { Room n marks.old }
-    requires lo_le_n { lo ≤ n }
+    requires first { lo ≤ n }
     ensures { Emptied n lo result marks.old marks.new }
 {
     let mut left = n;
-    let mut hi = lo;
-    while hi < n {
+    for hi in lo..n {
         let count = base::slot(marks[scratch::HEADS * n + hi]);
         if left < count {
             return hi;
         }
-        left = left - count;
+        left -= count;
         marks[scratch::HEADS * n + hi] = 0;
-        hi += 1;
     }
-    hi
+    n
 }
 
 // Puts node p, with row i, in front of column j's list.
 fn push_node(marks: &mut [u32], n: usize, p: usize, i: usize, j: usize)
     requires room { Room n marks.old }
-    requires p_lt_n { (p < n) × (i < n) × (j < n) }
+    requires bounds { (p < n) × (i < n) × (j < n) }
     ensures { marks.new ≡ push_at n p i j marks.old }
 {
     let rest = marks[scratch::HEADS * n + j];
@@ -130,7 +122,7 @@ fn push_node(marks: &mut [u32], n: usize, p: usize, i: usize, j: usize)
 // Whether row i stands in front of column j's list.
 fn leads_with(marks: &[u32], n: usize, i: usize, j: usize) -> bool
     requires room { Room n marks.now }
-    requires j_lt_n { (j < n) × HasChain n marks.now (get_or marks.now (heads_from n + j) 0) }
+    requires chain { (j < n) × HasChain n marks.now (get_or marks.now (heads_from n + j) 0) }
     ensures { Leading n i j marks.now result }
 {
     let head = base::slot(marks[scratch::HEADS * n + j]);
@@ -151,7 +143,7 @@ fn offer(
     used: usize,
 ) -> usize
     requires room { Room n marks.old }
-    requires hi_le_n { (hi ≤ n) × (i < n) }
+    requires bounds { (hi ≤ n) × (i < n) }
     requires roomy { Roomy n lo hi i (j ∷ []) marks.old used }
     ensures { Offered n lo hi i (j ∷ []) marks.old marks.new used result }
 {
@@ -180,70 +172,50 @@ fn offer_row(
 ) -> usize
     requires room { Room n marks.old }
     requires below { Below n cols.now }
-    requires hi_le_n { (hi ≤ n) × (i < n) }
+    requires bounds { (hi ≤ n) × (i < n) }
     requires roomy { Roomy n lo hi i (placed (order_of n marks.old) cols.now) marks.old used }
     ensures { Offered n lo hi i (placed (order_of n marks.old) cols.now) marks.old marks.new used result }
 {
     let mut p = used;
-    let mut q = 0;
-    while q < cols.len() {
-        let j = lent::entry_place(n, marks, cols, q);
-        p = offer(marks, n, lo, hi, i, j, p);
-        q += 1;
+    for &column in cols {
+        let place = lent::place_of(n, marks, OwnNumber(base::number(column)));
+        p = offer(marks, n, lo, hi, i, place.0 as usize, p);
     }
     p
 }
 
 // The lists of the columns lo to hi, whose heads are empty.
-fn fill_window(
-    marks: &mut [u32],
-    n: usize,
-    lo: usize,
-    hi: usize,
-    starts: &[u32],
-    columns: &[Index],
-    r: &[Index],
-)
-    requires given { Given n starts.now columns.now r.now marks.old }
-    requires hi_le_n { (hi ≤ n) × (held lo hi (column (places_by_row (order_of n marks.old) starts.now columns.now r.now) n) ≤ n) }
-    requires by_index { (j : ℕ) → lo ≤ j → j < hi → get_or marks.old (heads_from n + j) 0 ≡ 0 }
-    ensures { Filled n lo hi (column (places_by_row (order_of n marks.old) starts.now columns.now r.now) n) marks.old marks.new }
+fn fill_window(marks: &mut [u32], input: System<'_>, lo: usize, hi: usize)
+    requires given { Readable (lent_pattern input) marks.old }
+    requires fits { (hi ≤ input.n) × (held lo hi (column (rows_in (lent_pattern input) marks.old) input.n) ≤ input.n) }
+    requires empty { (j : ℕ) → lo ≤ j → j < hi → get_or marks.old (heads_from input.n + j) 0 ≡ 0 }
+    ensures { Filled input.entry.n lo hi (column (rows_in (lent_pattern input.entry) marks.old) input.entry.n) marks.old marks.new }
 {
     let mut p = 0;
-    let mut k = 0;
-    while k < n {
-        let cols = row_of(starts, columns, r, k);
-        p = offer_row(marks, n, lo, hi, k, cols, p);
-        k += 1;
+    for k in 0..input.n {
+        let cols = row_of(input, k);
+        p = offer_row(marks, input.n, lo, hi, k, cols, p);
     }
 }
 
 // A window from k on, unless column k is in the one at hand.
-fn window_at(
-    marks: &mut [u32],
-    n: usize,
-    k: usize,
-    hi: usize,
-    starts: &[u32],
-    columns: &[Index],
-    r: &[Index],
-) -> usize
-    requires given { Given n starts.now columns.now r.now marks.old }
-    requires ready { Ready n k hi (places_by_row (order_of n marks.old) starts.now columns.now r.now) marks.old }
-    requires k_lt_n { k < n }
-    ensures { Windowed n k result (places_by_row (order_of n marks.old) starts.now columns.now r.now) marks.old marks.new }
+fn window_at(marks: &mut [u32], input: System<'_>, k: usize, hi: usize) -> usize
+    requires given { Readable (lent_pattern input) marks.old }
+    requires ready { Ready input.n k hi (rows_in (lent_pattern input) marks.old) marks.old }
+    requires place { k < input.n }
+    ensures { Windowed input.entry.n k result (rows_in (lent_pattern input.entry) marks.old) marks.old marks.new }
 {
     if k < hi {
         return hi;
     }
-    let end = open_window(marks, n, k);
-    fill_window(marks, n, k, end, starts, columns, r);
+    let end = open_window(marks, input.n, k);
+    fill_window(marks, input, k, end);
     end
 }
 
 // ---- loading
 
-// Stamps the list at a head.
+// Stamps the list at a head. A chain of nodes has no index to count, so its loop goes on while there is a node.
 fn stamp_list(marks: &mut [u32], n: usize, stamp: u32, head: usize)
     requires room { Room n marks.old }
     requires has_chain { HasChain n marks.old head }
@@ -260,24 +232,15 @@ fn stamp_list(marks: &mut [u32], n: usize, stamp: u32, head: usize)
 }
 
 // Hands out column k as stamps, and answers the end of the window at hand.
-pub fn load_column(
-    marks: &mut [u32],
-    n: usize,
-    stamp: u32,
-    k: usize,
-    hi: usize,
-    starts: &[u32],
-    columns: &[Index],
-    r: &[Index],
-) -> usize
-    requires given { Given n starts.now columns.now r.now marks.old }
-    requires ready { Ready n k hi (places_by_row (order_of n marks.old) starts.now columns.now r.now) marks.old }
-    requires k_lt_n { k < n }
-    ensures { Loaded n stamp k result (places_by_row (order_of n marks.old) starts.now columns.now r.now) marks.old marks.new }
+pub fn load_column(marks: &mut [u32], input: System<'_>, stamp: u32, k: usize, hi: usize) -> usize
+    requires given { Readable (lent_pattern input) marks.old }
+    requires ready { Ready input.n k hi (rows_in (lent_pattern input) marks.old) marks.old }
+    requires place { k < input.n }
+    ensures { Loaded input.entry.n stamp k result (rows_in (lent_pattern input.entry) marks.old) marks.old marks.new }
 {
-    let end = window_at(marks, n, k, hi, starts, columns, r);
-    let head = base::slot(marks[scratch::HEADS * n + k]);
-    stamp_list(marks, n, stamp, head);
+    let end = window_at(marks, input, k, hi);
+    let head = base::slot(marks[scratch::HEADS * input.n + k]);
+    stamp_list(marks, input.n, stamp, head);
     end
 }
 
@@ -285,24 +248,21 @@ pub fn load_column(
 pub fn load(
     side: Side,
     marks: &mut [u32],
-    n: usize,
+    input: System<'_>,
     stamp: u32,
     k: usize,
     hi: usize,
-    starts: &[u32],
-    columns: &[Index],
-    r: &[Index],
 ) -> usize
-    requires given { Given n starts.now columns.now r.now marks.old }
-    requires side_ready { SideReady side n k hi (places_by_row (order_of n marks.old) starts.now columns.now r.now) marks.old }
-    requires k_lt_n { k < n }
-    ensures { SideLoaded side n stamp k hi result (places_by_row (order_of n marks.old) starts.now columns.now r.now) marks.old marks.new }
+    requires given { Readable (lent_pattern input) marks.old }
+    requires side_ready { SideReady side input.n k hi (rows_in (lent_pattern input) marks.old) marks.old }
+    requires place { k < input.n }
+    ensures { SideLoaded side input.entry.n stamp k hi result (rows_in (lent_pattern input.entry) marks.old) marks.old marks.new }
 {
     match side {
-        Side::Lower => load_column(marks, n, stamp, k, hi, starts, columns, r),
+        Side::Lower => load_column(marks, input, stamp, k, hi),
         Side::Upper => {
-            let cols = row_of(starts, columns, r, k);
-            marks::load_row(marks, n, stamp, cols);
+            let cols = row_of(input, k);
+            marks::load_row(marks, input.n, stamp, cols);
             hi
         }
     }

@@ -1,4 +1,5 @@
 -- Before place 0 and after the last place, or the first that differs: the answer, and what stands in the presented stores.
+use Rattle.std.specs.Prelude.{Err}
 use mathlib.Core.Path.{◌≡◌, ◌∙◌}
 use mathlib.Core.Bool.{Bool, true, false, not, ◌&&◌}
 use mathlib.Core.Logic.{⊎_elim}
@@ -10,14 +11,13 @@ use lib.Dec.{eqb}
 use borrow.Author.Tests.{eqb-true, not-true, not-false}
 use Rattle.base.specs.Lists.{blank}
 use Rattle.base.specs.Tests.{and_cases, and_split, and_right}
-use Rattle.base.specs.Answers.{spot}
+use Rattle.base.specs.Answers.{spot, Pass}
 use Rattle.base.specs.FirstLaws.{first-zero, first-at, first-all, first-none, stop-pass}
 use Rattle.base.specs.Scratch.{upper_cuts, lower_cuts}
 use Rattle.base.specs.declared.Form.{Form}
 use Rattle.base.specs.declared.Form.TheVariants.{Plain, Shared}
 use Rattle.base.specs.declared.Side.TheVariants.{Lower, Upper}
 use Rattle.base.specs.declared.Refusal.TheVariants.{OtherStructure}
-use Rattle.base.specs.declared.Asked.TheVariants.{Pass, Stop}
 use Rattle.fill.specs.Fill.{Pattern, filled, upper_row, lower_row, flip}
 use Rattle.matrix.specs.Input.{Input, stored}
 use Rattle.placement.specs.Placing.{start_of}
@@ -104,7 +104,7 @@ module _ {way : Way} {i : Input} {ls lr li : List ℕ} {lv : ℕ} {us ur ui : Li
 
 -- ---- the answer
 
-asked-at : (f : Form) (P : Pattern) (n : ℕ) (b : Buffers) (k : ℕ) → k < n → ((j : ℕ) → j < k → differs f P n b j ≡ false) → differs f P n b k ≡ true → Stop (OtherStructure (spot k)) ≡ ask_presented f P n b
+asked-at : (f : Form) (P : Pattern) (n : ℕ) (b : Buffers) (k : ℕ) → k < n → ((j : ℕ) → j < k → differs f P n b j ≡ false) → differs f P n b k ≡ true → Err (OtherStructure (spot k)) ≡ ask_presented f P n b
 unfolding ask_presented
 asked-at f P n b k l before here = let e = first-at (differs f P n b) k n l (first-all (differs f P n b) k before) here in rw e
 
@@ -114,7 +114,7 @@ asked-none f P n b all = let e = first-all (differs f P n b) n all in rw e
 
 module _ {way : Way} {i : Input} {ls lr li : List ℕ} {lv : ℕ} {us ur ui : List ℕ} {uv marks : ℕ} (p : Presenting way i ls lr li lv us ur ui uv marks) where
   stop-at : (k : ℕ) → k < i.n → ((j : ℕ) → j < k → other_at way i lv uv ls lr li us ur ui j ≡ false) → other_at way i lv uv ls lr li us ur ui k ≡ true → (s : List ℕ)
-      → Compared way i ls lr li lv us ur ui uv s (Stop (OtherStructure (spot k)))
+      → Compared way i ls lr li lv us ur ui uv s (Err (OtherStructure (spot k)))
   stop-at k l before here s = record {
     answer = λ lower upper d x w m ea eb.
         let is = differs-is way i lv uv ls lr li us ur ui p.upper-runs lower upper d x w m ea eb in
@@ -123,12 +123,12 @@ module _ {way : Way} {i : Input} {ls lr li : List ℕ} {lv : ℕ} {us ur ui : Li
   }
 
   -- list start 0 of a side is wrong
-  pub compared-first : (b : Bool) → b ≡ (eqb (get_or ls 0 0) 0 && eqb (get_or us 0 0) 0) → not b ≡ true → (s : List ℕ) → Compared way i ls lr li lv us ur ui uv s (Stop (OtherStructure (spot 0)))
+  pub compared-first : (b : Bool) → b ≡ (eqb (get_or ls 0 0) 0 && eqb (get_or us 0 0) 0) → not b ≡ true → (s : List ℕ) → Compared way i ls lr li lv us ur ui uv s (Err (OtherStructure (spot 0)))
   compared-first b e f s = stop-at 0 (omega (arith, p.matrix.some)) (λ j l. absurd (omega arith)) (start-other way i lv uv ls lr li us ur ui (rw e at (not-true b f))) s
 
   -- place k differs
   pub compared-stop : (k : ℕ) (s₀ : List ℕ) (g : Reached) → Met way i lv uv k ls lr li us ur ui s₀ g → k < i.n → other_at way i lv uv ls lr li us ur ui k ≡ true → (s : List ℕ)
-      → Compared way i ls lr li lv us ur ui uv s (Stop (OtherStructure (spot k)))
+      → Compared way i ls lr li lv us ur ui uv s (Err (OtherStructure (spot k)))
   compared-stop k s₀ g h l e s = stop-at k l (first-none (other_at way i lv uv ls lr li us ur ui) k h.same) e s
 
 standing-end : (way : Way) (i : Input) (lv uv : ℕ) (ls lr li us ur ui s : List ℕ) (g : Reached) → RunsBy way ls lr → RunsBy way us ur → Met way i lv uv i.n ls lr li us ur ui s g
@@ -155,3 +155,12 @@ compared-pass {way} {i} {ls} {lr} {li} {lv} {us} {ur} {ui} {uv} p {k} {s} {g} at
           asked-none (form_of way) (stored i) i.n _ (λ j b. differs-is way i lv uv ls lr li us ur ui p.upper-runs lower upper d x w m ea eb j b ∙ first-none (other_at way i lv uv ls lr li us ur ui) i.n h.same j b);
       standing = λ e. standing-end way i lv uv ls lr li us ur ui s g p.lower-runs p.upper-runs h;
     }
+
+-- the default of each part is 0
+all-zero : (a b c d e f w : ℕ) → ((a ≡ 0) × ((b ≡ 0) × (c ≡ 0))) × (((d ≡ 0) × ((e ≡ 0) × (f ≡ 0))) × (w ≡ 0))
+    → ◌≡◌ {A = Reached} (record { lower = record { used = a; last = b; entries = c }; upper = record { used = d; last = e; entries = f }; window = w }) nothing_met
+all-zero a b c d e f w h = rw (h.0.0, h.0.1.0, h.0.1.1, h.1.0.0, h.1.0.1.0, h.1.0.1.1, h.1.1)
+
+pub default-is : (g : Reached)
+    → ((g.lower.used ≡ 0) × ((g.lower.last ≡ 0) × (g.lower.entries ≡ 0))) × (((g.upper.used ≡ 0) × ((g.upper.last ≡ 0) × (g.upper.entries ≡ 0))) × (g.window ≡ 0)) → g ≡ nothing_met
+default-is g h = all-zero g.lower.used g.lower.last g.lower.entries g.upper.used g.upper.last g.upper.entries g.window h

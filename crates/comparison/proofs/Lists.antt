@@ -1,4 +1,5 @@
 -- One list, and one side, of a place: what comparing tells of it.
+use Rattle.std.specs.Prelude.{Option, Some, None}
 use mathlib.Core.Path.{◌≡◌, refl}
 use mathlib.Core.Bool.{Bool, true, false, ◌&&◌}
 use mathlib.Core.List.{List}
@@ -16,8 +17,6 @@ use Rattle.storing.specs.Held.{RowIs, presented, Checked}
 use Rattle.storing.specs.declared.Way.{Way}
 use Rattle.storing.specs.declared.Way.TheVariants.{OneAfterAnother, Sharing}
 use Rattle.storing.specs.declared.Extent.{Extent}
-use Rattle.storing.specs.declared.Match.{Match}
-use Rattle.storing.specs.declared.Match.TheVariants.{Same, Differs}
 use Rattle.symbolic.specs.Places.{pattern_of, cuts_of, RowFound, Keep, SideAt}
 use Rattle.symbolic.specs.declared.OpenRow.{OpenRow}
 use Rattle.symbolic.proofs.Keeping.{kept_next}
@@ -35,16 +34,16 @@ unfolding presented
 room-presented way T R values k starts runs index e = (and_cases (room (way_of way) T R (length index) values k) _ e).0
 
 pub list_same : {way : Way} {P : Pattern} {n k t cuts values : ℕ} {starts runs index s : List ℕ} {o : OpenRow} {e : Extent} → Keep way P n k t cuts index values starts runs index s o e
-    → (next : Extent) → Checked way (upper_row P n) (lower_row P) values k starts runs index (Same next) → (s' : List ℕ) → Renewed n t k cuts starts runs index s s'
+    → (next : Extent) → Checked way (upper_row P n) (lower_row P) values k starts runs index (Some next) → (s' : List ℕ) → Renewed n t k cuts starts runs index s s'
     → ListSame way P n k cuts values starts runs index s s' next
 list_same {way} {P} {n} {k} {values = values} {starts = starts} {runs = runs} {index = index} h next c s' r = record {
   same = c.0;
   kept = kept_next h next starts runs index c.1 (room-presented way (upper_row P n) (lower_row P) values k starts runs index c.0) refl refl s' r;
 }
 
-pub lower-told : (P : Pattern) (values k : ℕ) (starts index : List ℕ) (r : Match) → Checked OneAfterAnother (lower_row P) (lower_row (flip P)) values k starts starts index r → LowerEnds P values k starts index r
-lower-told P values k starts index (Same e) h = (h.0, rw add-one h.1)
-lower-told P values k starts index Differs h = h
+pub lower-told : (P : Pattern) (values k : ℕ) (starts index : List ℕ) (r : Option Extent) → Checked OneAfterAnother (lower_row P) (lower_row (flip P)) values k starts starts index r → LowerEnds P values k starts index r
+lower-told P values k starts index (Some e) h = (h.0, rw add-one h.1)
+lower-told P values k starts index None h = h
 
 -- ---- a side
 

@@ -1,17 +1,16 @@
 -- Question 14 place by place: what is found again is compared with what is presented. In all of it the store as it stood before the first
 -- place is the presented one. Definitions only.
-use Rattle.std.specs.Prelude.{◌≡◌, Bool, true, false, not, ◌&&◌, List, [], ℕ, ◌+◌, ◌<◌, ◌≤◌, length, Float}
+use Rattle.base.specs.Answers.{Pass, Asked}
+use Rattle.std.specs.Prelude.{◌≡◌, Bool, true, false, not, ◌&&◌, List, [], ℕ, ◌+◌, ◌<◌, ◌≤◌, length, Float, Option, Some, None}
 use Rattle.base.specs.First.{first}
 use Rattle.base.specs.Scratch.{upper_cuts}
-use Rattle.base.specs.declared.Found.TheVariants.{Nothing}
 use Rattle.base.specs.declared.Form.{Form}
 use Rattle.base.specs.declared.Form.TheVariants.{Plain, Shared}
 use Rattle.base.specs.declared.Side.{Side}
 use Rattle.base.specs.declared.Side.TheVariants.{Lower, Upper}
-use Rattle.base.specs.declared.Asked.{Asked}
-use Rattle.base.specs.declared.Asked.TheVariants.{Pass}
 use Rattle.fill.specs.Fill.{Pattern, filled, upper_row, lower_row, flip}
-use Rattle.matrix.specs.Input.{Input, input_of, stored}
+use Rattle.matrix.specs.Input.{Input, stored, pattern_by}
+use Rattle.matrix.specs.declared.System.{System}
 use Rattle.marks.specs.Marks.{Fresh}
 use Rattle.columns.specs.Columns.{Ready}
 use Rattle.questions.specs.Lent.{Inverse}
@@ -23,17 +22,12 @@ use Rattle.storing.specs.Held.{Holding, presented}
 use Rattle.storing.specs.declared.Way.{Way}
 use Rattle.storing.specs.declared.Way.TheVariants.{OneAfterAnother, Sharing}
 use Rattle.storing.specs.declared.Extent.{Extent}
-use Rattle.storing.specs.declared.Match.{Match}
-use Rattle.storing.specs.declared.Match.TheVariants as matched
 use Rattle.symbolic.specs.Places.{pattern_of, Begun, Stores, ListsAt, Keep, ListKept, KeepLower, SideAt, SideNext}
 use Rattle.symbolic.specs.Pass.{stamp_at, LowerAt, nothing, MatrixLent}
 use Rattle.symbolic.specs.declared.OpenRow.{OpenRow}
 use Rattle.symbolic.specs.declared.SidePlace.{SidePlace}
-use Rattle.comparison.specs.declared.SideMatch.{SideMatch}
-use Rattle.comparison.specs.declared.SideMatch.TheVariants as sided
+use Rattle.comparison.specs.declared.Presented.{Presented}
 use Rattle.comparison.specs.declared.Reached.{Reached}
-use Rattle.comparison.specs.declared.PlaceMatch.{PlaceMatch}
-use Rattle.comparison.specs.declared.PlaceMatch.TheVariants as placed
 
 -- the form that places its lists so: the plain and the shared form are presented
 abbrev pub form_of : Way → Form
@@ -47,27 +41,40 @@ pub record ListSame (way : Way) (P : Pattern) (n k cuts values : ℕ) (starts ru
   pub same : presented way (upper_row P n) (lower_row P) values k starts runs index ≡ true
   pub kept : ListKept way P n k cuts index values starts runs index s₀ s e
 
-abbrev pub ListEnds : Way → Pattern → ℕ → ℕ → ℕ → ℕ → List ℕ → List ℕ → List ℕ → List ℕ → List ℕ → Match → Type 0
-ListEnds way P n k cuts values starts runs index s₀ s (matched.Same e) = ListSame way P n k cuts values starts runs index s₀ s e
-ListEnds way P n k cuts values starts runs index s₀ s matched.Differs = presented way (upper_row P n) (lower_row P) values k starts runs index ≡ false
+abbrev pub ListEnds : Way → Pattern → ℕ → ℕ → ℕ → ℕ → List ℕ → List ℕ → List ℕ → List ℕ → List ℕ → Option Extent → Type 0
+ListEnds way P n k cuts values starts runs index s₀ s (Some e) = ListSame way P n k cuts values starts runs index s₀ s e
+ListEnds way P n k cuts values starts runs index s₀ s None = presented way (upper_row P n) (lower_row P) values k starts runs index ≡ false
+
+-- of the lists that are presented: it can be compared, and what comparing tells
+abbrev pub KeepIn : Way → Pattern → ℕ → ℕ → ℕ → ℕ → Presented → List ℕ → OpenRow → Extent → Type 0
+KeepIn way P n k t cuts l s o e = Keep way P n k t cuts l.index.now l.values l.starts.now l.runs.now l.index.now s o e
+
+abbrev pub ListEndsIn : Way → Pattern → ℕ → ℕ → ℕ → Presented → List ℕ → List ℕ → Option Extent → Type 0
+ListEndsIn way P n k cuts l s₀ s o = ListEnds way P n k cuts l.values l.starts.now l.runs.now l.index.now s₀ s o
 
 -- it can be compared, for some pattern and stamp
-pub record Comparable (way : Way) (n k cuts values : ℕ) (starts runs index s : List ℕ) (o : OpenRow) (e : Extent) : Type 0 where
+pub record Comparable (way : Way) (n k cuts : ℕ) (l : Presented) (s : List ℕ) (o : OpenRow) (e : Extent) : Type 0 where
   pub pattern : Pattern
   pub stamp : ℕ
-  pub keep : Keep way pattern n k stamp cuts index values starts runs index s o e
+  pub keep : KeepIn way pattern n k stamp cuts l s o e
 
 abbrev pub presented_lower : Pattern → ℕ → ℕ → List ℕ → List ℕ → Bool
 presented_lower P values k starts index = presented OneAfterAnother (lower_row P) (lower_row (flip P)) values k starts starts index
 
-abbrev pub LowerEnds : Pattern → ℕ → ℕ → List ℕ → List ℕ → Match → Type 0
-LowerEnds P values k starts index (matched.Same e) =
+abbrev pub LowerEnds : Pattern → ℕ → ℕ → List ℕ → List ℕ → Option Extent → Type 0
+LowerEnds P values k starts index (Some e) =
     (presented_lower P values k starts index ≡ true) × Holding OneAfterAnother (lower_row P) (lower_row (flip P)) values (k + 1) index starts starts index e
-LowerEnds P values k starts index matched.Differs = presented_lower P values k starts index ≡ false
+LowerEnds P values k starts index None = presented_lower P values k starts index ≡ false
 
-pub record LowerComparable (n k values : ℕ) (starts index s : List ℕ) (count : ℕ) (e : Extent) : Type 0 where
+abbrev pub KeepLowerIn : Pattern → ℕ → ℕ → Presented → List ℕ → ℕ → Extent → Type 0
+KeepLowerIn P n k l s count e = KeepLower P n k l.index.now l.values l.starts.now l.index.now s count e
+
+abbrev pub LowerEndsIn : Pattern → ℕ → Presented → Option Extent → Type 0
+LowerEndsIn P k l o = LowerEnds P l.values k l.starts.now l.index.now o
+
+pub record LowerComparable (n k : ℕ) (l : Presented) (s : List ℕ) (count : ℕ) (e : Extent) : Type 0 where
   pub pattern : Pattern
-  pub keep : KeepLower pattern n k index values starts index s count e
+  pub keep : KeepLowerIn pattern n k l s count e
 
 -- ---- a side at place k
 
@@ -78,14 +85,21 @@ pub record SideSame (way : Way) (side : Side) (i : Input) (values k t : ℕ) (st
   pub same : presented_side way side i values k starts runs index ≡ true
   pub next : SideNext way side i index values k t starts runs index s₀ s p
 
-abbrev pub SideEnds : Way → Side → Input → ℕ → ℕ → ℕ → List ℕ → List ℕ → List ℕ → List ℕ → List ℕ → SideMatch → Type 0
-SideEnds way side i values k t starts runs index s₀ s (sided.Same p) = SideSame way side i values k t starts runs index s₀ s p
-SideEnds way side i values k t starts runs index s₀ s sided.Other = (filled (pattern_of side i) k k && presented_side way side i values k starts runs index) ≡ false
+abbrev pub SideEnds : Way → Side → Input → ℕ → ℕ → ℕ → List ℕ → List ℕ → List ℕ → List ℕ → List ℕ → Option SidePlace → Type 0
+SideEnds way side i values k t starts runs index s₀ s (Some p) = SideSame way side i values k t starts runs index s₀ s p
+SideEnds way side i values k t starts runs index s₀ s None = (filled (pattern_of side i) k k && presented_side way side i values k starts runs index) ≡ false
+
+-- of the lists that are presented, for column order c
+abbrev pub SideAtIn : Way → Side → System → List ℕ → Presented → ℕ → ℕ → ℕ → List ℕ → Extent → Type 0
+SideAtIn way side i c l k t window s e = SideAt way side (pattern_by i c) l.index.now l.values k t window l.starts.now l.runs.now l.index.now s e
+
+abbrev pub SideEndsIn : Way → Side → System → List ℕ → Presented → ℕ → ℕ → List ℕ → List ℕ → Option SidePlace → Type 0
+SideEndsIn way side i c l k t s₀ s o = SideEnds way side (pattern_by i c) l.values k t l.starts.now l.runs.now l.index.now s₀ s o
 
 -- for some column order
-pub record SideComparable (way : Way) (side : Side) (n values k t window : ℕ) (mstarts columns r starts runs index s : List ℕ) (e : Extent) : Type 0 where
+pub record SideComparable (way : Way) (side : Side) (i : System) (l : Presented) (k t window : ℕ) (s : List ℕ) (e : Extent) : Type 0 where
   pub order : List ℕ
-  pub due : SideAt way side (input_of n mstarts columns [] r order []) index values k t window starts runs index s e
+  pub due : SideAtIn way side i order l k t window s e
 
 -- ---- place k of both sides
 
@@ -96,22 +110,29 @@ other_at Sharing i lv uv ls lr li us ur ui k = not (filled (stored i) k k && pre
 
 -- no place before k differs, and their lists stand in the presented stores
 pub record Met (way : Way) (i : Input) (lv uv k : ℕ) (ls lr li us ur ui s : List ℕ) (g : Reached) : Type 0 where
-  pub same : first (other_at way i lv uv ls lr li us ur ui) k ≡ Nothing
+  pub same : first (other_at way i lv uv ls lr li us ur ui) k ≡ None
   pub most : k ≤ i.n
   pub begun : Begun i s
   pub fresh : Fresh i.n (stamp_at (form_of way) k) s
   pub lower : LowerAt (form_of way) i li lv k ls lr li s g.lower g.window
   pub upper : ListsAt way (stored i) i.n k (upper_cuts i.n) ui uv us ur ui s g.upper
 
--- place k is due, for some column order
-pub record Due (way : Way) (n lv uv k : ℕ) (starts columns r ls lr li us ur ui s : List ℕ) (g : Reached) : Type 0 where
-  pub order : List ℕ
-  pub place : k < n
-  pub at : Met way (input_of n starts columns [] r order []) lv uv k ls lr li us ur ui s g
+abbrev pub PlaceEnds : Way → Input → ℕ → ℕ → ℕ → List ℕ → List ℕ → List ℕ → List ℕ → List ℕ → List ℕ → List ℕ → Option Reached → Type 0
+PlaceEnds way i lv uv k ls lr li us ur ui s (Some g) = Met way i lv uv (k + 1) ls lr li us ur ui s g
+PlaceEnds way i lv uv k ls lr li us ur ui s None = other_at way i lv uv ls lr li us ur ui k ≡ true
 
-abbrev pub PlaceEnds : Way → Input → ℕ → ℕ → ℕ → List ℕ → List ℕ → List ℕ → List ℕ → List ℕ → List ℕ → List ℕ → PlaceMatch → Type 0
-PlaceEnds way i lv uv k ls lr li us ur ui s (placed.Next g) = Met way i lv uv (k + 1) ls lr li us ur ui s g
-PlaceEnds way i lv uv k ls lr li us ur ui s placed.Other = other_at way i lv uv ls lr li us ur ui k ≡ true
+-- of the lists that are presented, for column order c
+abbrev pub MetIn : Way → System → List ℕ → Presented → Presented → ℕ → List ℕ → Reached → Type 0
+MetIn way i c lower upper k s g = Met way (pattern_by i c) lower.values upper.values k lower.starts.now lower.runs.now lower.index.now upper.starts.now upper.runs.now upper.index.now s g
+
+abbrev pub PlaceEndsIn : Way → System → List ℕ → Presented → Presented → ℕ → List ℕ → Option Reached → Type 0
+PlaceEndsIn way i c lower upper k s o = PlaceEnds way (pattern_by i c) lower.values upper.values k lower.starts.now lower.runs.now lower.index.now upper.starts.now upper.runs.now upper.index.now s o
+
+-- place k is due, for some column order
+pub record Due (way : Way) (i : System) (lower upper : Presented) (k : ℕ) (s : List ℕ) (g : Reached) : Type 0 where
+  pub order : List ℕ
+  pub place : k < i.n
+  pub at : MetIn way i order lower upper k s g
 
 -- ---- the pass
 

@@ -1,4 +1,5 @@
 -- What each form asks can be met: the paper's 2 by 2 example, whose fill has an entry on either side.
+use Rattle.base.specs.Answers.{Pass}
 use mathlib.Core.Path.{◌≡◌, refl}
 use mathlib.Core.List.{List, [], ◌∷◌}
 use Prim.Native.Nat.{ℕ}
@@ -9,7 +10,6 @@ use lib.Ieee.{Float, binary64, of_bits, lt}
 use Rattle.base.specs.Magnitude.{is_floor}
 use Rattle.base.specs.Lists.{nought, has, asc, table, list_at, padded}
 use Rattle.base.specs.First.{first}
-use Rattle.base.specs.declared.Asked.TheVariants.{Pass}
 use Rattle.base.specs.declared.Form.TheVariants.{Plain, Shared, ByRow}
 use Rattle.base.specs.declared.Side.TheVariants.{Lower, Upper}
 use Rattle.fill.specs.Fill.{reach, filled, upper, upper_row, lower_row}

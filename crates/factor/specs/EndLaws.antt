@@ -1,8 +1,8 @@
 -- Before the first row, and from the last row and the back steps to the answer.
 use Rattle.std.proofs.Math.Path.{◌≡◌, refl, sym, ap}
-use Rattle.std.proofs.Common.{◌∙◌, subst, arith, zero-add, length-drop, ext_get_or, get_or-take, get_or-drop, drop-drop, length-take-le}
+use Rattle.std.proofs.Common.{◌∙◌, subst, true≢false, arith, zero-add, length-drop, ext_get_or, get_or-take, get_or-drop, drop-drop, length-take-le}
 use mathlib.Core.List.{List, [], ◌∷◌, ◌++◌, append_assoc}
-use Rattle.std.specs.Prelude.{ℕ, zero, suc, ◌+◌, ◌-◌, ◌<◌, ◌≤◌, length, take, drop, set, replicate, Float}
+use Rattle.std.specs.Prelude.{ℕ, zero, suc, ◌+◌, ◌-◌, ◌<◌, ◌≤◌, length, take, drop, set, replicate, Result, Ok, Err, MatchResult, IsErrAnd, is_ok, ⊤, Float}
 use Rattle.std.proofs.Math.Decide.{dec_lt}
 use Rattle.std.proofs.Math.ListN.{get_or, length-replicate, get_or-replicate}
 use Rattle.std.proofs.Math.Seq.{length-sets}
@@ -19,7 +19,8 @@ use Rattle.base.specs.declared.Side.TheVariants.{Lower, Upper}
 use Rattle.fill.specs.Fill.{Pattern}
 use Rattle.placement.specs.Placing.{start_of}
 use Rattle.matrix.specs.Input.{Input, stored}
-use Rattle.arithmetic.specs.Arith.{Fault, zero_pivot, overflow, Out, ok, met, Row, none, Given}
+use Rattle.arithmetic.specs.Arith as operations
+use Rattle.arithmetic.specs.Arith.{zero_pivot, overflow, Out, ok, met, Row, none, Given}
 use Rattle.arithmetic.specs.Stopping.{◌>>=◌, at, less, rest, back}
 use Rattle.outcome.specs.Forms.{value_need}
 use Rattle.outcome.specs.Placed.{PlacedSide, start-at, size-at, list_at-is}
@@ -28,8 +29,6 @@ use Rattle.outcome.proofs.Meaning.{listed-stops}
 use Rattle.lent.specs.Reading.{But}
 use Rattle.marks.specs.MarkLaws.{sets_below, sets-above}
 use Rattle.marks.specs.RenewLaws as found
-use Rattle.numeric.specs.declared.Back.TheVariants.{Complete, Stopped}
-use Rattle.numeric.specs.declared.Back.{Back}
 use Rattle.numeric.specs.Stores.{store_given, numbered_back}
 use Rattle.numeric.specs.Rows.{u_of, l_of, column_of}
 use Rattle.numeric.specs.KeepLaws.{columns-start, columns-end}
@@ -41,8 +40,8 @@ use Rattle.factor.specs.Factoring.{Factors, FactoredAs, PlacedLists, Workspace, 
 use Rattle.factor.specs.SystemLaws.{placed-shape}
 use Rattle.factor.specs.TurnLaws.{SameSizes, none_left, same-given}
 use Rattle.factor.specs.ColumnLaws.{shared-side, shared-fits, column-is}
-use Rattle.factor.specs.declared.Factored.{Factored}
-use Rattle.factor.specs.declared.Factored.TheVariants.{Solved, Zero, Overflow}
+use Rattle.factor.specs.declared.Fault.{Fault}
+use Rattle.factor.specs.declared.Fault.TheVariants.{Zero, Overflow}
 use Rattle.base.specs.Scratch.{inverse_from, upper_cuts, cursors_from, regions_end, z_from}
 
 -- ---- before the first row
@@ -135,26 +134,26 @@ form-start f {i} {L} {w} x F s el eu ew em =
 
 -- ---- a fault in the back steps is an overflow at one of the n places
 
-bind-fault : {A B C : Type 0} (o : Out A) (g : A → Out B) (q : Fault) → (o >>= g) ≡ met q → (o ≡ met q → C) → ((a : A) → g a ≡ met q → C) → C
+bind-fault : {A B C : Type 0} (o : Out A) (g : A → Out B) (q : operations.Fault) → (o >>= g) ≡ met q → (o ≡ met q → C) → ((a : A) → g a ≡ met q → C) → C
 bind-fault (ok a) g q e f h = h a e
 bind-fault (met p) g q e f h = f (cc)
 
-at-fault : (k : ℕ) (x : Float) (q : Fault) → at k x ≡ met q → q ≡ overflow k
+at-fault : (k : ℕ) (x : Float) (q : operations.Fault) → at k x ≡ met q → q ≡ overflow k
 at-fault k x q e = by-test (finite x)
     (λ t. let z : ok x ≡ met q = rw t at e in absurd (let w : ◌≡◌ {A = ℕ} 0 1 = cc in omega arith))
     (λ t. let z : met (overflow k) ≡ met q = rw t at e in cc)
 
-less-fault : (k : ℕ) (v a b : Float) (q : Fault) → less (at k) v a b ≡ met q → q ≡ overflow k
+less-fault : (k : ℕ) (v a b : Float) (q : operations.Fault) → less (at k) v a b ≡ met q → q ≡ overflow k
 less-fault k v a b q e = bind-fault (at k (mul binary64 a b)) (λ p. at k (sub binary64 v p)) q e (at-fault k (mul binary64 a b) q) (λ p. at-fault k (sub binary64 v p) q)
 
-rest-fault : (k : ℕ) (t : Float) (js : List ℕ) (us z : List Float) (q : Fault) → rest (at k) t js us z ≡ met q → q ≡ overflow k
+rest-fault : (k : ℕ) (t : Float) (js : List ℕ) (us z : List Float) (q : operations.Fault) → rest (at k) t js us z ≡ met q → q ≡ overflow k
 unfolding rest
 rest-fault k t [] us z q e = absurd (let w : ◌≡◌ {A = ℕ} 0 1 = cc in omega arith)
 rest-fault k t (j ∷ js) [] z q e = absurd (let w : ◌≡◌ {A = ℕ} 0 1 = cc in omega arith)
 rest-fault k t (j ∷ js) (u ∷ us) z q e =
     bind-fault (less (at k) t u (get_or z j nan)) (λ s. rest (at k) s js us z) q e (less-fault k t u (get_or z j nan) q) (λ s. rest-fault k s js us z q)
 
-pub back-fault : (G : Given) (n : ℕ) (z : List Float) (q : Fault) → back G n z ≡ met q → (k : ℕ) × (k < n) × (q ≡ overflow k)
+pub back-fault : (G : Given) (n : ℕ) (z : List Float) (q : operations.Fault) → back G n z ≡ met q → (k : ℕ) × (k < n) × (q ≡ overflow k)
 unfolding back
 back-fault G zero z q e = absurd (let w : ◌≡◌ {A = ℕ} 0 1 = cc in omega arith)
 back-fault G (suc m) z q e =
@@ -168,11 +167,19 @@ stopped-below G n k z e =
     let z : k ≡ p.0 = cc in
     omega (arith, p.1)
 
-pub complete-at : (z : List Float) (r : Back) (o : Out (List Float)) → r ≡ Complete → numbered_back z r ≡ o → ok z ≡ o
+pub complete-at : (z : List Float) (r : Result ⊤ ℕ) (o : Out (List Float)) → r ≡ Ok tt → numbered_back z r ≡ o → ok z ≡ o
 complete-at z r o e h = rw e at h
 
-pub stopped-at : (k : ℕ) (z : List Float) (r : Back) (o : Out (List Float)) → r ≡ Stopped k → numbered_back z r ≡ o → met (overflow k) ≡ o
+pub stopped-at : (k : ℕ) (z : List Float) (r : Result ⊤ ℕ) (o : Out (List Float)) → r ≡ Err k → numbered_back z r ≡ o → met (overflow k) ≡ o
 stopped-at k z r o e h = rw e at h
+
+-- a place at which the back steps stop, as the fault at it
+pub back-mapped : (z : List Float) {P : ℕ → Fault → Type 0} (r : Result ⊤ ℕ) (a : Result ⊤ Fault) → ((k : ℕ) (q : Fault) → P k q → q ≡ Overflow (record { 0 = k }))
+    → MatchResult r (λ t. a ≡ Ok t) (λ k. IsErrAnd a (P k)) → is_ok a ≡ is_ok r → back_as z a ≡ numbered_back z r
+back-mapped z (Ok t) (Ok u) g h e = refl
+back-mapped z (Ok t) (Err q) g h e = absurd (true≢false (sym e))
+back-mapped z (Err k) (Ok u) g h e = absurd (true≢false e)
+back-mapped z (Err k) (Err q) g h e = rw (g k q h)
 
 -- ---- the factors
 
@@ -244,16 +251,16 @@ module _ {f : Form} {i : Input} {L : PlacedLists} {w : Workspace} (G : Going f i
         solution = refl;
       }
 
-  pub going_end : (z : List Float) (r : Factored) → back_as z r ≡ back (store_given i.n w.work L.upper-starts L.upper-runs L.upper-index w.upper) i.n (drop (z_from i.n) w.work)
+  pub going_end : (z : List Float) (r : Result ⊤ Fault) → back_as z r ≡ back (store_given i.n w.work L.upper-starts L.upper-runs L.upper-index w.upper) i.n (drop (z_from i.n) w.work)
       → FactoredAs f i r w.lower w.upper w.d z
   unfolding FactoredAs
-  going_end z Solved e = (record { rows = G.rows; z = z }, listed-stops i ∙ held-solved G.held z Complete e refl, factors z)
-  going_end z (Overflow k) e = listed-stops i ∙ held-stopped G.held k.0 z (Stopped k.0) e refl
-  going_end z (Zero k) e =
+  going_end z (Ok t) e = (record { rows = G.rows; z = z }, listed-stops i ∙ held-solved G.held z (Ok tt) e refl, factors z)
+  going_end z (Err (Overflow k)) e = listed-stops i ∙ held-stopped G.held k.0 z (Err k.0) e refl
+  going_end z (Err (Zero k)) e =
       let p = back-fault _ i.n _ (zero_pivot k.0) (sym e) in
       let q = p.2 in
       absurd (let y : ◌≡◌ {A = ℕ} 0 1 = cc in omega arith)
 
 -- the row form's empty lower values
-pub row-end : (i : Input) (a : Factored) (l u d z : List Float) → length l ≡ length {A = Float} [] → FactoredAs ByRow i a l u d z → FactoredAs ByRow i a [] u d z
+pub row-end : (i : Input) (a : Result ⊤ Fault) (l u d z : List Float) → length l ≡ length {A = Float} [] → FactoredAs ByRow i a l u d z → FactoredAs ByRow i a [] u d z
 row-end i a l u d z e F = subst (λ (x : List Float). FactoredAs ByRow i a x u d z) (none_left [] l e refl) F

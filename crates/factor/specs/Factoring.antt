@@ -1,5 +1,5 @@
 -- The factors and z that a solve leaves, in each form, and what stands in the stores between two rows of the arithmetic. Definitions only.
-use Rattle.std.specs.Prelude.{◌≡◌, List, [], ℕ, ◌+◌, ◌*◌, ◌<◌, ◌≤◌, length, get_or, take, drop, replicate, Bool, true, false, Float}
+use Rattle.std.specs.Prelude.{◌≡◌, List, [], ℕ, ◌+◌, ◌*◌, ◌<◌, ◌≤◌, length, get_or, take, drop, replicate, Bool, true, false, Ok, Err, ⊤, Float}
 use Rattle.std.proofs.lemmas.List.Edits.{sets}
 use Rattle.std.specs.Float.{nan}
 use Rattle.std.specs.Float.Ieee.Scale.{finite}
@@ -20,10 +20,15 @@ use Rattle.marks.specs.Rows as found
 use Rattle.lent.specs.Reading.{ListIn, Below, But, placed, order_of}
 use Rattle.numeric.specs.Stores.{Ascending, StoreShape, gathered, columns, keep_columns}
 use Rattle.numeric.specs.Rows.{RowsHeld, Stacked, l_of, column_of, InColumns}
-use Rattle.factor.specs.declared.Factored.{Factored}
-use Rattle.factor.specs.declared.Factored.TheVariants.{Solved, Zero, Overflow}
+use Rattle.std.specs.Prelude as prelude
+use Rattle.factor.specs.declared.Fault.{Fault}
+use Rattle.factor.specs.declared.Lists as declared
+use Rattle.factor.specs.declared.Fault.TheVariants.{Zero, Overflow}
 use Rattle.base.specs.Scratch.{inverse_from, upper_cuts, cursors_from, list_from, regions_end}
 use Rattle.base.specs.Limits.{max_rows}
+use Rattle.base.specs.declared.Refusal.{Refusal}
+use Rattle.base.specs.declared.Refusal.TheVariants as refusals
+use Rattle.base.specs.declared.Refusal.TheVariants.{ZeroPivot}
 
 -- ---- the answer
 
@@ -35,10 +40,15 @@ pub record Factors (f : Form) (i : Input) (a : Result) (lower upper d z : List F
   pub solution : z ≡ a.z
 
 -- "of 12 and 13, whichever the arithmetic meets first", or neither
-unfoldable pub FactoredAs : Form → Input → Factored → List Float → List Float → List Float → List Float → Type 0
-FactoredAs f i Solved lower upper d z = (a : Result) × (listed i ≡ ok a) × Factors f i a lower upper d z
-FactoredAs f i (Zero k) lower upper d z = listed i ≡ met (zero_pivot k.0)
-FactoredAs f i (Overflow k) lower upper d z = listed i ≡ met (overflow k.0)
+unfoldable pub FactoredAs : Form → Input → prelude.Result ⊤ Fault → List Float → List Float → List Float → List Float → Type 0
+FactoredAs f i (Ok t) lower upper d z = (a : Result) × (listed i ≡ ok a) × Factors f i a lower upper d z
+FactoredAs f i (Err (Zero k)) lower upper d z = listed i ≡ met (zero_pivot k.0)
+FactoredAs f i (Err (Overflow k)) lower upper d z = listed i ≡ met (overflow k.0)
+
+-- as a refusal
+abbrev pub refused_by : Fault → Refusal
+refused_by (Zero k) = ZeroPivot k
+refused_by (Overflow k) = refusals.Overflow k
 
 -- ---- what is lent
 
@@ -52,6 +62,10 @@ pub record PlacedLists : Type 0 where
 
 abbrev pub lists : List ℕ → List ℕ → List ℕ → List ℕ → List ℕ → PlacedLists
 lists ls li us ur ui = record { lower-starts = ls; lower-index = li; upper-starts = us; upper-runs = ur; upper-index = ui }
+
+-- the same of a call's struct
+abbrev pub lent_lists : declared.Lists → PlacedLists
+lent_lists l = lists l.lower_starts.now l.lower_index.now l.upper_starts.now l.upper_runs.now l.upper_index.now
 
 -- and what it writes
 pub record Workspace : Type 0 where
@@ -123,15 +137,10 @@ pub record Going (f : Form) (i : Input) (L : PlacedLists) (k : ℕ) (w : Workspa
   pub finding : Finding f i L k w.marks
 
 -- rows 0 to k - 1 are done, or the listed operations meet a fault in one of them
-unfoldable pub CameTo : Form → Input → PlacedLists → ℕ → Factored → Workspace → Type 0
-CameTo f i L k Solved w = Going f i L k w
-CameTo f i L k (Zero p) w = listed i ≡ met (zero_pivot p.0)
-CameTo f i L k (Overflow p) w = listed i ≡ met (overflow p.0)
-
-abbrev pub is_fault : Factored → Bool
-is_fault Solved = false
-is_fault (Zero k) = true
-is_fault (Overflow k) = true
+unfoldable pub CameTo : Form → Input → PlacedLists → ℕ → prelude.Result ⊤ Fault → Workspace → Type 0
+CameTo f i L k (Ok t) w = Going f i L k w
+CameTo f i L k (Err (Zero p)) w = listed i ≡ met (zero_pivot p.0)
+CameTo f i L k (Err (Overflow p)) w = listed i ≡ met (overflow p.0)
 
 -- ---- row k
 
@@ -243,7 +252,7 @@ pub record BackReady (n : ℕ) (starts runs index : List ℕ) (upper : ℕ) (wor
   pub sums : (k : ℕ) → k < n → finite (get_or work (n + k) nan) ≡ true
 
 -- z, or what they meet
-abbrev pub back_as : List Float → Factored → Out (List Float)
-back_as z Solved = ok z
-back_as z (Zero k) = met (zero_pivot k.0)
-back_as z (Overflow k) = met (overflow k.0)
+abbrev pub back_as : List Float → prelude.Result ⊤ Fault → Out (List Float)
+back_as z (Ok t) = ok z
+back_as z (Err (Zero k)) = met (zero_pivot k.0)
+back_as z (Err (Overflow k)) = met (overflow k.0)

@@ -1,5 +1,5 @@
 -- Row k by form: how its lower row comes to stand in the marks and how its L is kept, and from there to row k + 1.
-use Rattle.std.specs.Prelude.{◌≡◌, Bool, true, List, [], ◌∷◌, ◌++◌, ℕ, ◌+◌, ◌<◌, ◌≤◌, get_or, take, drop, Float}
+use Rattle.std.specs.Prelude.{◌≡◌, Bool, true, List, [], ◌∷◌, ◌++◌, ℕ, ◌+◌, ◌<◌, ◌≤◌, get_or, take, drop, Result, Ok, Float}
 use Rattle.std.proofs.Math.Path.{refl, sym, ap}
 use Rattle.std.proofs.Common.{◌∙◌, subst, arith, ext_get_or, get_or-take, length-take-le}
 use Rattle.std.proofs.Math.ListN.{length, length-drop}
@@ -21,8 +21,7 @@ use Rattle.lent.specs.Reading.{But}
 use Rattle.marks.specs.MarkLaws.{sets_below}
 use Rattle.marks.specs.RenewLaws.{held_kept}
 use Rattle.marks.specs.ListLaws.{lower-le}
-use Rattle.numeric.specs.declared.Pivot.{Pivot}
-use Rattle.numeric.specs.declared.Pivot.TheVariants as pivot
+use Rattle.numeric.specs.declared.RowFault.{RowFault}
 use Rattle.numeric.specs.Stores.{Closable, gathered, columns, keep_columns}
 use Rattle.numeric.specs.Rows.{Reduced, Shut, Stacked, l_of, column_of, InColumns, kept_row}
 use Rattle.numeric.specs.StoreLaws.{Rising, rises-to, gathered-length, sets-part}
@@ -249,7 +248,7 @@ module _ {i : Input} {L : PlacedLists} {k : ℕ} {w : Workspace} (f : Form) (G :
     pub close-asked : LowerAt i.n below (length x) × Closable i.n k (length g) (lower_in i.n below x) L.upper-starts L.upper-runs L.upper-index (length w.d)
     close-asked = row-closable G h g lg (lowered-row G h (ex ∙ em) row_kept)
 
-    pub row_more : (u d v : List Float) → SameSizes w (written l u d v x) → (t : RowSums) (p : Pivot) → p ≡ pivot.Usable t
+    pub row_more : (u d v : List Float) → SameSizes w (written l u d v x) → (t : RowSums) (p : Result RowSums RowFault) → p ≡ Ok t
         → Reduced (system i) G.rows i.n k L.upper-starts w.work g w.upper u p
         → Shut i.n k (lower_in i.n below x) (list_at L.upper-starts L.upper-runs L.upper-index k) g v w.d d t
         → Going f i L (k + 1) (written l u d v x)

@@ -1,5 +1,5 @@
 -- From row k to row k + 1, from a fault to the answer, and from the last row and the back steps to the factors.
-use Rattle.std.specs.Prelude.{◌≡◌, refl, Bool, true, false, List, [], ◌∷◌, ◌++◌, ℕ, ◌+◌, ◌<◌, length, get_or, take, drop, Float}
+use Rattle.std.specs.Prelude.{◌≡◌, refl, List, [], ◌∷◌, ◌++◌, ℕ, ◌+◌, ◌<◌, length, get_or, take, drop, Result, Ok, Err, IsErr, IsErrAnd, ⊤, Float}
 use Rattle.std.proofs.Common.{sym, ap, ◌∙◌, subst, true≢false, arith, get_or-set_same, get_or-set_other}
 use Rattle.std.proofs.Math.Decide.{dec_lt}
 use Rattle.std.proofs.Math.ListN.{get_or-append}
@@ -16,17 +16,16 @@ use Rattle.arithmetic.specs.Arith.{met, zero_pivot, overflow, Row, none}
 use Rattle.outcome.specs.Solve.{system, listed}
 use Rattle.outcome.proofs.Meaning.{listed-stops}
 use Rattle.marks.specs.ListLaws.{lower-le}
-use Rattle.numeric.specs.declared.Pivot.{Pivot}
-use Rattle.numeric.specs.declared.Pivot.TheVariants.{Usable, Zero, Overflow}
+use Rattle.numeric.specs.declared.RowFault.{RowFault}
+use Rattle.numeric.specs.declared.RowFault.TheVariants as row-fault
 use Rattle.lent.specs.Reading.{Below}
 use Rattle.numeric.specs.Stores.{Closable, gathered}
 use Rattle.numeric.specs.Rows.{Reduced, Shut, kept_row}
 use Rattle.numeric.specs.PassLaws.{forward-length, held_more, held-zero, held-overflow}
-use Rattle.factor.specs.declared.Factored.{Factored}
-use Rattle.factor.specs.declared.Factored.TheVariants.{Solved}
-use Rattle.factor.specs.declared.Factored.TheVariants as done
+use Rattle.factor.specs.declared.Fault.{Fault}
+use Rattle.factor.specs.declared.Fault.TheVariants.{Zero, Overflow}
 use Rattle.questions.specs.Lent.{Inverse}
-use Rattle.factor.specs.Factoring.{FactoredAs, CameTo, is_fault, PlacedLists, Workspace, LowerPlaced, Factorable, LowerHeld, Finding, Going, RowAt, lower_in, LowerAt}
+use Rattle.factor.specs.Factoring.{FactoredAs, CameTo, PlacedLists, Workspace, LowerPlaced, Factorable, LowerHeld, Finding, Going, RowAt, lower_in, LowerAt}
 use Rattle.factor.specs.SystemLaws.{lower-below, system-closed, lower-is, placed-shape}
 use Rattle.base.specs.Scratch.{cursors_from}
 
@@ -72,30 +71,36 @@ same-given {f} {i} {L} {w} {x} s inv F = record {
   inverse = inv;
 }
 
--- ---- the answer of a row, t being whether it is a fault
+-- ---- the answer of a row
 
-pub came-on : {f : Form} {i : Input} {L : PlacedLists} {k : ℕ} {w : Workspace} (a : Factored) (t : Bool) → t ≡ is_fault a → t ≡ false → CameTo f i L k a w → Going f i L k w
+pub came-on : {f : Form} {i : Input} {L : PlacedLists} {k : ℕ} {w : Workspace} {t : ⊤} → CameTo f i L k (Ok t) w → Going f i L k w
 unfolding CameTo
-came-on Solved t e q h = h
-came-on (done.Zero k) t e q h = absurd (true≢false (sym e ∙ q))
-came-on (done.Overflow k) t e q h = absurd (true≢false (sym e ∙ q))
+came-on h = h
 
-pub came-done : {f : Form} {i : Input} {L : PlacedLists} {k : ℕ} {w : Workspace} (j : ℕ) → k ≡ j → Going f i L k w → CameTo f i L j Solved w
+pub came-done : {f : Form} {i : Input} {L : PlacedLists} {k : ℕ} {w : Workspace} (j : ℕ) → k ≡ j → Going f i L k w → CameTo f i L j (Ok tt) w
 unfolding CameTo
 came-done j e h = rw (← e) h
 
--- a fault is the answer whatever follows
-pub came-off : (f : Form) (i : Input) (L : PlacedLists) (k : ℕ) (w : Workspace) (a : Factored) (t : Bool) (j : ℕ) (x : Workspace) → t ≡ is_fault a → t ≡ true → CameTo f i L k a w → CameTo f i L j a x
-unfolding CameTo
-came-off f i L p w Solved t j x e q h = absurd (true≢false (sym q ∙ e))
-came-off f i L p w (done.Zero k) t j x e q h = h
-came-off f i L p w (done.Overflow k) t j x e q h = h
+-- what `?` hands on
+pub handed-on : {E : Type 0} (a : Result ⊤ E) (q : E) → IsErr a → IsErrAnd a (λ x. x ≡ q) → Err q ≡ a
+handed-on (Ok t) q e h = absurd (true≢false (sym e))
+handed-on (Err x) q e h = ap Err (sym h)
 
-pub came-end : (f : Form) (i : Input) (L : PlacedLists) (k : ℕ) (w : Workspace) (a : Factored) (t : Bool) (l u d z : List Float) → t ≡ is_fault a → t ≡ true → CameTo f i L k a w → FactoredAs f i a l u d z
+-- a fault is the answer whatever follows
+pub came-off : (f : Form) (i : Input) (L : PlacedLists) (k : ℕ) (w : Workspace) (q : Fault) (j : ℕ) (x : Workspace) (a : Result ⊤ Fault) → IsErr a → IsErrAnd a (λ x. x ≡ q)
+    → CameTo f i L k (Err q) w → CameTo f i L j a x
+unfolding CameTo
+came-off f i L p w (Zero k) j x a e h g = rw (← handed-on a (Zero k) e h) g
+came-off f i L p w (Overflow k) j x a e h g = rw (← handed-on a (Overflow k) e h) g
+
+pub came-end : (f : Form) (i : Input) (L : PlacedLists) (k : ℕ) (w : Workspace) (q : Fault) (l u d z : List Float) (a : Result ⊤ Fault) → IsErr a → IsErrAnd a (λ x. x ≡ q)
+    → CameTo f i L k (Err q) w → FactoredAs f i a l u d z
 unfolding CameTo FactoredAs
-came-end f i L p w Solved t l u d z e q h = absurd (true≢false (sym q ∙ e))
-came-end f i L p w (done.Zero k) t l u d z e q h = h
-came-end f i L p w (done.Overflow k) t l u d z e q h = h
+came-end f i L p w (Zero k) l u d z a e h g = rw (← handed-on a (Zero k) e h) g
+came-end f i L p w (Overflow k) l u d z a e h g = rw (← handed-on a (Overflow k) e h) g
+
+pub fault-is : (r : Result RowSums RowFault) (x y : RowFault) → r ≡ Err x → x ≡ y → r ≡ Err y
+fault-is r x y e h = e ∙ ap Err h
 
 -- ---- row k
 
@@ -131,11 +136,11 @@ module _ {f : Form} {i : Input} {L : PlacedLists} {k : ℕ} {w : Workspace} (G :
       }
 
   -- a row that is not kept
-  pub zero-met : {g v : List Float} (p : Pivot) → p ≡ Zero → Reduced (system i) G.rows i.n k L.upper-starts w.work g w.upper v p → listed i ≡ met (zero_pivot k)
-  zero-met {g} {v} p e R = listed-stops i ∙ held-zero G.held h (subst (λ (q : Pivot). Reduced (system i) G.rows i.n k L.upper-starts w.work g w.upper v q) e R)
+  pub zero-met : {g v : List Float} (p : Result RowSums RowFault) → p ≡ Err row-fault.Zero → Reduced (system i) G.rows i.n k L.upper-starts w.work g w.upper v p → listed i ≡ met (zero_pivot k)
+  zero-met {g} {v} p e R = listed-stops i ∙ held-zero G.held h (subst (λ (q : Result RowSums RowFault). Reduced (system i) G.rows i.n k L.upper-starts w.work g w.upper v q) e R)
 
-  pub overflow-met : {g v : List Float} (p : Pivot) → p ≡ Overflow → Reduced (system i) G.rows i.n k L.upper-starts w.work g w.upper v p → listed i ≡ met (overflow k)
-  overflow-met {g} {v} p e R = listed-stops i ∙ held-overflow G.held h (subst (λ (q : Pivot). Reduced (system i) G.rows i.n k L.upper-starts w.work g w.upper v q) e R)
+  pub overflow-met : {g v : List Float} (p : Result RowSums RowFault) → p ≡ Err row-fault.Overflow → Reduced (system i) G.rows i.n k L.upper-starts w.work g w.upper v p → listed i ≡ met (overflow k)
+  overflow-met {g} {v} p e R = listed-stops i ∙ held-overflow G.held h (subst (λ (q : Result RowSums RowFault). Reduced (system i) G.rows i.n k L.upper-starts w.work g w.upper v q) e R)
 
   -- what its closing asks
   pub row-closable : {m : List ℕ} {below : ℕ} (g : List Float) → length g ≡ length w.work → RowAt i k below L.upper-starts L.upper-runs L.upper-index m (length w.upper) (length w.work)
@@ -146,7 +151,7 @@ module _ {f : Form} {i : Input} {L : PlacedLists} {k : ℕ} {w : Workspace} (G :
   )
 
   -- a row that is kept: its steps left g and x.upper, its closing x.work and x.d
-  module _ (x : Workspace) (s : SameSizes w x) (lower : List ℕ) (el : lower ≡ lower_row (stored i) k) (g : List Float) (lg : length g ≡ length w.work) (t : RowSums) (p : Pivot) (ep : p ≡ Usable t)
+  module _ (x : Workspace) (s : SameSizes w x) (lower : List ℕ) (el : lower ≡ lower_row (stored i) k) (g : List Float) (lg : length g ≡ length w.work) (t : RowSums) (p : Result RowSums RowFault) (ep : p ≡ Ok t)
       (R : Reduced (system i) G.rows i.n k L.upper-starts w.work g w.upper x.upper p)
       (Q : Shut i.n k lower (list_at L.upper-starts L.upper-runs L.upper-index k) g x.work w.d x.d t) where
     abbrev pub next : Row
@@ -170,7 +175,7 @@ module _ {f : Form} {i : Input} {L : PlacedLists} {k : ℕ} {w : Workspace} (G :
       held = held_more (system i) G.rows i.n k w.work L.upper-starts L.upper-runs L.upper-index w.upper G.held h G.given.scratch (system-closed i k h)
           (placed-shape f (stored i) i.n L.upper-starts L.upper-runs L.upper-index (length w.upper) G.given.upper-side)
           lower (lower-is i k el) g x.work x.upper w.d x.d lg t
-          (subst (λ (q : Pivot). Reduced (system i) G.rows i.n k L.upper-starts w.work g w.upper x.upper q) ep R) Q;
+          (subst (λ (q : Result RowSums RowFault). Reduced (system i) G.rows i.n k L.upper-starts w.work g w.upper x.upper q) ep R) Q;
       pivots = pivot-at;
       lower = kept;
       finding = find;

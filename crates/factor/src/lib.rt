@@ -7,36 +7,49 @@ ghost use Rattle.std.specs.Prelude.{◌≡◌, List, ℕ, ◌+◌, ◌*◌, ◌-
 ghost use Rattle.std.proofs.lemmas.List.Edits.{sets};
 ghost use Rattle.base.specs.Lists.{nought, blank, list_at, row_of};
 ghost use Rattle.base.specs.declared.Form.TheVariants.{Shared};
-ghost use Rattle.matrix.specs.Input.{input_of, with_floor};
+ghost use Rattle.matrix.specs.Input.{lent_by};
 ghost use Rattle.arithmetic.specs.Arith.{Row};
 ghost use Rattle.arithmetic.specs.Stopping.{back};
 ghost use Rattle.outcome.specs.Solve.{system};
 ghost use Rattle.numeric.specs.Stores.{Closable, gathered, store_given};
 ghost use Rattle.numeric.specs.Rows.{RowsHeld, Reduced, Shut};
-ghost use Rattle.factor.specs.Factoring.{FactoredAs, lists, written, Factorable, zeroed, fresh_marks, Going, CameTo, is_fault, lower_in, LowerAt, Findable, LowerFound, reads_lower, LowerAsked, LowerGiven, RowReady, Keepable, Spread, KeepAsked, KeepGiven, BackReady, back_as};
+ghost use Rattle.factor.specs.Factoring.{FactoredAs, refused_by, lent_lists, written, Factorable, zeroed, fresh_marks, Going, CameTo, lower_in, LowerAt, Findable, LowerFound, reads_lower, LowerAsked, LowerGiven, RowReady, Keepable, Spread, KeepAsked, KeepGiven, BackReady, back_as};
 ghost use Rattle.base.specs.Scratch.{list_from, z_from};
 ghost use Rattle.fill.specs.Fill.{Pattern};
 ghost use Rattle.lent.specs.Reading.{ListIn};
 ghost use Rattle.marks.specs.Marks.{Room};
 
-use base::{Form, Index, Place, RowSums, scratch};
-use numeric::{Back, Pivot};
+use base::{Form, Index, Place, Refusal, RowSums, scratch};
+use matrix::System;
+use numeric::RowFault;
 
-// Every row is done and z is found, or what the arithmetic meets first.
+// What the arithmetic meets first, and at which place.
 #[derive(Clone, Copy)]
-pub enum Factored {
-    Solved,
+pub enum Fault {
     Zero(Place),
     Overflow(Place),
 }
 
-fn met_fault(a: Factored) -> bool
-    ensures { result ≡ is_fault a }
-{
-    match a {
-        Factored::Solved => false,
-        Factored::Zero(_) => true,
-        Factored::Overflow(_) => true,
+// The lists of both sides as they stand in their stores, which the arithmetic only reads. A form passes [] for what it lacks, and its list starts
+// as run starts where it has none.
+#[derive(Clone, Copy)]
+pub struct Lists<'a> {
+    pub lower_starts: &'a [u32],
+    pub lower_index: &'a [Index],
+    pub upper_starts: &'a [u32],
+    pub upper_runs: &'a [u32],
+    pub upper_index: &'a [Index],
+}
+
+// 12 and 13.
+impl From<Fault> for Refusal {
+    ghost from_gives = { λ fault q. q ≡ refused_by fault };
+
+    fn from(fault: Fault) -> Refusal {
+        match fault {
+            Fault::Zero(k) => Refusal::ZeroPivot(k),
+            Fault::Overflow(k) => Refusal::Overflow(k),
+        }
     }
 }
 
@@ -45,10 +58,8 @@ fn copy_list(list: &[Index], marks: &mut [u32], at: usize)
     requires { at + length list.now ≤ length marks.old }
     ensures { marks.new ≡ sets marks.old at list.now }
 {
-    let mut p = 0;
-    while p < list.len() {
-        marks[at + p] = base::number(list[p]);
-        p += 1;
+    for (p, &i) in list.iter().enumerate() {
+        marks[at + p] = base::number(i);
     }
 }
 
@@ -66,17 +77,15 @@ fn lower_part(marks: &[u32], n: usize, below: usize) -> &[u32]
 fn close_at(
     n: usize,
     k: Place,
-    upper_starts: &[u32],
-    upper_runs: &[u32],
-    upper_index: &[Index],
+    lists: Lists<'_>,
     d: &mut [f64],
     work: &mut [f64],
     marks: &[u32],
     below: usize,
     t: RowSums,
 )
-    requires { LowerAt n below (length marks.now) × Closable n k.0 (length work.old) (lower_in n below marks.now) upper_starts.now upper_runs.now upper_index.now (length d.old) }
-    ensures { Shut n k.0 (lower_in n below marks.now) (list_at upper_starts.now upper_runs.now upper_index.now k.0)
+    requires { LowerAt n below (length marks.now) × Closable n k.0 (length work.old) (lower_in n below marks.now) lists.upper_starts.now lists.upper_runs.now lists.upper_index.now (length d.old) }
+    ensures { Shut n k.0 (lower_in n below marks.now) (list_at lists.entry.upper_starts.now lists.entry.upper_runs.now lists.entry.upper_index.now k.0)
         work.old work.new d.old d.new t }
 {
     let place = k.0 as usize;
@@ -86,9 +95,9 @@ fn close_at(
         n,
         place,
         lower,
-        upper_starts,
-        upper_runs,
-        upper_index,
+        lists.upper_starts,
+        lists.upper_runs,
+        lists.upper_index,
         d,
         t,
     );
@@ -97,21 +106,23 @@ fn close_at(
 // The back steps over the rows done.
 fn solve_back(
     n: usize,
-    upper_starts: &[u32],
-    upper_runs: &[u32],
-    upper_index: &[Index],
+    lists: Lists<'_>,
     upper_values: &[f64],
     work: &mut [f64],
-) -> Factored
-    requires { BackReady n upper_starts.now upper_runs.now upper_index.now (length upper_values.now) work.old }
+) -> Result<(), Fault>
+    requires { BackReady n lists.upper_starts.now lists.upper_runs.now lists.upper_index.now (length upper_values.now) work.old }
     ensures { back_as (drop (z_from n) work.new) result
-        ≡ back (store_given n work.old upper_starts.now upper_runs.now upper_index.now upper_values.now) n (drop (z_from n) work.old) }
+        ≡ back (store_given n work.old lists.entry.upper_starts.now lists.entry.upper_runs.now lists.entry.upper_index.now upper_values.now) n (drop (z_from n) work.old) }
 {
-    let z = numeric::back_steps(work, n, upper_starts, upper_runs, upper_index, upper_values);
-    match z {
-        Back::Complete => Factored::Solved,
-        Back::Stopped(k) => Factored::Overflow(Place(k as u32)),
-    }
+    numeric::back_steps(
+        work,
+        n,
+        lists.upper_starts,
+        lists.upper_runs,
+        lists.upper_index,
+        upper_values,
+    )
+    .map_err(|k| Fault::Overflow(Place(k as u32)))
 }
 
 // ---- lower row k in the marks, by form
@@ -135,35 +146,41 @@ fn lower_plain(
 }
 
 // Lower row k into the marks, and its length: the entries of row k united with the lists before it, as far as their cuts.
-fn find_lower(
-    n: usize,
-    k: Place,
-    starts: &[u32],
-    columns: &[Index],
-    r: &[Index],
-    upper_starts: &[u32],
-    upper_runs: &[u32],
-    upper_index: &[Index],
-    marks: &mut [u32],
-) -> usize
-    requires { (P : Pattern) × Findable P n k.0 starts.now columns.now r.now upper_starts.now upper_runs.now upper_index.now marks.old }
+fn find_lower(input: System<'_>, k: Place, lists: Lists<'_>, marks: &mut [u32]) -> usize
+    requires { (P : Pattern) × Findable P input.n k.0 input.starts.now input.columns.now input.r.now lists.upper_starts.now lists.upper_runs.now lists.upper_index.now marks.old }
     ensures { (P : Pattern)
-        → Findable P n k.0 starts.now columns.now r.now upper_starts.now upper_runs.now upper_index.now marks.old
-        → LowerFound P n k.0 result upper_starts.now upper_runs.now upper_index.now marks.old marks.new }
+        → Findable P input.entry.n k.0 input.entry.starts.now input.entry.columns.now input.entry.r.now lists.entry.upper_starts.now lists.entry.upper_runs.now lists.entry.upper_index.now marks.old
+        → LowerFound P input.entry.n k.0 result lists.entry.upper_starts.now lists.entry.upper_runs.now lists.entry.upper_index.now marks.old marks.new }
 {
     let stamp = k.0 + 1;
-    let cuts = scratch::UPPER_CUTS * n;
-    marks::load_row_place(marks, n, stamp, k, starts, columns, r);
-    let below = marks::close_place(marks, n, stamp, k, cuts, upper_runs, upper_index);
+    let cuts = scratch::UPPER_CUTS * input.n;
+    marks::load_row_place(
+        marks,
+        input.n,
+        stamp,
+        k,
+        input.starts,
+        input.columns,
+        input.r,
+    );
+    let below = marks::close_place(
+        marks,
+        input.n,
+        stamp,
+        k,
+        cuts,
+        lists.upper_runs,
+        lists.upper_index,
+    );
     marks::renew_cuts(
         marks,
-        n,
+        input.n,
         k,
         below,
         cuts,
-        upper_starts,
-        upper_runs,
-        upper_index,
+        lists.upper_starts,
+        lists.upper_runs,
+        lists.upper_index,
     );
     below
 }
@@ -179,38 +196,15 @@ fn reads_lower(form: Form) -> bool
 }
 
 // The plain form reads lower row k, the others find it anew.
-fn lower_at(
-    form: Form,
-    n: usize,
-    k: Place,
-    starts: &[u32],
-    columns: &[Index],
-    r: &[Index],
-    lower_starts: &[u32],
-    lower_index: &[Index],
-    upper_starts: &[u32],
-    upper_runs: &[u32],
-    upper_index: &[Index],
-    marks: &mut [u32],
-) -> usize
-    requires { LowerAsked (reads_lower form) n k.0 starts.now columns.now r.now (lists lower_starts.now lower_index.now upper_starts.now upper_runs.now upper_index.now) marks.old }
-    ensures { LowerGiven (reads_lower form) n k.0 result starts.now columns.now r.now
-        (lists lower_starts.now lower_index.now upper_starts.now upper_runs.now upper_index.now) marks.old marks.new }
+fn lower_at(form: Form, input: System<'_>, k: Place, lists: Lists<'_>, marks: &mut [u32]) -> usize
+    requires { LowerAsked (reads_lower form) input.n k.0 input.starts.now input.columns.now input.r.now (lent_lists lists) marks.old }
+    ensures { LowerGiven (reads_lower form) input.entry.n k.0 result input.entry.starts.now input.entry.columns.now input.entry.r.now
+        (lent_lists lists.entry) marks.old marks.new }
 {
     if reads_lower(form) {
-        return lower_plain(n, k, lower_starts, lower_index, marks);
+        return lower_plain(input.n, k, lists.lower_starts, lists.lower_index, marks);
     }
-    find_lower(
-        n,
-        k,
-        starts,
-        columns,
-        r,
-        upper_starts,
-        upper_runs,
-        upper_index,
-        marks,
-    )
+    find_lower(input, k, lists, marks)
 }
 
 // ---- L of row k, by form
@@ -249,14 +243,12 @@ fn keep_shared(
 {
     let cursors = scratch::CURSORS * n;
     let lower = scratch::LIST * n;
-    let mut p = 0;
-    while p < below {
+    for p in 0..below {
         let i = base::slot(marks[lower + p]);
         let used = marks[cursors + i];
         let start = base::slot(lower_starts[i]);
         lower_values[start + base::slot(used)] = w[i];
         marks[cursors + i] = used + 1;
-        p += 1;
     }
 }
 
@@ -287,203 +279,124 @@ fn keep_at(
 #[derive(Clone, Copy)]
 struct RowReduced {
     below: usize,
-    pivot: Pivot,
+    sums: Result<RowSums, RowFault>,
 }
 
 // Row k's lower row in the marks, and steps 1 to 3 over it. The contract holds of each column order c that fits the marks.
 fn reduce_at(
     form: Form,
-    n: usize,
+    input: System<'_>,
     k: Place,
-    starts: &[u32],
-    columns: &[Index],
-    values: &[f64],
-    r: &[Index],
-    b: &[f64],
-    floor: f64,
-    lower_starts: &[u32],
-    lower_index: &[Index],
-    upper_starts: &[u32],
-    upper_runs: &[u32],
-    upper_index: &[Index],
+    lists: Lists<'_>,
     upper_values: &mut [f64],
     work: &mut [f64],
     marks: &mut [u32],
 ) -> RowReduced
-    requires { (c : List ℕ) × RowReady form (with_floor floor (input_of n starts.now columns.now values.now r.now c b.now)) (lists lower_starts.now lower_index.now upper_starts.now upper_runs.now upper_index.now) k.0 (length upper_values.old) (length work.old) marks.old }
-    ensures { LowerGiven (reads_lower form) n k.0 result.below starts.now columns.now r.now
-        (lists lower_starts.now lower_index.now upper_starts.now upper_runs.now upper_index.now) marks.old marks.new
+    requires { (c : List ℕ) × RowReady form (lent_by input c) (lent_lists lists) k.0 (length upper_values.old) (length work.old) marks.old }
+    ensures { LowerGiven (reads_lower form) input.entry.n k.0 result.below input.entry.starts.now input.entry.columns.now input.entry.r.now
+        (lent_lists lists.entry) marks.old marks.new
         × ((c : List ℕ) (rows : List Row)
-        → RowReady form (with_floor floor (input_of n starts.now columns.now values.now r.now c b.now))
-        (lists lower_starts.now lower_index.now upper_starts.now upper_runs.now upper_index.now) k.0 (length upper_values.old) (length work.old) marks.old
-        → RowsHeld (system (with_floor floor (input_of n starts.now columns.now values.now r.now c b.now))) rows n k.0
-        work.old upper_starts.now upper_runs.now upper_index.now upper_values.old
-        → Reduced (system (with_floor floor (input_of n starts.now columns.now values.now r.now c b.now))) rows n k.0
-        upper_starts.now work.old work.new upper_values.old upper_values.new result.pivot) }
+        → RowReady form (lent_by input.entry c)
+        (lent_lists lists.entry) k.0 (length upper_values.old) (length work.old) marks.old
+        → RowsHeld (system (lent_by input.entry c)) rows input.entry.n k.0
+        work.old lists.entry.upper_starts.now lists.entry.upper_runs.now lists.entry.upper_index.now upper_values.old
+        → Reduced (system (lent_by input.entry c)) rows input.entry.n k.0
+        lists.entry.upper_starts.now work.old work.new upper_values.old upper_values.new result.sums) }
 {
-    let below = lower_at(
-        form,
-        n,
-        k,
-        starts,
-        columns,
-        r,
-        lower_starts,
-        lower_index,
-        upper_starts,
-        upper_runs,
-        upper_index,
-        marks,
-    );
+    let below = lower_at(form, input, k, lists, marks);
     let place = k.0 as usize;
-    let lower = lower_part(marks, n, below);
-    let row = lent::own_row(r, k);
-    let own = lent::row_columns(starts, columns, row);
-    let entries = lent::row_values(starts, values, row);
-    let right = lent::row_right(b, row);
-    let pivot = numeric::reduce_row(
+    let lower = lower_part(marks, input.n, below);
+    let row = lent::own_row(input.r, k);
+    let own = lent::row_columns(input.starts, input.columns, row);
+    let entries = lent::row_values(input.starts, input.values, row);
+    let right = lent::row_right(input.b, row);
+    let sums = numeric::reduce_row(
         work,
-        n,
+        input.n,
         place,
         marks,
         own,
         entries,
         right,
-        floor,
+        input.floor,
         lower,
-        upper_starts,
-        upper_runs,
-        upper_index,
+        lists.upper_starts,
+        lists.upper_runs,
+        lists.upper_index,
         upper_values,
     );
-    RowReduced { below, pivot }
+    RowReduced { below, sums }
 }
 
 // Row k, and what is kept of it.
 fn eliminate_row(
     form: Form,
-    n: usize,
+    input: System<'_>,
     k: Place,
-    starts: &[u32],
-    columns: &[Index],
-    values: &[f64],
-    r: &[Index],
-    b: &[f64],
-    floor: f64,
-    lower_starts: &[u32],
-    lower_index: &[Index],
+    lists: Lists<'_>,
     lower_values: &mut [f64],
-    upper_starts: &[u32],
-    upper_runs: &[u32],
-    upper_index: &[Index],
     upper_values: &mut [f64],
     d: &mut [f64],
     work: &mut [f64],
     marks: &mut [u32],
-) -> Factored
-    requires { (k.0 < n) × ((c : List ℕ) × Going form (with_floor floor (input_of n starts.now columns.now values.now r.now c b.now)) (lists lower_starts.now lower_index.now upper_starts.now upper_runs.now upper_index.now) k.0 (written lower_values.old upper_values.old d.old work.old marks.old)) }
+) -> Result<(), Fault>
+    requires { (k.0 < input.n) × ((c : List ℕ) × Going form (lent_by input c) (lent_lists lists) k.0 (written lower_values.old upper_values.old d.old work.old marks.old)) }
     ensures { (c : List ℕ)
-        → Going form (with_floor floor (input_of n starts.now columns.now values.now r.now c b.now)) (lists lower_starts.now lower_index.now upper_starts.now upper_runs.now upper_index.now) k.0 (written lower_values.old upper_values.old d.old work.old marks.old)
-        → CameTo form (with_floor floor (input_of n starts.now columns.now values.now r.now c b.now)) (lists lower_starts.now lower_index.now upper_starts.now upper_runs.now upper_index.now) (k.0 + 1) result (written lower_values.new upper_values.new d.new work.new marks.new) }
+        → Going form (lent_by input.entry c) (lent_lists lists.entry) k.0 (written lower_values.old upper_values.old d.old work.old marks.old)
+        → CameTo form (lent_by input.entry c) (lent_lists lists.entry) (k.0 + 1) result (written lower_values.new upper_values.new d.new work.new marks.new) }
 {
-    let row = reduce_at(
-        form,
-        n,
-        k,
-        starts,
-        columns,
-        values,
-        r,
-        b,
-        floor,
-        lower_starts,
-        lower_index,
-        upper_starts,
-        upper_runs,
-        upper_index,
-        upper_values,
-        work,
-        marks,
-    );
+    let row = reduce_at(form, input, k, lists, upper_values, work, marks);
     let below = row.below;
-    let p = row.pivot;
-    match p {
-        Pivot::Usable(t) => {
-            keep_at(form, n, k, lower_starts, lower_values, work, marks, below);
-            close_at(
-                n,
+    match row.sums {
+        Ok(t) => {
+            keep_at(
+                form,
+                input.n,
                 k,
-                upper_starts,
-                upper_runs,
-                upper_index,
-                d,
+                lists.lower_starts,
+                lower_values,
                 work,
                 marks,
                 below,
-                t,
             );
-            Factored::Solved
+            close_at(input.n, k, lists, d, work, marks, below, t);
+            Ok(())
         }
-        Pivot::Zero => Factored::Zero(k),
-        Pivot::Overflow => Factored::Overflow(k),
+        Err(RowFault::Zero) => Err(Fault::Zero(k)),
+        Err(RowFault::Overflow) => Err(Fault::Overflow(k)),
     }
 }
 
 // The rows, up to the first fault.
 fn eliminate_rows(
     form: Form,
-    n: usize,
-    starts: &[u32],
-    columns: &[Index],
-    values: &[f64],
-    r: &[Index],
-    b: &[f64],
-    floor: f64,
-    lower_starts: &[u32],
-    lower_index: &[Index],
+    input: System<'_>,
+    lists: Lists<'_>,
     lower_values: &mut [f64],
-    upper_starts: &[u32],
-    upper_runs: &[u32],
-    upper_index: &[Index],
     upper_values: &mut [f64],
     d: &mut [f64],
     work: &mut [f64],
     marks: &mut [u32],
-) -> Factored
-    requires { (c : List ℕ) × Going form (with_floor floor (input_of n starts.now columns.now values.now r.now c b.now)) (lists lower_starts.now lower_index.now upper_starts.now upper_runs.now upper_index.now) 0 (written lower_values.old upper_values.old d.old work.old marks.old) }
+) -> Result<(), Fault>
+    requires { (c : List ℕ) × Going form (lent_by input c) (lent_lists lists) 0 (written lower_values.old upper_values.old d.old work.old marks.old) }
     ensures { (c : List ℕ)
-        → Going form (with_floor floor (input_of n starts.now columns.now values.now r.now c b.now)) (lists lower_starts.now lower_index.now upper_starts.now upper_runs.now upper_index.now) 0 (written lower_values.old upper_values.old d.old work.old marks.old)
-        → CameTo form (with_floor floor (input_of n starts.now columns.now values.now r.now c b.now)) (lists lower_starts.now lower_index.now upper_starts.now upper_runs.now upper_index.now) n result (written lower_values.new upper_values.new d.new work.new marks.new) }
+        → Going form (lent_by input.entry c) (lent_lists lists.entry) 0 (written lower_values.old upper_values.old d.old work.old marks.old)
+        → CameTo form (lent_by input.entry c) (lent_lists lists.entry) input.entry.n result (written lower_values.new upper_values.new d.new work.new marks.new) }
 {
-    let mut k = 0;
-    while k < n {
-        let a = eliminate_row(
+    for k in 0..input.n {
+        eliminate_row(
             form,
-            n,
+            input,
             Place(k as u32),
-            starts,
-            columns,
-            values,
-            r,
-            b,
-            floor,
-            lower_starts,
-            lower_index,
+            lists,
             lower_values,
-            upper_starts,
-            upper_runs,
-            upper_index,
             upper_values,
             d,
             work,
             marks,
-        );
-        if met_fault(a) {
-            return a;
-        }
-        k += 1;
+        )?;
     }
-    Factored::Solved
+    Ok(())
 }
 
 // Clears the n slots from `from` on.
@@ -492,7 +405,7 @@ fn clear_region(n: usize, from: usize, marks: &mut [u32])
     ensures { marks.new ≡ zeroed n from marks.old }
 {
     let end = from + n;
-    base::clear_u32(&mut marks[from..end]);
+    base::clear(&mut marks[from..end]);
 }
 
 // Clears what the rows find zero: the value stores, the working row, the marks and the cursors of L. The inverse order stays.
@@ -507,64 +420,41 @@ fn clear_for_rows(
     ensures { (lower_values.new ≡ blank nought lower_values.old) × (upper_values.new ≡ blank nought upper_values.old)
         × (work.new ≡ blank nought work.old) × (marks.new ≡ fresh_marks n marks.old) }
 {
-    base::clear_f64(lower_values);
-    base::clear_f64(upper_values);
-    base::clear_f64(work);
+    base::clear(lower_values);
+    base::clear(upper_values);
+    base::clear(work);
     clear_region(n, 0, marks);
     clear_region(n, scratch::CURSORS * n, marks);
 }
 
-// Gives the factors and z in a form, which passes [] for what it lacks, and its list starts as run starts where it has none. The column order c
-// is the one whose inverse scratch holds. Another call clears scratch, and after a fault all that this writes.
+// Gives the factors and z in a form. The column order c is the one whose inverse scratch holds. Another call clears scratch, and after a fault all
+// that this writes.
 pub fn factor(
     form: Form,
-    n: usize,
-    starts: &[u32],
-    columns: &[Index],
-    values: &[f64],
-    r: &[Index],
-    b: &[f64],
-    floor: f64,
-    lower_starts: &[u32],
-    lower_index: &[Index],
+    input: System<'_>,
+    lists: Lists<'_>,
     lower_values: &mut [f64],
-    upper_starts: &[u32],
-    upper_runs: &[u32],
-    upper_index: &[Index],
     upper_values: &mut [f64],
     d: &mut [f64],
     work: &mut [f64],
     marks: &mut [u32],
-) -> Factored
-    requires { (c : List ℕ) × Factorable form (with_floor floor (input_of n starts.now columns.now values.now r.now c b.now)) (lists lower_starts.now lower_index.now upper_starts.now upper_runs.now upper_index.now) (written lower_values.old upper_values.old d.old work.old marks.old) }
+) -> Result<(), Fault>
+    requires { (c : List ℕ) × Factorable form (lent_by input c) (lent_lists lists) (written lower_values.old upper_values.old d.old work.old marks.old) }
     ensures { (c : List ℕ)
-        → Factorable form (with_floor floor (input_of n starts.now columns.now values.now r.now c b.now)) (lists lower_starts.now lower_index.now upper_starts.now upper_runs.now upper_index.now) (written lower_values.old upper_values.old d.old work.old marks.old)
-        → FactoredAs form (with_floor floor (input_of n starts.now columns.now values.now r.now c b.now)) result
-        lower_values.new upper_values.new d.new (drop (z_from n) work.new) }
+        → Factorable form (lent_by input.entry c) (lent_lists lists.entry) (written lower_values.old upper_values.old d.old work.old marks.old)
+        → FactoredAs form (lent_by input.entry c) result
+        lower_values.new upper_values.new d.new (drop (z_from input.entry.n) work.new) }
 {
-    clear_for_rows(n, lower_values, upper_values, work, marks);
-    let a = eliminate_rows(
+    clear_for_rows(input.n, lower_values, upper_values, work, marks);
+    eliminate_rows(
         form,
-        n,
-        starts,
-        columns,
-        values,
-        r,
-        b,
-        floor,
-        lower_starts,
-        lower_index,
+        input,
+        lists,
         lower_values,
-        upper_starts,
-        upper_runs,
-        upper_index,
         upper_values,
         d,
         work,
         marks,
-    );
-    if met_fault(a) {
-        return a;
-    }
-    solve_back(n, upper_starts, upper_runs, upper_index, upper_values, work)
+    )?;
+    solve_back(input.n, lists, upper_values, work)
 }

@@ -1,4 +1,5 @@
 -- The ways through the questions of the contents.
+use Rattle.std.specs.Prelude.{Err}
 use mathlib.Core.Path.{◌≡◌, sym, ap₂, ◌∙◌}
 use mathlib.Core.Bool.{true, false, not, ◌&&◌}
 use mathlib.Core.List.{List}
@@ -7,11 +8,9 @@ use lib.ListN.{length, get_or, take}
 use lib.Seq.{length-take-le}
 use lib.Dec.{eqb}
 use borrow.Author.Tests.{not-true, not-false}
-use Rattle.base.specs.Answers.{spot}
+use Rattle.base.specs.Answers.{spot, Pass, Asked}
 use Rattle.base.specs.declared.Counts.{Counts}
 use Rattle.base.specs.declared.Form.TheVariants.{Plain}
-use Rattle.base.specs.declared.Asked.{Asked}
-use Rattle.base.specs.declared.Asked.TheVariants.{Pass, Stop}
 use Rattle.base.specs.declared.Refusal.{Refusal}
 use Rattle.base.specs.declared.Refusal.TheVariants.{BadFactors, Products}
 use Rattle.outcome.specs.Resolve.{ask_factors}
@@ -22,13 +21,13 @@ use Rattle.factor_contents.specs.Judging.{presented_lists}
 
 -- a is what 15 answers wherever the starts end
 module _ (n lower upper : ℕ) (l : FactorLists) (a : Asked) (e : a ≡ ask_factors Plain n (presented_lists l)) where
-  pub ask15-stop : (q : Refusal) → a ≡ Stop q → Stop q ≡ ask15 n lower upper l
+  pub ask15-stop : (q : Refusal) → a ≡ Err q → Err q ≡ ask15 n lower upper l
   unfolding ask15
   ask15-stop q p = rw (← e, p)
 
   -- x and y are where they end
   module _ (p : a ≡ Pass) (x y : ℕ) (ex : get_or l.lower-starts n 0 ≡ x) (ey : get_or l.upper-starts n 0 ≡ y) where
-    pub ask15-end : not (eqb x lower && eqb y upper) ≡ true → Stop (BadFactors (spot (n - 1))) ≡ ask15 n lower upper l
+    pub ask15-end : not (eqb x lower && eqb y upper) ≡ true → Err (BadFactors (spot (n - 1))) ≡ ask15 n lower upper l
     unfolding ask15
     ask15-end h = rw (← e, p, ex, ey, not-true (eqb x lower && eqb y upper) h)
 
@@ -56,17 +55,17 @@ products-there file n lower i t i' t' s ei et e = e ∙ ap₂ (λ (i : ℕ) (t :
 -- ---- 5, 15 and 21
 
 module _ (n : ℕ) (k : Counts) (l : FactorLists) (a : Asked) (e : a ≡ ask5 n l.r l.c) where
-  pub contents-5 : (q : Refusal) → a ≡ Stop q → Stop q ≡ ask_contents n k l
+  pub contents-5 : (q : Refusal) → a ≡ Err q → Err q ≡ ask_contents n k l
   unfolding ask_contents
   contents-5 q p = rw (← e, p)
 
   module _ (p : a ≡ Pass) (b : Asked) (f : b ≡ ask15 n k.lower k.upper l) where
-    pub contents-15 : (q : Refusal) → b ≡ Stop q → Stop q ≡ ask_contents n k l
+    pub contents-15 : (q : Refusal) → b ≡ Err q → Err q ≡ ask_contents n k l
     unfolding ask_contents
     contents-15 q h = rw (← e, p, ← f, h)
 
     module _ (h : b ≡ Pass) (s : ℕ) (g : s ≡ products_of l.lower-index l.upper-starts) where
-      pub contents-21 : not (eqb k.products s) ≡ true → Stop Products ≡ ask_contents n k l
+      pub contents-21 : not (eqb k.products s) ≡ true → Err Products ≡ ask_contents n k l
       unfolding ask_contents
       contents-21 t = rw (← e, p, ← f, h, ← g, not-true (eqb k.products s) t)
 

@@ -2,17 +2,16 @@
 use mathlib.Core.Path.{◌≡◌, refl, sym, ap, ap₂, ◌∙◌}
 use mathlib.Core.Bool.{Bool, true, false, not, ◌&&◌, ◌||◌}
 use mathlib.Core.Bool as bools
-use mathlib.Core.List.{List, []}
-use Prim.Native.Nat.{ℕ, ◌+◌, ◌-◌, ◌*◌, ◌<◌, ◌≤◌}
-use native.Mathlib.Nat.{add-zero}
+use mathlib.Core.List.{List, [], ◌∷◌}
+use Prim.Native.Nat.{ℕ, zero, suc, ◌+◌, ◌-◌, ◌*◌, ◌<◌, ◌≤◌}
 use native.Mathlib.Omega.{arith}
-use native.Mathlib.Numerals.{add-one}
-use lib.ListN.{length, get_or, drop, drop_of_length-le, get_or-eq_default}
-use lib.Seq.{drop-cons}
+use lib.ListN.{length, get_or, drop, get_or-eq_default}
 use lib.Dec.{leb, ltb, eqb}
 use lib.Ieee.{Float, binary64, of_bits, nan}
 use lib.Ieee.Scale.{finite}
 use borrow.Author.Tests.{lt-ltb, le-ltb, ltb-false}
+use Rattle.std.specs.List.{list_all, sum_by, range_with_len}
+use Rattle.std.proofs.lemmas.List.Sums.{sum_by-cons}
 use Rattle.base.specs.Lists.{list_at, total}
 use Rattle.base.specs.Tests.{or-false}
 use Rattle.base.specs.declared.Form.TheVariants.{Plain}
@@ -23,6 +22,7 @@ use Rattle.lent.specs.Reading.{length_in}
 use Rattle.outcome.specs.Buffers.{SideBuffers, side_buffers}
 use Rattle.outcome.specs.Resolve.{given_list, given_values, rises_in, right_side, misplaced, bad_list, bad_at, ask_factors}
 use Rattle.factors.specs.Presented.{presented}
+use Rattle.factors.specs.PresentedLaws as presented-laws
 use Rattle.factors.specs.PresentedLaws.{place-good}
 use Rattle.fields.specs.Numbers.{le}
 use Rattle.fields.specs.Payload.{payload, fields_at, floats_at}
@@ -31,38 +31,42 @@ use Rattle.fields.proofs.WindowLaws.{field-at, fields-part, fields-none, fields-
 use Rattle.factor_contents.specs.FactorFile.{upper_starts_at, lower_index_at, upper_index_at, lower_values_at, d_at, upper_values_at, lists_at, products_of}
 use Rattle.factor_contents.specs.Judging.{side_at, presented_lists}
 
--- ---- a list: j is what stands at p, t whether it is in its range
+-- ---- a list, asked from number i on: j is that number, t whether it is in its range
 
-module _ (file : List ℕ) (lo hi p left j : ℕ) (t : Bool) (e : j ≡ le 2 (payload file) p) (b : t ≡ (leb lo j && ltb j hi)) (h : 0 < left) where
-  pub rises-more : t ≡ true → rises_in (j + 1) hi (fields_at 2 file (p + 2) (left - 1)) ≡ rises_in lo hi (fields_at 2 file p left)
-  unfolding rises_in
-  rises-more g =
-      let q : (leb lo (le 2 (payload file) p) && ltb (le 2 (payload file) p) hi) ≡ true = rw e at (sym b ∙ g) in
-      rw (fields-first 2 file p left h, q, e, add-one)
+module _ (file : List ℕ) (at count lo hi i j : ℕ) (t : Bool) (e : j ≡ le 2 (payload file) (at + 2 * i)) (b : t ≡ (leb lo j && ltb j hi)) (h : i < count) where
+  abbrev list : List ℕ
+  list = fields_at 2 file at count
 
-  pub rises-stop : t ≡ false → rises_in lo hi (fields_at 2 file p left) ≡ false
-  unfolding rises_in
-  rises-stop g =
-      let q : (leb lo (le 2 (payload file) p) && ltb (le 2 (payload file) p) hi) ≡ false = rw e at (sym b ∙ g) in
-      rw (fields-first 2 file p left h, q)
+  abbrev there : j ≡ get_or list i 0
+  there = e ∙ sym (field-at 2 file at count i h)
 
-pub rises-end : (file : List ℕ) (lo hi p left : ℕ) → left ≤ 0 → rises_in lo hi (fields_at 2 file p left) ≡ true
-unfolding rises_in
-rises-end file lo hi p left h = let e : left ≡ 0 = omega arith in rw (e, fields-none 2 file p)
+  abbrev inside : i < length list
+  inside = rw (length-fields_at 2 file at count) h
 
--- x is the float at p, t whether it is finite
-module _ (file : List ℕ) (p left w : ℕ) (x : Float) (t : Bool) (ew : w ≡ le 8 (payload file) p) (ex : x ≡ of_bits binary64 w) (b : t ≡ finite x) (h : 0 < left) where
-  there : (c : Bool) → t ≡ c → finite (of_bits binary64 (le 8 (payload file) p)) ≡ c
-  there c g = ap (λ (v : ℕ). finite (of_bits binary64 v)) (sym ew) ∙ (ap finite (sym ex) ∙ (sym b ∙ g))
+  pub rises-more : t ≡ true → rises_in (j + 1) hi (drop (i + 1) list) ≡ rises_in lo hi (drop i list)
+  rises-more = presented-laws.rises-more lo hi list i j t there b inside
 
-  pub finite-more : t ≡ true → finite_all (floats_at file (p + 8) (left - 1)) ≡ finite_all (floats_at file p left)
-  finite-more g = rw (floats-first file p left h, there true g)
+  pub rises-stop : t ≡ false → rises_in lo hi (drop i list) ≡ false
+  rises-stop = presented-laws.rises-stop lo hi list i j t there b inside
 
-  pub finite-stop : t ≡ false → finite_all (floats_at file p left) ≡ false
-  finite-stop g = rw (floats-first file p left h, there false g)
+pub rises-end : (file : List ℕ) (at count lo hi i : ℕ) → count ≤ i → rises_in lo hi (drop i (fields_at 2 file at count)) ≡ true
+rises-end file at count lo hi i h = presented-laws.rises-end lo hi (fields_at 2 file at count) i (rw (length-fields_at 2 file at count) h)
 
-pub finite-end : (file : List ℕ) (p left : ℕ) → left ≤ 0 → finite_all (floats_at file p left) ≡ true
-finite-end file p left h = let e : left ≡ 0 = omega arith in rw (e, floats-none file p)
+-- ---- numbers, each asked where it stands
+
+module _ (file : List ℕ) (at : ℕ) where
+  abbrev float_at : ℕ → Float
+  float_at i = of_bits binary64 (le 8 (payload file) (at + 8 * i))
+
+  finite-from : (k n : ℕ) → list_all (λ i. finite (float_at i)) (range_with_len k n) ≡ finite_all (floats_at file (at + 8 * k) n)
+  finite-from k zero = sym (ap finite_all (floats-none file (at + 8 * k)))
+  finite-from k (suc n) =
+      let m : floats_at file (at + 8 * k) (suc n) ≡ float_at k ∷ floats_at file (at + 8 * (k + 1)) n =
+      floats-first file (at + 8 * k) (suc n) (omega arith) ∙ ap₂ (λ (p : ℕ) (m : ℕ). float_at k ∷ floats_at file p m) (omega arith) (omega arith) in
+      ap (λ b. finite (float_at k) && b) (finite-from (k + 1) n) ∙ sym (ap finite_all m)
+
+  pub finite-all-at : (n : ℕ) → list_all (λ i. finite (float_at i)) (range_with_len 0 n) ≡ finite_all (floats_at file at n)
+  finite-all-at n = finite-from 0 n ∙ ap (λ (p : ℕ). finite_all (floats_at file p n)) (omega arith)
 
 -- ---- a side at place k, whose list begins at lo and ends at hi
 
@@ -161,28 +165,31 @@ module _ (file : List ℕ) (s n j : ℕ) where
     pub length-is : (r : ℕ) → r ≡ hi - lo → r ≡ length_in (fields_at 4 file s (n + 1)) j
     length-is r e = rw (start_is file n s j lo (omega arith) el, start_is file n s (j + 1) hi (omega arith) eh) e
 
-pub products-more : (file S : List ℕ) (p left j sum y : ℕ) → 0 < left → j ≡ le 2 (payload file) p → y ≡ length_in S j
-    → sum + y + products_of (fields_at 2 file (p + 2) (left - 1)) S ≡ sum + products_of (fields_at 2 file p left) S
-unfolding products_of total
-products-more file S p left j sum y h e l = rw (l, e, fields-first 2 file p left h) (omega arith)
+-- the lengths of the lists that numbers name, each read where it stands
+module _ (file S : List ℕ) (at : ℕ) where
+  abbrev named : ℕ → ℕ
+  named i = length_in S (le 2 (payload file) (at + 2 * i))
 
-pub products-end : (file S : List ℕ) (p left sum : ℕ) → left ≤ 0 → sum ≡ sum + products_of (fields_at 2 file p left) S
-unfolding products_of total
-products-end file S p left sum h = let e : left ≡ 0 = omega arith in rw (e, fields-none 2 file p) (sym (add-zero sum))
+  products-from : (k n : ℕ) → sum_by named (range_with_len k n) ≡ products_of (fields_at 2 file (at + 2 * k) n) S
+  unfolding products_of total
+  products-from k zero = sym (ap (λ (l : List ℕ). products_of l S) (fields-none 2 file (at + 2 * k)))
+  products-from k (suc n) =
+      let m : fields_at 2 file (at + 2 * k) (suc n) ≡ le 2 (payload file) (at + 2 * k) ∷ fields_at 2 file (at + 2 * (k + 1)) n =
+      fields-first 2 file (at + 2 * k) (suc n) (omega arith) ∙ ap₂ (λ (p : ℕ) (m : ℕ). le 2 (payload file) (at + 2 * k) ∷ fields_at 2 file p m) (omega arith) (omega arith) in
+      sum_by-cons named k (range_with_len (k + 1) n) ∙ (ap (λ (r : ℕ). named k + r) (products-from (k + 1) n) ∙ sym (ap (λ (l : List ℕ). products_of l S) m))
+
+  pub products-at : (n : ℕ) → sum_by named (range_with_len 0 n) ≡ products_of (fields_at 2 file at n) S
+  products-at n = products-from 0 n ∙ ap (λ (p : ℕ). products_of (fields_at 2 file p n) S) (omega arith)
 
 -- ---- the same of lent lists
 
 pub length_none : (starts : List ℕ) (j : ℕ) → length starts ≤ j + 1 → 0 ≡ length_in starts j
 length_none starts j h = let e : get_or starts (j + 1) 0 ≡ 0 = get_or-eq_default starts 0 {n = j + 1} h in rw e (omega arith)
 
-pub products-on : (index starts : List ℕ) (p x sum y : ℕ) → p < length index → x ≡ get_or index p 0 → y ≡ length_in starts x
-    → sum + y + products_of (drop (p + 1) index) starts ≡ sum + products_of (drop p index) starts
+pub products-all : (index starts : List ℕ) → sum_by (length_in starts) index ≡ products_of index starts
 unfolding products_of total
-products-on index starts p x sum y h e l = rw (l, e, add-one p, drop-cons index p 0 h) (omega arith)
-
-pub products-all : (index starts : List ℕ) (p sum : ℕ) → length index ≤ p → sum ≡ sum + products_of (drop p index) starts
-unfolding products_of total
-products-all index starts p sum h = rw (drop_of_length-le index h) (sym (add-zero sum))
+products-all [] starts = refl
+products-all (x ∷ xs) starts = sum_by-cons (length_in starts) x xs ∙ ap (λ (r : ℕ). length_in starts x + r) (products-all xs starts)
 
 -- the plain form's list starts are its run starts
 pub runs-alike : (n : ℕ) (ls li : List ℕ) (lv : List Float) (us ui : List ℕ) (uv d : List Float)

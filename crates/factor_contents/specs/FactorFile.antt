@@ -1,18 +1,10 @@
 -- The factor file of the plain form: its layout, its questions, what it holds, and the outcomes of the three calls. Definitions only.
-use Rattle.std.specs.Prelude.{Bool, ◌&&◌, List, [], ◌∷◌, ◌++◌, map, ℕ, ◌+◌, ◌-◌, ◌*◌, length, get_or, take, eqb, leb, Float}
+use Rattle.std.specs.Prelude.{Bool, ◌&&◌, List, [], ◌∷◌, ◌++◌, map, ℕ, ◌+◌, ◌-◌, ◌*◌, length, get_or, take, eqb, leb, Float, Ok, Err}
 use Rattle.base.specs.Lists.{total, padded, nought}
-use Rattle.base.specs.Answers.{spot, holds, and_then, Left, or_untouched}
+use Rattle.base.specs.Answers.{spot, holds, and_then, Left, or_untouched, Pass, Kept, Asked, Answer}
 use Rattle.base.specs.declared.Counts.{Counts}
 use Rattle.base.specs.declared.FactorSizes.{FactorSizes}
 use Rattle.base.specs.declared.Form.TheVariants.{Plain}
-use Rattle.base.specs.declared.Asked.{Asked}
-use Rattle.base.specs.declared.Asked.TheVariants.{Pass, Stop}
-use Rattle.base.specs.declared.Kept.{Kept}
-use Rattle.base.specs.declared.Kept.TheVariants as keeps
-use Rattle.base.specs.declared.Answer.{Answer}
-use Rattle.base.specs.declared.Answer.TheVariants as answers
-use Rattle.base.specs.declared.Ended.{Ended}
-use Rattle.base.specs.declared.Ended.TheVariants as ends
 use Rattle.base.specs.declared.Refusal.TheVariants.{Rows, Lengths, BadFactors, FactorShape, Products}
 use Rattle.base.specs.Limits.{max_slots, rows_within}
 use Rattle.lent.specs.Reading.{length_in}
@@ -206,20 +198,20 @@ ask_write n k l len = and_then (ask_lengths n k.lower k.upper len (lists_fit n k
 -- ---- the outcomes of `factor_file_shape`, `read_factors` and `write_factors`
 
 abbrev pub shaped : Asked → FactorSizes → Kept
-shaped Pass s = keeps.Factors s
-shaped (Stop q) s = keeps.Refused q
+shaped (Ok _) s = Ok s
+shaped (Err q) s = Err q
 
 unfoldable pub opened : List ℕ → Kept
 opened file = shaped (ask_file file) (sizes_in file)
 
 -- the counts, once the questions are passed
 abbrev pub counted : Asked → Counts → Answer
-counted Pass k = answers.Done k
-counted (Stop q) k = answers.Refused q
+counted (Ok _) k = Ok k
+counted (Err q) k = Err q
 
 -- "A refused read changes no buffer"
 unfoldable pub read_outcome : List ℕ → FactorLists → Left Answer FactorLists
-read_outcome file l = or_untouched answers.Refused (ask_read file l) (answers.Done (counts_in file)) (held l (factors_at file)) l
+read_outcome file l = or_untouched Err (ask_read file l) (Ok (counts_in file)) (held l (factors_at file)) l
 
-unfoldable pub write_outcome : ℕ → Counts → FactorLists → List ℕ → Left Ended (List ℕ)
-write_outcome n k l file = or_untouched ends.Refused (ask_write n k l (length file)) ends.Done (written n k (cut k l)) file
+unfoldable pub write_outcome : ℕ → Counts → FactorLists → List ℕ → Left Asked (List ℕ)
+write_outcome n k l file = or_untouched Err (ask_write n k l (length file)) Pass (written n k (cut k l)) file

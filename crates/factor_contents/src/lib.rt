@@ -1,7 +1,7 @@
 // The contents of factors in the plain form: where they stand in a file, question 2 of the lengths of buffers for them, and questions 5, 15 and 21 of what a file holds, judged where it stands, and of lent lists.
 #![tactic(auto)]
 
-ghost use Rattle.std.specs.Prelude.{◌≡◌, not, [], ◌+◌, ◌*◌, ◌≤◌, ◌<◌, length, replicate};
+ghost use Rattle.std.specs.Prelude.{◌≡◌, not, [], ◌+◌, ◌*◌, ◌≤◌, ◌<◌, length, replicate, sum_by};
 ghost use Rattle.base.specs.declared.Form.TheVariants.{Plain};
 ghost use Rattle.base.specs.Limits.{max_rows, max_slots};
 ghost use Rattle.arithmetic.specs.RowEnd.{finite_all};
@@ -13,7 +13,7 @@ ghost use Rattle.fields.specs.Payload.{room, payload, fields_at, floats_at};
 ghost use Rattle.factor_contents.specs.FactorFile.{factor_lists, upper_starts_at, lower_index_at, upper_index_at, lower_values_at, d_at, upper_values_at, r_at, c_at, lists_at, lengths_fit, side_fits, ask15, products_of, ask_contents};
 ghost use Rattle.factor_contents.specs.Judging.{side_at, SideStands, Stands, ListsLent, presented_lists};
 
-use base::{Asked, Form, Index, Place, Refusal, Side};
+use base::{Form, Index, Place, Refusal, Side};
 use matrix::Matrix;
 
 // ---- where the parts stand
@@ -100,17 +100,12 @@ fn rises_at(file: &[u8], at: usize, count: usize, from: usize, to: usize) -> boo
     ensures { result ≡ rises_in from to (fields_at 2 file.now at count) }
 {
     let mut least = from;
-    let mut p = at;
-    let mut left = count;
-    while 0 < left {
-        let j = fields::number_at(file, p, 2) as usize;
-        if (least <= j) & (j < to) {
-            least = j + 1;
-            p += 2;
-            left -= 1;
-        } else {
+    for i in 0..count {
+        let j = fields::number_at(file, at + 2 * i, 2) as usize;
+        if !((least <= j) & (j < to)) {
             return false;
         }
+        least = j + 1;
     }
     true
 }
@@ -120,18 +115,7 @@ fn finite_at(file: &[u8], at: usize, count: usize) -> bool
     requires { at + 8 * count ≤ room file.now }
     ensures { result ≡ finite_all (floats_at file.now at count) }
 {
-    let mut p = at;
-    let mut left = count;
-    while 0 < left {
-        let x = fields::float_of(fields::number_at(file, p, 8));
-        if base::is_finite(x) {
-            p += 8;
-            left -= 1;
-        } else {
-            return false;
-        }
-    }
-    true
+    (0..count).all(|i| base::is_finite(fields::float_of(fields::number_at(file, at + 8 * i, 8))))
 }
 
 // Tells whether a list lies on its side of place k: a lower row below k, T(k) above it and below n.
@@ -201,37 +185,31 @@ fn place_good(file: &[u8], n: usize, lower: usize, upper: usize, k: usize) -> bo
 // ---- question 15 in a file
 
 // Asks 15 of stores that end at `lower` and `upper`, wherever the starts end.
-fn ask_lists_in(file: &[u8], n: usize, lower: usize, upper: usize) -> Asked
+fn ask_lists_in(file: &[u8], n: usize, lower: usize, upper: usize) -> Result<(), Refusal>
     requires { Stands file.now n lower upper }
     ensures { result ≡ ask_factors Plain n (presented_lists (lists_at file.now n lower upper)) }
 {
-    let mut k = 0;
-    while k < n {
-        if place_good(file, n, lower, upper, k) {
-            k += 1;
-        } else {
-            return Asked::Stop(Refusal::BadFactors(Place(k as u32)));
+    for k in 0..n {
+        if !place_good(file, n, lower, upper, k) {
+            return Err(Refusal::BadFactors(Place(k as u32)));
         }
     }
-    Asked::Pass
+    Ok(())
 }
 
 // Asks 15: starts that end elsewhere than the stores are the last place's fault.
-fn ask_15_in(file: &[u8], n: usize, lower: usize, upper: usize) -> Asked
+fn ask_15_in(file: &[u8], n: usize, lower: usize, upper: usize) -> Result<(), Refusal>
     requires { Stands file.now n lower upper }
     ensures { result ≡ ask15 n lower upper (lists_at file.now n lower upper) }
 {
-    let asked = ask_lists_in(file, n, lower, upper);
-    if let Asked::Stop(q) = asked {
-        return Asked::Stop(q);
-    }
+    ask_lists_in(file, n, lower, upper)?;
     let at = offsets_of(n, lower, upper);
     let lower_end = start_at(file, 20, n);
     let upper_end = start_at(file, at.starts, n);
     if !((lower_end == lower) & (upper_end == upper)) {
-        return Asked::Stop(Refusal::BadFactors(Place((n - 1) as u32)));
+        return Err(Refusal::BadFactors(Place((n - 1) as u32)));
     }
-    Asked::Pass
+    Ok(())
 }
 
 // ---- question 21 in a file
@@ -257,24 +235,20 @@ fn products_in(file: &[u8], index: usize, count: usize, starts: usize, n: usize)
     requires { (index + 2 * count ≤ room file.now) × (count ≤ max_slots) × (starts + 4 * (n + 1) ≤ room file.now) × (n ≤ max_rows) }
     ensures { result ≡ products_of (fields_at 2 file.now index count) (fields_at 4 file.now starts (n + 1)) }
 {
-    let mut sum: u64 = 0;
-    let mut p = index;
-    let mut left = count;
-    while 0 < left {
-        let j = fields::number_at(file, p, 2) as usize;
-        sum = sum + length_at(file, starts, n, j) as u64;
-        p += 2;
-        left -= 1;
-    }
-    sum
+    (0..count)
+        .map(|i| {
+            let j = fields::number_at(file, index + 2 * i, 2) as usize;
+            length_at(file, starts, n, j) as u64
+        })
+        .sum()
 }
 
 // ---- question 5 in a file
 
 // Zeros for marks. A function of its own, so that proofs see the list's name and not its slots.
 fn marks() -> [u32; 4096]
-    ensures value { 4096 ≡ length result }
-    ensures value_2 { result ≡ replicate 4096 0 }
+    ensures long { 4096 ≡ length result }
+    ensures zeros { result ≡ replicate 4096 0 }
 {
     [0; 4096]
 }
@@ -295,17 +269,17 @@ fn ask_copies(
     rows: &mut [Index],
     columns: &mut [Index],
     marks: &mut [u32],
-) -> Asked
+) -> Result<(), Refusal>
     requires { (n ≤ max_rows) × (r + 2 * n ≤ room file.now) × (c + 2 * n ≤ room file.now) × (length rows.old ≡ n) × (length columns.old ≡ n) × (n ≤ length marks.old) }
     ensures { result ≡ ask5 n (fields_at 2 file.now r n) (fields_at 2 file.now c n) }
 {
-    fields::read_indices(file, r, rows);
-    fields::read_indices(file, c, columns);
+    fields::read(file, r, rows);
+    fields::read(file, c, columns);
     questions::ask_orders(n, rows, columns, marks)
 }
 
 // Asks 5 of the orders that stand at `r` and at `c`. It takes 32 kB of the stack.
-fn ask_orders_in(file: &[u8], n: usize, r: usize, c: usize) -> Asked
+fn ask_orders_in(file: &[u8], n: usize, r: usize, c: usize) -> Result<(), Refusal>
     requires { (n ≤ max_rows) × (r + 2 * n ≤ room file.now) × (c + 2 * n ≤ room file.now) }
     ensures { result ≡ ask5 n (fields_at 2 file.now r n) (fields_at 2 file.now c n) }
 {
@@ -318,24 +292,24 @@ fn ask_orders_in(file: &[u8], n: usize, r: usize, c: usize) -> Asked
 // ---- the contents of a file
 
 // Asks 5, 15 and 21 of what a file holds of `lower` and `upper` entries.
-pub fn ask_contents_in(file: &[u8], n: usize, lower: usize, upper: usize, products: u64) -> Asked
+pub fn ask_contents_in(
+    file: &[u8],
+    n: usize,
+    lower: usize,
+    upper: usize,
+    products: u64,
+) -> Result<(), Refusal>
     requires { Stands file.now n lower upper }
     ensures { result ≡ ask_contents n (record { lower = lower; upper = upper; products = products }) (lists_at file.now n lower upper) }
 {
     let at = offsets_of(n, lower, upper);
-    let orders = ask_orders_in(file, n, at.r, at.c);
-    if let Asked::Stop(q) = orders {
-        return Asked::Stop(q);
-    }
-    let lists = ask_15_in(file, n, lower, upper);
-    if let Asked::Stop(q) = lists {
-        return Asked::Stop(q);
-    }
+    ask_orders_in(file, n, at.r, at.c)?;
+    ask_15_in(file, n, lower, upper)?;
     let sum = products_in(file, at.lower, lower, at.starts, n);
     if !(products == sum) {
-        return Asked::Stop(Refusal::Products);
+        return Err(Refusal::Products);
     }
-    Asked::Pass
+    Ok(())
 }
 
 // ---- the contents of lent lists
@@ -359,16 +333,12 @@ fn length_of(starts: &[u32], j: usize) -> usize
 // Adds up the lengths of the lists that the index numbers name.
 fn products_of(index: &[Index], starts: &[u32]) -> u64
     requires { length index.now ≤ max_slots }
-    ensures { result ≡ products_of index.now starts.now }
+    ensures { result ≡ sum_by (length_in starts.now) index.now }
 {
-    let mut sum: u64 = 0;
-    let mut p = 0;
-    while p < index.len() {
-        let j = base::wide(index[p]);
-        sum = sum + length_of(starts, j) as u64;
-        p += 1;
-    }
-    sum
+    index
+        .iter()
+        .map(|&j| length_of(starts, base::wide(j)) as u64)
+        .sum()
 }
 
 // Asks 15 of lent lists without unused slots.
@@ -381,11 +351,11 @@ fn ask_15(
     upper_index: &[Index],
     upper_values: &[f64],
     d: &[f64],
-) -> Asked
+) -> Result<(), Refusal>
     requires { ListsLent n (length lower_index.now) (length upper_index.now) lower_starts.now upper_starts.now (length d.now) }
     ensures { result ≡ ask15 n (length lower_index.now) (length upper_index.now) (factor_lists [] [] lower_starts.now lower_index.now lower_values.now upper_starts.now upper_index.now upper_values.now d.now) }
 {
-    let asked = factors::ask_factors(
+    factors::ask_factors(
         Form::Plain,
         n,
         lower_starts,
@@ -397,20 +367,17 @@ fn ask_15(
         upper_index,
         upper_values,
         d,
-    );
-    if let Asked::Stop(q) = asked {
-        return Asked::Stop(q);
-    }
+    )?;
     let lower_end = base::slot(lower_starts[n]);
     let upper_end = base::slot(upper_starts[n]);
     if !((lower_end == lower_index.len()) & (upper_end == upper_index.len())) {
-        return Asked::Stop(Refusal::BadFactors(Place((n - 1) as u32)));
+        return Err(Refusal::BadFactors(Place((n - 1) as u32)));
     }
-    Asked::Pass
+    Ok(())
 }
 
 // Asks 5 of lent orders. It takes 16 kB of the stack.
-fn ask_orders(n: usize, r: &[Index], c: &[Index]) -> Asked
+fn ask_orders(n: usize, r: &[Index], c: &[Index]) -> Result<(), Refusal>
     requires { (n ≤ max_rows) × (length r.now ≡ n) × (length c.now ≡ n) }
     ensures { result ≡ ask5 n r.now c.now }
 {
@@ -431,16 +398,13 @@ pub fn ask_contents(
     upper_index: &[Index],
     upper_values: &[f64],
     d: &[f64],
-) -> Asked
+) -> Result<(), Refusal>
     requires { (length r.now ≡ n) × (length c.now ≡ n) × ListsLent n (length lower_index.now) (length upper_index.now) lower_starts.now upper_starts.now (length d.now) }
     ensures { result ≡ ask_contents n (record { lower = length lower_index.now; upper = length upper_index.now; products = products })
         (factor_lists r.now c.now lower_starts.now lower_index.now lower_values.now upper_starts.now upper_index.now upper_values.now d.now) }
 {
-    let orders = ask_orders(n, r, c);
-    if let Asked::Stop(q) = orders {
-        return Asked::Stop(q);
-    }
-    let lists = ask_15(
+    ask_orders(n, r, c)?;
+    ask_15(
         n,
         lower_starts,
         lower_index,
@@ -449,13 +413,10 @@ pub fn ask_contents(
         upper_index,
         upper_values,
         d,
-    );
-    if let Asked::Stop(q) = lists {
-        return Asked::Stop(q);
-    }
+    )?;
     let sum = products_of(lower_index, upper_starts);
     if !(products == sum) {
-        return Asked::Stop(Refusal::Products);
+        return Err(Refusal::Products);
     }
-    Asked::Pass
+    Ok(())
 }

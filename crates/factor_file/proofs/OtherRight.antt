@@ -1,4 +1,5 @@
 -- "What is read solves another right side to the bits the original factors give": another right side looks at the lists only, not at unused slots.
+use Rattle.std.specs.Prelude.{Ok, Err}
 use mathlib.Core.Path.{◌≡◌, refl, sym, ap, subst, ◌∙◌}
 use mathlib.Core.Bool.{Bool, true, false, ◌&&◌}
 use mathlib.Core.List.{List, [], ◌++◌}
@@ -13,16 +14,10 @@ use borrow.Author.Tests.{le-ltb}
 use Rattle.base.specs.Lists.{list_at, pairs, nought}
 use Rattle.base.specs.All.{all}
 use Rattle.base.specs.AllLaws.{all_join}
-use Rattle.base.specs.Answers.{spot, holds, and_then, absent, number_of, number_of_end, number_of_answer, counts_of, Left, left, or_untouched}
-use Rattle.base.specs.declared.Answer.{Answer}
-use Rattle.base.specs.declared.Answer.TheVariants as answers
+use Rattle.base.specs.Answers.{spot, holds, and_then, absent, number_of, number_of_answer, counts_of, Left, left, or_untouched, Pass, Asked, Answer}
 use Rattle.base.specs.FirstLaws.{first-all, both-pass}
 use Rattle.base.specs.Limits.{rows_within}
-use Rattle.base.specs.declared.Asked.{Asked}
-use Rattle.base.specs.declared.Asked.TheVariants.{Pass, Stop}
 use Rattle.base.specs.declared.Counts.{Counts}
-use Rattle.base.specs.declared.Ended.{Ended}
-use Rattle.base.specs.declared.Ended.TheVariants.{Done, Refused}
 use Rattle.base.specs.declared.Form.TheVariants.{Plain}
 use Rattle.base.specs.declared.Refusal.TheVariants.{Rows, Lengths, BadFactors}
 use Rattle.base.specs.declared.Side.{Side}
@@ -149,20 +144,20 @@ module _ (n : ℕ) (k : Counts) (l : FactorLists) (h : Lent Enough n k.lower k.u
 -- ---- another right side over them
 
 -- how two calls of it end: alike, and with the same x where they are done
-pub record Alike (o p : Outcome Ended) : Type 0 where
+pub record Alike (o p : Outcome Asked) : Type 0 where
   pub answer : o.answer ≡ p.answer
-  pub x : number_of_end o.answer ≡ 0 → o.buffers.x ≡ p.buffers.x
+  pub x : number_of_answer o.answer ≡ 0 → o.buffers.x ≡ p.buffers.x
 
 -- what is left once 15 is passed
-abbrev rest : Asked → Asked → Out (List Float) → Input → Buffers → Outcome Ended
-rest a b o i s = stop Refused a s (stop Refused b (scratch_cleared s) (resolved i s o))
+abbrev rest : Asked → Asked → Out (List Float) → Input → Buffers → Outcome Asked
+rest a b o i s = stop Err a s (stop Err b (scratch_cleared s) (resolved i s o))
 
 rest-alike : (a b : Asked) (o : Out (List Float)) (i : Input) (s t : Buffers) → Alike (rest a b o i s) (rest a b o i t)
 unfolding with_solution
-rest-alike (Stop q) b o i s t = record { answer = refl; x = λ e. absurd (number-some q e) }
-rest-alike Pass (Stop q) o i s t = record { answer = refl; x = λ e. absurd (number-some q e) }
-rest-alike Pass Pass (ok z) i s t = record { answer = refl; x = λ e. refl }
-rest-alike Pass Pass (met q) i s t = record { answer = refl; x = λ e. absurd (number-some (fault_of q) e) }
+rest-alike (Err q) b o i s t = record { answer = refl; x = λ e. absurd (number-some q e) }
+rest-alike (Ok _) (Err q) o i s t = record { answer = refl; x = λ e. absurd (number-some q e) }
+rest-alike (Ok _) (Ok _) (ok z) i s t = record { answer = refl; x = λ e. refl }
+rest-alike (Ok _) (Ok _) (met q) i s t = record { answer = refl; x = λ e. absurd (number-some (fault_of q) e) }
 
 shape_is : (n : ℕ) (a b : List Bool) → all b ≡ true → ask_shape n (a ++ b) ≡ ask_shape n a
 unfolding ask_shape
@@ -194,20 +189,20 @@ module _ (i : Input) (k : Counts) where
 
 -- ---- over the calls
 
-written-done : (a : Asked) (new old file : List ℕ) → or_untouched Refused a Done new old ≡ left Done file → (a ≡ Pass) × (new ≡ file)
-written-done Pass new old file e = (refl, ap (λ (o : Left Ended (List ℕ)). o.held) e)
-written-done (Stop q) new old file e =
-    absurd (let z : number_of q ≡ 0 = ap (λ (o : Left Ended (List ℕ)). number_of_end o.answer) e in number-some q z)
+written-done : (a : Asked) (new old file : List ℕ) → or_untouched Err a Pass new old ≡ left Pass file → (a ≡ Pass) × (new ≡ file)
+written-done (Ok _) new old file e = (refl, ap (λ (o : Left Asked (List ℕ)). o.held) e)
+written-done (Err q) new old file e =
+    absurd (let z : number_of q ≡ 0 = ap (λ (o : Left Asked (List ℕ)). number_of_answer o.answer) e in number-some q z)
 
-read_done : (a : Asked) (k j : Counts) (new old l : FactorLists) → or_untouched answers.Refused a (answers.Done k) new old ≡ left (answers.Done j) l → (a ≡ Pass) × (j ≡ k) × (l ≡ new)
-read_done Pass k j new old l e =
+read_done : (a : Asked) (k j : Counts) (new old l : FactorLists) → or_untouched Err a (Ok k) new old ≡ left (Ok j) l → (a ≡ Pass) × (j ≡ k) × (l ≡ new)
+read_done (Ok _) k j new old l e =
     (refl, sym (ap (λ (o : Left Answer FactorLists). counts_of o.answer) e), sym (ap (λ (o : Left Answer FactorLists). o.held) e))
-read_done (Stop q) k j new old l e =
+read_done (Err q) k j new old l e =
     absurd (let z : number_of q ≡ 0 = ap (λ (o : Left Answer FactorLists). number_of_answer o.answer) e in number-some q z)
 
 -- Factors were written, and the file was read into other buffers: counts and orders are the same,
-module _ (n : ℕ) (k : Counts) (l : FactorLists) (buffer file : List ℕ) (w : Widths k l) (wrote : write_outcome n k l buffer ≡ left Done file)
-    (m l' : FactorLists) (j : Counts) (read : read_outcome file m ≡ left (answers.Done j) l') where
+module _ (n : ℕ) (k : Counts) (l : FactorLists) (buffer file : List ℕ) (w : Widths k l) (wrote : write_outcome n k l buffer ≡ left Pass file)
+    (m l' : FactorLists) (j : Counts) (read : read_outcome file m ≡ left (Ok j) l') where
   wrote-is : (ask_write n k l (length buffer) ≡ Pass) × (written n k (cut k l) ≡ file)
   unfolding write_outcome
   wrote-is = written-done (ask_write n k l (length buffer)) (written n k (cut k l)) buffer file wrote

@@ -1,4 +1,5 @@
 -- "the sum over k of (filled rows below k in column k) times (length of T(k))" is the sum that 21 takes along the lower entries.
+use Rattle.base.specs.Answers.{Pass}
 use mathlib.Core.Path.{◌≡◌, refl, sym, ap, ap₂, ◌∙◌}
 use mathlib.Core.Bool.{Bool, true, false, ◌&&◌, ◌||◌}
 use mathlib.Core.List.{List, [], ◌∷◌, map, map-append}
@@ -13,7 +14,6 @@ use borrow.Author.Tests.{eq-eqb, ne_eqb, eqb-true, leb-true, ltb-true}
 use Rattle.base.specs.Lists.{sum, bit, count, total, has, list_at}
 use Rattle.base.specs.Tests.{and_cases}
 use Rattle.base.specs.AscLaws.{sum-ext, sum-zero, sum-add, sum-mul, sum-swap, total-append}
-use Rattle.base.specs.declared.Asked.TheVariants.{Pass}
 use Rattle.base.specs.declared.Form.TheVariants.{Plain}
 use Rattle.base.specs.declared.Side.TheVariants.{Lower, Upper}
 use Rattle.lent.specs.Reading.{length_in}

@@ -10,13 +10,11 @@ use lib.Seq.{take_at}
 use lib.Ieee.{Float, nan, binary64, of_bits}
 use lib.Ieee.Bits.{nan_bits_is}
 use lib.Ieee.Scale.{finite}
-use Rattle.base.specs.Answers.{left}
+use Rattle.base.specs.Answers.{left, Pass}
 use Rattle.base.specs.Lists.{table, padded, nought}
 use Rattle.base.specs.ZerosLaws.{padded-length}
 use Rattle.base.specs.Tests.{and_cases}
 use Rattle.base.specs.FirstLaws.{both-pass}
-use Rattle.base.specs.declared.Asked.TheVariants.{Pass}
-use Rattle.base.specs.declared.Ended.TheVariants as ends
 use Rattle.base.specs.declared.Counts.{Counts}
 use Rattle.base.specs.Limits.{max_rows}
 use Rattle.arithmetic.specs.RowEnd.{finite_all}
@@ -179,6 +177,6 @@ module _ (file : List ℕ) (small : Bytes file) (m : FactorLists) (p : ask_read 
       ) (through-contents file (lists_fit n lo up m) p)
 
   -- The same of the calls: what was read into buffers that fit is written to the same file.
-  pub read-written-call : (buffer : List ℕ) → length buffer ≡ length file → write_outcome n k (held m f) buffer ≡ left ends.Done file
+  pub read-written-call : (buffer : List ℕ) → length buffer ≡ length file → write_outcome n k (held m f) buffer ≡ left Pass file
   unfolding write_outcome
-  read-written-call buffer e = rw (held-asked buffer e) (ap (λ (x : List ℕ). left ends.Done x) (ap (written n k) cut-held ∙ file-written))
+  read-written-call buffer e = rw (held-asked buffer e) (ap (λ (x : List ℕ). left Pass x) (ap (written n k) cut-held ∙ file-written))

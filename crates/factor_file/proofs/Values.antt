@@ -13,9 +13,8 @@ use lib.Ieee.Scale.{finite}
 use borrow.Author.Tests.{eqb-true, ltb-false, not-false}
 use Rattle.base.specs.Lists.{list_at}
 use Rattle.base.specs.Tests.{or-false, and_cases}
-use Rattle.base.specs.Answers.{spot, holds}
+use Rattle.base.specs.Answers.{spot, holds, Pass}
 use Rattle.base.specs.FirstLaws.{first-none, absent-pass, both-pass, holds-pass}
-use Rattle.base.specs.declared.Asked.TheVariants.{Pass}
 use Rattle.base.specs.declared.Form.TheVariants.{Plain}
 use Rattle.base.specs.declared.Side.{Side}
 use Rattle.base.specs.declared.Side.TheVariants.{Lower, Upper}

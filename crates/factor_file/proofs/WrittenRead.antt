@@ -1,4 +1,5 @@
 -- What is written is read: the factors, their counts and orders.
+use Rattle.std.specs.Prelude.{Ok}
 use mathlib.Core.Path.{◌≡◌, refl, sym, ap, ◌∙◌}
 use mathlib.Core.Bool.{true}
 use mathlib.Core.List.{List, [], ◌∷◌, map}
@@ -8,13 +9,10 @@ use borrow.Author.Tests.{le-leb}
 use lib.ListN.{length, get_or, take, length-map}
 use lib.Seq.{length-take-le, get_or-take}
 use lib.Ieee.{Float, binary64, of_bits}
-use Rattle.base.specs.Answers.{left}
+use Rattle.base.specs.Answers.{left, Pass}
 use Rattle.base.specs.Lists.{table}
 use Rattle.base.specs.FirstLaws.{both-pass}
-use Rattle.base.specs.declared.Asked.TheVariants.{Pass}
-use Rattle.base.specs.declared.Answer.TheVariants as answers
 use Rattle.base.specs.declared.Counts.{Counts}
-use Rattle.base.specs.declared.Kept.TheVariants.{Factors}
 use Rattle.base.specs.Limits.{max_rows}
 use Rattle.fields.specs.Numbers.{Part, stream, spans_of, extent}
 use Rattle.fields.specs.Payload.{payload, fields_at, floats_at, parts_at}
@@ -237,7 +235,7 @@ module _ (n : ℕ) (k : Counts) (l : FactorLists) (buffer : List ℕ) (w : Width
   room-is = lent n k l buffer p
 
   -- Factors that pass the writer's questions are written to a file that opens to their sizes and holds them, their counts and orders.
-  pub written_read : (opened kept ≡ Factors (record { n = n; lower = k.lower; upper = k.upper })) × (n_of kept ≡ n) × (counts_in kept ≡ k) × (factors_at kept ≡ cut k l)
+  pub written_read : (opened kept ≡ Ok (record { n = n; lower = k.lower; upper = k.upper })) × (n_of kept ≡ n) × (counts_in kept ≡ k) × (factors_at kept ≡ cut k l)
   unfolding opened
   written_read = (
     rw (written-asked n k (cut k l) (length buffer) wide room-is, n-is n k (cut k l) (length buffer) wide room-is, lower-is n k (cut k l) (length buffer) wide room-is, upper_is n k (cut k l) (length buffer) wide room-is),
@@ -250,10 +248,10 @@ module _ (n : ℕ) (k : Counts) (l : FactorLists) (buffer : List ℕ) (w : Width
   contents-pass = (λ t. ask_contents (written_read.1 t) (written_read.2 t) (written_read.3 t)) ∙ (asked n k l buffer p).1
 
   -- The same of the calls: what was written is read into buffers that fit, whatever these held.
-  pub written-read-call : (m : FactorLists) → lists_fit n k.lower k.upper m ≡ true → read_outcome kept m ≡ left (answers.Done k) (held m (cut k l))
+  pub written-read-call : (m : FactorLists) → lists_fit n k.lower k.upper m ≡ true → read_outcome kept m ≡ left (Ok k) (held m (cut k l))
   unfolding read_outcome ask_through
   written-read-call m fit =
       let fits : lists_fit (n_of kept) (counts_in kept).lower (counts_in kept).upper m ≡ true =
       (λ t. lists_fit (written_read.1 t) (written_read.2 t).lower (written_read.2 t).upper m) ∙ fit in
       rw (written-asked n k (cut k l) (length buffer) wide room-is, fits, contents-pass)
-      (λ t. left (answers.Done (written_read.2 t)) (held m (written_read.3 t)))
+      (λ t. left (Ok (written_read.2 t)) (held m (written_read.3 t)))

@@ -1,4 +1,5 @@
 -- The ways through the read, and what passed questions tell.
+use Rattle.std.specs.Prelude.{Ok, Err}
 use mathlib.Core.Path.{◌≡◌, refl, sym, ap, subst, ◌∙◌}
 use mathlib.Core.Bool.{Bool, true, false, not}
 use mathlib.Core.List.{List, ◌++◌}
@@ -10,22 +11,14 @@ use lib.Seq.{length-take-le}
 use lib.Ieee.{Float}
 use Rattle.base.specs.Lists.{blank, padded, nought}
 use Rattle.base.specs.ZerosLaws.{drop-replicate, blank-length}
-use Rattle.base.specs.declared.Answer.{Answer}
-use Rattle.base.specs.declared.Answer.TheVariants as answers
 use Rattle.base.specs.FirstLaws.{both-pass, holds-pass}
-use Rattle.base.specs.Answers.{holds, and_then, left}
-use Rattle.base.specs.declared.Asked.{Asked}
-use Rattle.base.specs.declared.Asked.TheVariants.{Pass, Stop}
+use Rattle.base.specs.Answers.{holds, and_then, left, Pass, Kept, Asked, Answer}
 use Rattle.base.specs.declared.Counts.{Counts}
 use Rattle.base.specs.declared.FactorSizes.{FactorSizes}
-use Rattle.base.specs.declared.Kept.{Kept}
-use Rattle.base.specs.declared.Kept.TheVariants.{Factors, Refused}
 use Rattle.base.specs.declared.Refusal.{Refusal}
 use Rattle.base.specs.declared.Refusal.TheVariants.{Lengths}
 use Rattle.base.specs.Limits.{max_rows}
 use Rattle.fields.specs.Payload.{room, fields_at, floats_at}
-use Rattle.fields.proofs.PartLaws.{length-fields_at}
-use Rattle.fields.proofs.WindowLaws.{length-floats_at}
 use Rattle.blocks.proofs.FileLaws.{asked-whole}
 use Rattle.factor_contents.specs.FactorFile.{FactorLists, factor_lists, held, upper_starts_at, lower_index_at, upper_index_at, lower_values_at, d_at, upper_values_at, r_at, c_at, ask_read, read_outcome, lengths_fit, lists_at, factors_at, ask_contents, ask_through, counted, n_of, counts_in, sizes_in, ask_file, opened}
 use Rattle.factor_contents.specs.Judging.{Stands, Enough, Lent}
@@ -34,32 +27,21 @@ use Rattle.factor_reading.proofs.ShapeLaws.{Fitting, fitting, opened-pass, opene
 
 -- ---- a store that is filled
 
--- x in the first slots of a cleared store
-filled : {A : Type 0} (z : A) (store cleared x y : List A) (count : ℕ) → cleared ≡ blank z store → count ≤ length store → x ≡ y → length y ≡ count
-    → x ++ drop count cleared ≡ padded z (length store) y
-unfolding blank padded
-filled z store cleared x y count e h ex ey = rw (ex, e, drop-replicate z (length store) count, ey)
-
 -- a part of a cleared store
 pub cleared-part : {A : Type 0} (z : A) (m : ℕ) (store cleared : List A) → cleared ≡ blank z store → m ≤ length store → length (take m cleared) ≡ m
 cleared-part z m store cleared e h = length-take-le m cleared (rw (e, blank-length z store) h)
 
-module _ (file : List ℕ) (at count : ℕ) where
-  pub filled-index : (store cleared x : List ℕ) → cleared ≡ blank 0 store → count ≤ length store → x ≡ fields_at 2 file at (length (take count cleared))
-      → x ++ drop count cleared ≡ padded 0 (length store) (fields_at 2 file at count)
-  filled-index store cleared x e h ex =
-      filled 0 store cleared x (fields_at 2 file at count) count e h (ex ∙ ap (fields_at 2 file at) (cleared-part 0 count store cleared e h)) (length-fields_at 2 file at count)
-
-  pub filled-floats : (store cleared x : List Float) → cleared ≡ blank nought store → count ≤ length store → x ≡ floats_at file at (length (take count cleared))
-      → x ++ drop count cleared ≡ padded nought (length store) (floats_at file at count)
-  filled-floats store cleared x e h ex =
-      filled nought store cleared x (floats_at file at count) count e h (ex ∙ ap (floats_at file at) (cleared-part nought count store cleared e h)) (length-floats_at file at count)
+-- as many values as the first slots of a cleared store, in them
+pub filled : {A : Type 0} (z : A) (values : ℕ → List A) (store cleared x : List A) (count : ℕ) → cleared ≡ blank z store → count ≤ length store → length (values count) ≡ count
+    → x ≡ values (length (take count cleared)) → x ++ drop count cleared ≡ padded z (length store) (values count)
+unfolding blank padded
+filled z values store cleared x count e h s ex = rw (ex, cleared-part z count store cleared e h, e, drop-replicate z (length store) count, s)
 
 module _ (n : ℕ) (k : Counts) (l : FactorLists) (a : Asked) (e : a ≡ ask_contents n k l) where
-  pub counted_stop : (q : Refusal) → a ≡ Stop q → answers.Refused q ≡ counted (ask_contents n k l) k
+  pub counted_stop : (q : Refusal) → a ≡ Err q → Err q ≡ counted (ask_contents n k l) k
   counted_stop q p = rw (← e, p)
 
-  pub counted-done : a ≡ Pass → answers.Done k ≡ counted (ask_contents n k l) k
+  pub counted-done : a ≡ Pass → Ok k ≡ counted (ask_contents n k l) k
   counted-done p = rw (← e, p)
 
 -- ---- the reader's questions
@@ -74,11 +56,11 @@ module _ (file : List ℕ) (r c ls li lv us ui uv d : ℕ) (f : Kept) (o : f ≡
   abbrev through : Asked
   through = ask_through file (fit (n_of file) (counts_in file).lower (counts_in file).upper)
 
-  pub judge-stop : (q : Refusal) → f ≡ Refused q → answers.Refused q ≡ counted through (counts_in file)
+  pub judge-stop : (q : Refusal) → f ≡ Err q → Err q ≡ counted through (counts_in file)
   unfolding ask_through
   judge-stop q p = rw (opened-stop file q (sym p ∙ o))
 
-  module _ (s : FactorSizes) (p : f ≡ Factors s) where
+  module _ (s : FactorSizes) (p : f ≡ Ok s) where
     abbrev passed : (ask_file file ≡ Pass) × (s ≡ sizes_in file)
     passed = opened-pass file s (sym p ∙ o)
 
@@ -89,7 +71,7 @@ module _ (file : List ℕ) (r c ls li lv us ui uv d : ℕ) (f : Kept) (o : f ≡
       fit_is : fit (n_of file) (counts_in file).lower (counts_in file).upper ≡ x
       fit_is = ap (λ (s : FactorSizes). fit s.n s.lower s.upper) (sym passed.1) ∙ sym ex
 
-      pub judge-lengths : not x ≡ true → answers.Refused Lengths ≡ counted through (counts_in file)
+      pub judge-lengths : not x ≡ true → Err Lengths ≡ counted through (counts_in file)
       unfolding ask_through
       judge-lengths h = rw (passed.0, fit_is, not-true x h)
 
@@ -126,13 +108,13 @@ module _ (file : List ℕ) (n lower upper s i j v p w q t : ℕ) (es : s ≡ upp
   loaded l r c ls li lv us ui uv d g els eli elv eus eui euv er ec ed =
       rw (els, eli, elv, eus, eui, euv, er, ec, ed, g.lower-starts-size, g.upper-starts-size, g.r-size, g.c-size, g.d-size, es, ei, ej, ev, ep, ew, eq, et)
 
-counted-stop-is : (a : Asked) (k : Counts) (q : Refusal) → answers.Refused q ≡ counted a k → a ≡ Stop q
-counted-stop-is (Stop p) k q e = cc
-counted-stop-is Pass k q e = let z : ◌≡◌ {A = ℕ} 0 1 = cc in absurd (omega arith)
+counted-stop-is : (a : Asked) (k : Counts) (q : Refusal) → Err q ≡ counted a k → a ≡ Err q
+counted-stop-is (Err p) k q e = cc
+counted-stop-is (Ok _) k q e = let z : ◌≡◌ {A = ℕ} 0 1 = cc in absurd (omega arith)
 
-counted-pass-is : (a : Asked) (k j : Counts) → answers.Done j ≡ counted a k → (a ≡ Pass) × (j ≡ k)
-counted-pass-is Pass k j e = (refl, cc)
-counted-pass-is (Stop q) k j e = let z : ◌≡◌ {A = ℕ} 0 1 = cc in absurd (omega arith)
+counted-pass-is : (a : Asked) (k j : Counts) → Ok j ≡ counted a k → (a ≡ Pass) × (j ≡ k)
+counted-pass-is (Ok _) k j e = (refl, cc)
+counted-pass-is (Err q) k j e = let z : ◌≡◌ {A = ℕ} 0 1 = cc in absurd (omega arith)
 
 module _ (file : List ℕ) (fit : Bool) (p : ask_through file fit ≡ Pass) where
   abbrev contents : Asked
@@ -164,11 +146,11 @@ module _ (file : List ℕ) (l : FactorLists) (p : ask_read file l ≡ Pass) wher
   read-lent = long-lent (n_of file) k.lower k.upper l fits
 
 module _ (file : List ℕ) (l : FactorLists) (a : Answer) (e : a ≡ counted (ask_read file l) (counts_in file)) where
-  pub read-stop : (q : Refusal) → a ≡ answers.Refused q → left (answers.Refused q) l ≡ read_outcome file l
+  pub read-stop : (q : Refusal) → a ≡ Err q → left (Err q) l ≡ read_outcome file l
   unfolding read_outcome
   read-stop q p = rw (counted-stop-is (ask_read file l) (counts_in file) q (sym p ∙ e))
 
-  module _ (k : Counts) (p : a ≡ answers.Done k) where
+  module _ (k : Counts) (p : a ≡ Ok k) where
     abbrev passes : (ask_read file l ≡ Pass) × (k ≡ counts_in file)
     passes = counted-pass-is (ask_read file l) (counts_in file) k (sym p ∙ e)
 
@@ -178,8 +160,8 @@ module _ (file : List ℕ) (l : FactorLists) (a : Answer) (e : a ≡ counted (as
         subst (λ (j : Counts). Stands file (length l.d) j.lower j.upper × Lent Enough (length l.d) j.lower j.upper l) (sym passes.1)
         (rw (fits file l q).d-long (read-stands file l q, read-lent file l q))
 
-    pub read_done : (l' : FactorLists) → l' ≡ held l (lists_at file (length l.d) k.lower k.upper) → left (answers.Done k) l' ≡ read_outcome file l
+    pub read_done : (l' : FactorLists) → l' ≡ held l (lists_at file (length l.d) k.lower k.upper) → left (Ok k) l' ≡ read_outcome file l
     unfolding read_outcome factors_at
     read_done l' h =
         let q = passes.0 in
-        rw (q, h, (fits file l q).d-long) (ap (λ (j : Counts). left (answers.Done j) (held l (lists_at file (n_of file) j.lower j.upper))) passes.1)
+        rw (q, h, (fits file l q).d-long) (ap (λ (j : Counts). left (Ok j) (held l (lists_at file (n_of file) j.lower j.upper))) passes.1)

@@ -1,4 +1,5 @@
 -- The ways through the shape of a file, and what a file that opens has settled.
+use Rattle.std.specs.Prelude.{Ok, Err}
 use mathlib.Core.Path.{◌≡◌, refl, sym, ap, ◌∙◌}
 use mathlib.Core.Bool.{true}
 use mathlib.Core.List.{List}
@@ -9,12 +10,8 @@ use lib.Dec.{eqb}
 use lib.ListN.{length}
 use Rattle.base.specs.Tests.{and_cases}
 use Rattle.base.specs.FirstLaws.{both-pass, holds-pass}
-use Rattle.base.specs.Answers.{holds, and_then}
-use Rattle.base.specs.declared.Asked.{Asked}
-use Rattle.base.specs.declared.Asked.TheVariants.{Pass, Stop}
+use Rattle.base.specs.Answers.{holds, and_then, Pass, Kept, Asked}
 use Rattle.base.specs.declared.FactorSizes.{FactorSizes}
-use Rattle.base.specs.declared.Kept.{Kept}
-use Rattle.base.specs.declared.Kept.TheVariants.{Factors, Refused}
 use Rattle.base.specs.declared.Refusal.{Refusal}
 use Rattle.base.specs.declared.Refusal.TheVariants.{Rows, FactorShape}
 use Rattle.base.specs.Limits.{max_rows, rows_within}
@@ -38,14 +35,14 @@ module _ (file : List ℕ) (s : FactorSizes) (en : s.n ≡ n_of file) (el : s.lo
   sizes-are : s ≡ sizes_in file
   sizes-are = λ t. record { n = en t; lower = el t; upper = eu t }
 
-  pub head-pass : a ≡ Pass → Factors s ≡ shaped (ask_head file (n_of file) (counts_in file).lower (counts_in file).upper) (sizes_in file)
-  head-pass p = rw (head-is, p) (ap Factors sizes-are)
+  pub head-pass : a ≡ Pass → Ok s ≡ shaped (ask_head file (n_of file) (counts_in file).lower (counts_in file).upper) (sizes_in file)
+  head-pass p = rw (head-is, p) (ap Ok sizes-are)
 
-  pub head-stop : (q : Refusal) → a ≡ Stop q → Refused q ≡ shaped (ask_head file (n_of file) (counts_in file).lower (counts_in file).upper) (sizes_in file)
+  pub head-stop : (q : Refusal) → a ≡ Err q → Err q ≡ shaped (ask_head file (n_of file) (counts_in file).lower (counts_in file).upper) (sizes_in file)
   head-stop q p = rw (head-is, p)
 
 module _ (file : List ℕ) (a : Asked) (ask : a ≡ ask_blocks file) where
-  pub shape-stop : (q : Refusal) → a ≡ Stop q → Refused q ≡ opened file
+  pub shape-stop : (q : Refusal) → a ≡ Err q → Err q ≡ opened file
   unfolding opened ask_file
   shape-stop q p = rw (← ask, p)
 
@@ -55,19 +52,19 @@ module _ (file : List ℕ) (a : Asked) (ask : a ≡ ask_blocks file) where
 
 -- ---- a file that opens
 
-shaped-pass : (a : Asked) (s t : FactorSizes) → Factors s ≡ shaped a t → (a ≡ Pass) × (s ≡ t)
-shaped-pass Pass s t e = (refl, cc)
-shaped-pass (Stop q) s t e = let z : ◌≡◌ {A = ℕ} 0 1 = cc in absurd (omega arith)
+shaped-pass : (a : Asked) (s t : FactorSizes) → Ok s ≡ shaped a t → (a ≡ Pass) × (s ≡ t)
+shaped-pass (Ok _) s t e = (refl, cc)
+shaped-pass (Err q) s t e = let z : ◌≡◌ {A = ℕ} 0 1 = cc in absurd (omega arith)
 
-shaped-stop : (a : Asked) (q : Refusal) (s : FactorSizes) → Refused q ≡ shaped a s → a ≡ Stop q
-shaped-stop (Stop p) q s e = cc
-shaped-stop Pass q s e = let z : ◌≡◌ {A = ℕ} 0 1 = cc in absurd (omega arith)
+shaped-stop : (a : Asked) (q : Refusal) (s : FactorSizes) → Err q ≡ shaped a s → a ≡ Err q
+shaped-stop (Err p) q s e = cc
+shaped-stop (Ok _) q s e = let z : ◌≡◌ {A = ℕ} 0 1 = cc in absurd (omega arith)
 
-pub opened-pass : (file : List ℕ) (s : FactorSizes) → Factors s ≡ opened file → (ask_file file ≡ Pass) × (s ≡ sizes_in file)
+pub opened-pass : (file : List ℕ) (s : FactorSizes) → Ok s ≡ opened file → (ask_file file ≡ Pass) × (s ≡ sizes_in file)
 unfolding opened
 opened-pass file s e = shaped-pass (ask_file file) s (sizes_in file) e
 
-pub opened-stop : (file : List ℕ) (q : Refusal) → Refused q ≡ opened file → ask_file file ≡ Stop q
+pub opened-stop : (file : List ℕ) (q : Refusal) → Err q ≡ opened file → ask_file file ≡ Err q
 unfolding opened
 opened-stop file q e = shaped-stop (ask_file file) q (sizes_in file) e
 

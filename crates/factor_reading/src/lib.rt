@@ -10,7 +10,8 @@ ghost use Rattle.blocks.specs.Blocks.{ends_at};
 ghost use Rattle.factor_contents.specs.FactorFile.{size_of, factor_lists, held, n_of, counts_in, sizes_in, lists_at, ask_head, lengths_fit, ask_contents, ask_through, shaped, counted, opened, read_outcome};
 ghost use Rattle.factor_contents.specs.Judging.{Stands, Enough, Lent};
 
-use base::{Answer, Asked, Counts, FactorSizes, Index, Kept, Refusal};
+use base::{Counts, FactorSizes, Index, Refusal, Zero};
+use fields::Field;
 use matrix::Matrix;
 
 // ---- the shape
@@ -35,60 +36,51 @@ fn ends_right(file: &[u8], n: usize, lower: usize, upper: usize) -> bool
 }
 
 // Questions 1 and 20 of n, lower and upper as the file has them.
-fn ask_head(file: &[u8], n: usize, lower: usize, upper: usize) -> Asked
+fn ask_head(file: &[u8], n: usize, lower: usize, upper: usize) -> Result<(), Refusal>
     requires { (lower < 4294967296) × (upper < 4294967296) }
     ensures { result ≡ ask_head file.now n lower upper }
 {
     if !Matrix::rows_within(n) {
-        return Asked::Stop(Refusal::Rows);
+        return Err(Refusal::Rows);
     }
     if !ends_right(file, n, lower, upper) {
-        return Asked::Stop(Refusal::FactorShape);
+        return Err(Refusal::FactorShape);
     }
-    Asked::Pass
+    Ok(())
 }
 
 // The shape of the factors in a file of whole blocks.
-fn head_shape(file: &[u8]) -> Kept
+fn head_shape(file: &[u8]) -> Result<FactorSizes, Refusal>
     requires { 20 ≤ room file.now }
     ensures { result ≡ shaped (ask_head file.now (n_of file.now) (counts_in file.now).lower (counts_in file.now).upper) (sizes_in file.now) }
 {
     let sizes = sizes_of(file);
-    let asked = ask_head(file, sizes.n, sizes.lower, sizes.upper);
-    match asked {
-        Asked::Pass => Kept::Factors(sizes),
-        Asked::Stop(q) => Kept::Refused(q),
-    }
+    ask_head(file, sizes.n, sizes.lower, sizes.upper)?;
+    Ok(sizes)
 }
 
 // Gives n, lower and upper of the factors in a file: questions 16, 17, 1 and 20.
-pub fn factor_file_shape(file: &[u8]) -> Kept
+pub fn factor_file_shape(file: &[u8]) -> Result<FactorSizes, Refusal>
     ensures { result ≡ opened file.now }
 {
-    let asked = blocks::ask_blocks(file);
-    match asked {
-        Asked::Pass => head_shape(file),
-        Asked::Stop(q) => Kept::Refused(q),
-    }
+    blocks::ask_blocks(file)?;
+    head_shape(file)
 }
 
 // ---- reading
 
 // Asks 5, 15 and 21 of what the file holds, and gives the counts.
-fn judge_contents(file: &[u8], n: usize, lower: usize, upper: usize) -> Answer
+fn judge_contents(file: &[u8], n: usize, lower: usize, upper: usize) -> Result<Counts, Refusal>
     requires { (20 ≤ room file.now) × Stands file.now n lower upper }
     ensures { result ≡ counted (ask_contents n (record { lower = lower; upper = upper; products = (counts_in file.now).products }) (lists_at file.now n lower upper)) (record { lower = lower; upper = upper; products = (counts_in file.now).products }) }
 {
     let products = fields::number_at(file, 12, 8);
-    let asked = factor_contents::ask_contents_in(file, n, lower, upper, products);
-    match asked {
-        Asked::Stop(q) => Answer::Refused(q),
-        Asked::Pass => Answer::Done(Counts {
-            lower: lower as u64,
-            upper: upper as u64,
-            products,
-        }),
-    }
+    factor_contents::ask_contents_in(file, n, lower, upper, products)?;
+    Ok(Counts {
+        lower: lower as u64,
+        upper: upper as u64,
+        products,
+    })
 }
 
 // Asks all that a reader asks, of the file and the lengths of what is lent, and gives the counts.
@@ -103,53 +95,39 @@ fn judge(
     upper_index: usize,
     upper_values: usize,
     d: usize,
-) -> Answer
+) -> Result<Counts, Refusal>
     ensures { result ≡ counted (ask_through file.now (lengths_fit (n_of file.now) (counts_in file.now).lower (counts_in file.now).upper r c lower_starts lower_index lower_values upper_starts upper_index upper_values d)) (counts_in file.now) }
 {
-    let found = factor_file_shape(file);
-    match found {
-        Kept::Refused(q) => Answer::Refused(q),
-        Kept::Factors(s) => {
-            let n = s.n;
-            let lower = s.lower;
-            let upper = s.upper;
-            if !factor_contents::lengths_fit(
-                n,
-                lower,
-                upper,
-                r,
-                c,
-                lower_starts,
-                lower_index,
-                lower_values,
-                upper_starts,
-                upper_index,
-                upper_values,
-                d,
-            ) {
-                return Answer::Refused(Refusal::Lengths);
-            }
-            judge_contents(file, n, lower, upper)
-        }
+    let s = factor_file_shape(file)?;
+    let n = s.n;
+    let lower = s.lower;
+    let upper = s.upper;
+    if !factor_contents::lengths_fit(
+        n,
+        lower,
+        upper,
+        r,
+        c,
+        lower_starts,
+        lower_index,
+        lower_values,
+        upper_starts,
+        upper_index,
+        upper_values,
+        d,
+    ) {
+        return Err(Refusal::Lengths);
     }
+    judge_contents(file, n, lower, upper)
 }
 
-// Fills the first `count` slots with the numbers of 2 bytes from `at` on, and the others with 0.
-fn fill_index(file: &[u8], at: usize, count: usize, store: &mut [Index])
-    requires { (at + 2 * count ≤ room file.now) × (count ≤ length store.old) }
-    ensures { store.new ≡ padded 0 (length store.old) (fields_at 2 file.now at count) }
+// Fills the first `count` slots with the values from `at` on, and the others with zero.
+fn fill<T: Field + Zero>(file: &[u8], at: usize, count: usize, store: &mut [T])
+    requires { (at + T.WIDTH * count ≤ room file.now) × (count ≤ length store.old) }
+    ensures { store.new ≡ padded T.nil (length store.old) (T.values_at file.now at count) }
 {
-    base::clear_index(store);
-    fields::read_indices(file, at, &mut store[..count]);
-}
-
-// Fills the first `count` slots with the floats from `at` on, and the others with +0.
-fn fill_f64(file: &[u8], at: usize, count: usize, store: &mut [f64])
-    requires { (at + 8 * count ≤ room file.now) × (count ≤ length store.old) }
-    ensures { store.new ≡ padded nought (length store.old) (floats_at file.now at count) }
-{
-    base::clear_f64(store);
-    fields::read_f64s(file, at, &mut store[..count]);
+    base::clear(store);
+    fields::read(file, at, &mut store[..count]);
 }
 
 // Fills the starts, the index store and the value store of a side of `entries` entries from where they stand.
@@ -168,9 +146,9 @@ fn load_side(
         × (index.new ≡ padded 0 (length index.old) (fields_at 2 file.now index_at entries))
         × (values.new ≡ padded nought (length values.old) (floats_at file.now values_at entries)) }
 {
-    fields::read_u32s(file, starts_at, starts);
-    fill_index(file, index_at, entries, index);
-    fill_f64(file, values_at, entries, values);
+    fields::read(file, starts_at, starts);
+    fill(file, index_at, entries, index);
+    fill(file, values_at, entries, values);
 }
 
 // Fills d and the orders from where they stand.
@@ -188,9 +166,9 @@ fn load_rest(
         × (c.new ≡ fields_at 2 file.now c_at (length c.old))
         × (d.new ≡ floats_at file.now d_at (length d.old)) }
 {
-    fields::read_indices(file, r_at, r);
-    fields::read_indices(file, c_at, c);
-    fields::read_f64s(file, d_at, d);
+    fields::read(file, r_at, r);
+    fields::read(file, c_at, c);
+    fields::read(file, d_at, d);
 }
 
 // Fills all buffers with what the file holds, and unused slots with zeros.
@@ -250,11 +228,11 @@ pub fn read_factors(
     upper_index: &mut [Index],
     upper_values: &mut [f64],
     d: &mut [f64],
-) -> Answer
+) -> Result<Counts, Refusal>
     ensures { left result (factor_lists r.new c.new lower_starts.new lower_index.new lower_values.new upper_starts.new upper_index.new upper_values.new d.new)
         ≡ read_outcome file.now (factor_lists r.old c.old lower_starts.old lower_index.old lower_values.old upper_starts.old upper_index.old upper_values.old d.old) }
 {
-    let judged = judge(
+    let counts = judge(
         file,
         r.len(),
         c.len(),
@@ -265,26 +243,21 @@ pub fn read_factors(
         upper_index.len(),
         upper_values.len(),
         d.len(),
+    )?;
+    load(
+        file,
+        d.len(),
+        counts.lower as usize,
+        counts.upper as usize,
+        r,
+        c,
+        lower_starts,
+        lower_index,
+        lower_values,
+        upper_starts,
+        upper_index,
+        upper_values,
+        d,
     );
-    match judged {
-        Answer::Refused(q) => Answer::Refused(q),
-        Answer::Done(counts) => {
-            load(
-                file,
-                d.len(),
-                counts.lower as usize,
-                counts.upper as usize,
-                r,
-                c,
-                lower_starts,
-                lower_index,
-                lower_values,
-                upper_starts,
-                upper_index,
-                upper_values,
-                d,
-            );
-            Answer::Done(counts)
-        }
-    }
+    Ok(counts)
 }

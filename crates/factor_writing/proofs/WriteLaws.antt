@@ -1,4 +1,5 @@
 -- The ways through the write: what is laid down one after another, its room, and the questions.
+use Rattle.std.specs.Prelude.{Err}
 use mathlib.Core.Path.{◌≡◌, refl, sym, ap, ◌∙◌}
 use mathlib.Core.Bool.{Bool, true, false, not, ◌&&◌}
 use mathlib.Core.List.{List, [], ◌∷◌, ◌++◌, append-nil, append_assoc}
@@ -10,11 +11,7 @@ use lib.ListN.{length}
 use Rattle.base.specs.Lists.{table}
 use Rattle.base.specs.Tests.{and_cases}
 use Rattle.base.specs.FirstLaws.{both-pass, holds-pass}
-use Rattle.base.specs.Answers.{holds, Left, left, or_untouched}
-use Rattle.base.specs.declared.Ended.{Ended}
-use Rattle.base.specs.declared.Ended.TheVariants as ends
-use Rattle.base.specs.declared.Asked.{Asked}
-use Rattle.base.specs.declared.Asked.TheVariants.{Pass, Stop}
+use Rattle.base.specs.Answers.{holds, Left, left, or_untouched, Pass, Asked}
 use Rattle.base.specs.declared.Counts.{Counts}
 use Rattle.base.specs.declared.Refusal.{Refusal}
 use Rattle.base.specs.declared.Refusal.TheVariants.{Rows, Lengths}
@@ -101,24 +98,24 @@ lists-asked n k l a g e =
     e ∙ ap (λ (j : Counts). ask_contents n j l) (λ t. record { lower = g.lower-index-size t; upper = g.upper-index-size t; products = k.products })
 
 module _ (n : ℕ) (k : Counts) (l : FactorLists) (file : List ℕ) (a : Asked) (e : a ≡ ask_contents n k l) where
-  pub lists-stop : (q : Refusal) → a ≡ Stop q → left (ends.Refused q) file ≡ or_untouched ends.Refused (ask_contents n k l) ends.Done (written n k l) file
+  pub lists-stop : (q : Refusal) → a ≡ Err q → left (Err q) file ≡ or_untouched Err (ask_contents n k l) Pass (written n k l) file
   lists-stop q p = rw (← e, p)
 
-  pub lists-done : (file' : List ℕ) → a ≡ Pass → file' ≡ written n k l → left ends.Done file' ≡ or_untouched ends.Refused (ask_contents n k l) ends.Done (written n k l) file
+  pub lists-done : (file' : List ℕ) → a ≡ Pass → file' ≡ written n k l → left Pass file' ≡ or_untouched Err (ask_contents n k l) Pass (written n k l) file
   lists-done file' p w = rw (← e, p, w)
 
 module _ (n lower upper len : ℕ) (fit x : Bool) (ex : x ≡ rows_within n) where
-  pub ask-1 : not x ≡ true → Stop Rows ≡ ask_lengths n lower upper len fit
+  pub ask-1 : not x ≡ true → Err Rows ≡ ask_lengths n lower upper len fit
   unfolding ask_lengths
   ask-1 p = then-no (rows_within n) x Rows _ ex p
 
   module _ (p : not x ≡ false) (y : Bool) (ey : y ≡ fit) where
-    pub ask-fit : not y ≡ true → Stop Lengths ≡ ask_lengths n lower upper len fit
+    pub ask-fit : not y ≡ true → Err Lengths ≡ ask_lengths n lower upper len fit
     unfolding ask_lengths
     ask-fit q = rw (← ex, not-false x p, ← ey, not-true y q)
 
     module _ (q : not y ≡ false) (z : Bool) (ez : z ≡ eqb len (file_length n lower upper)) where
-      pub ask-file : not z ≡ true → Stop Lengths ≡ ask_lengths n lower upper len fit
+      pub ask-file : not z ≡ true → Err Lengths ≡ ask_lengths n lower upper len fit
       unfolding ask_lengths
       ask-file t = rw (← ex, not-false x p, ← ey, not-false y q, ← ez, not-true z t)
 
@@ -131,7 +128,7 @@ slots-few n lower upper r c ls li lv us ui uv d y e q = few-entries (long-lists 
 
 module _ (n : ℕ) (k : Counts) (l : FactorLists) (file : List ℕ) (a : Asked)
     (e : a ≡ ask_lengths n k.lower k.upper (length file) (lists_fit n k.lower k.upper l)) where
-  pub write-stop : (q : Refusal) → a ≡ Stop q → left (ends.Refused q) file ≡ write_outcome n k l file
+  pub write-stop : (q : Refusal) → a ≡ Err q → left (Err q) file ≡ write_outcome n k l file
   unfolding write_outcome ask_write
   write-stop q p = rw (← e, p)
 
@@ -162,6 +159,6 @@ module _ (n : ℕ) (k : Counts) (l : FactorLists) (file : List ℕ) (a : Asked)
           file = eqb-true (length file) (file_length n k.lower k.upper) tests.1;
         }
 
-    pub write_done : (x : Left Ended (List ℕ)) → x ≡ or_untouched ends.Refused (ask_contents n k (cut k l)) ends.Done (written n k (cut k l)) file → x ≡ write_outcome n k l file
+    pub write_done : (x : Left Asked (List ℕ)) → x ≡ or_untouched Err (ask_contents n k (cut k l)) Pass (written n k (cut k l)) file → x ≡ write_outcome n k l file
     unfolding write_outcome ask_write
     write_done x h = rw (← e, p) h

@@ -1,17 +1,16 @@
 // The factor file of the plain form: its writing.
 #![tactic(auto)]
 
-ghost use Rattle.std.specs.Prelude.{◌≡◌, ◌++◌, ◌+◌, ◌*◌, ◌≤◌, length, eqb};
-ghost use Rattle.base.specs.Answers.{left, or_untouched};
+ghost use Rattle.std.specs.Prelude.{◌≡◌, ◌++◌, ◌+◌, ◌*◌, ◌≤◌, length, eqb, Err};
+ghost use Rattle.base.specs.Answers.{left, or_untouched, Pass};
 ghost use Rattle.base.specs.Limits.{max_rows, max_slots};
-ghost use Rattle.base.specs.declared.Ended.TheVariants.{Done, Refused};
 ghost use Rattle.fields.specs.Numbers.{stream};
 ghost use Rattle.fields.specs.Payload.{room, payloads};
 ghost use Rattle.factor_contents.specs.FactorFile.{head_parts, list_parts, value_parts, file_length, factor_lists, written, lengths_fit, ask_contents, ask_lengths, write_outcome};
 ghost use Rattle.factor_contents.specs.Judging.{Whole, Lent};
 ghost use Rattle.factor_writing.specs.Writing.{WriteLent};
 
-use base::{Asked, Counts, Ended, Index, Refusal};
+use base::{Counts, Index, Refusal};
 use matrix::Matrix;
 
 // ---- laid down
@@ -40,10 +39,10 @@ fn lay_lists(
     ensures { (result ≡ at + 4 * length lower_starts.now + 4 * length upper_starts.now + 2 * length lower_index.now + 2 * length upper_index.now)
         × (payloads file.new result ≡ payloads file.old at ++ stream (list_parts lower_starts.now upper_starts.now lower_index.now upper_index.now)) }
 {
-    let at = fields::write_u32s(file, at, lower_starts);
-    let at = fields::write_u32s(file, at, upper_starts);
-    let at = fields::write_indices(file, at, lower_index);
-    fields::write_indices(file, at, upper_index)
+    let at = fields::write(file, at, lower_starts);
+    let at = fields::write(file, at, upper_starts);
+    let at = fields::write(file, at, lower_index);
+    fields::write(file, at, upper_index)
 }
 
 // Lays L, d, u and the orders down from payload byte `at` on, and answers where they end.
@@ -60,11 +59,11 @@ fn lay_values(
     ensures { (result ≡ at + 8 * length lower_values.now + 8 * length d.now + 8 * length upper_values.now + 2 * length r.now + 2 * length c.now)
         × (payloads file.new result ≡ payloads file.old at ++ stream (value_parts lower_values.now d.now upper_values.now r.now c.now)) }
 {
-    let at = fields::write_f64s(file, at, lower_values);
-    let at = fields::write_f64s(file, at, d);
-    let at = fields::write_f64s(file, at, upper_values);
-    let at = fields::write_indices(file, at, r);
-    fields::write_indices(file, at, c)
+    let at = fields::write(file, at, lower_values);
+    let at = fields::write(file, at, d);
+    let at = fields::write(file, at, upper_values);
+    let at = fields::write(file, at, r);
+    fields::write(file, at, c)
 }
 
 // Writes the file of lists without unused slots over a buffer of its length.
@@ -114,11 +113,11 @@ fn write_lists(
     upper_values: &[f64],
     d: &[f64],
     file: &mut [u8],
-) -> Ended
+) -> Result<(), Refusal>
     requires { WriteLent n counts (factor_lists r.now c.now lower_starts.now lower_index.now lower_values.now upper_starts.now upper_index.now upper_values.now d.now) (length file.old) }
-    ensures { left result file.new ≡ or_untouched Refused (ask_contents n counts (factor_lists r.now c.now lower_starts.now lower_index.now lower_values.now upper_starts.now upper_index.now upper_values.now d.now)) Done (written n counts (factor_lists r.now c.now lower_starts.now lower_index.now lower_values.now upper_starts.now upper_index.now upper_values.now d.now)) file.old }
+    ensures { left result file.new ≡ or_untouched Err (ask_contents n counts (factor_lists r.now c.now lower_starts.now lower_index.now lower_values.now upper_starts.now upper_index.now upper_values.now d.now)) Pass (written n counts (factor_lists r.now c.now lower_starts.now lower_index.now lower_values.now upper_starts.now upper_index.now upper_values.now d.now)) file.old }
 {
-    let asked = factor_contents::ask_contents(
+    factor_contents::ask_contents(
         n,
         counts.products,
         r,
@@ -130,27 +129,22 @@ fn write_lists(
         upper_index,
         upper_values,
         d,
+    )?;
+    store(
+        n,
+        counts,
+        r,
+        c,
+        lower_starts,
+        lower_index,
+        lower_values,
+        upper_starts,
+        upper_index,
+        upper_values,
+        d,
+        file,
     );
-    match asked {
-        Asked::Stop(q) => Ended::Refused(q),
-        Asked::Pass => {
-            store(
-                n,
-                counts,
-                r,
-                c,
-                lower_starts,
-                lower_index,
-                lower_values,
-                upper_starts,
-                upper_index,
-                upper_values,
-                d,
-                file,
-            );
-            Ended::Done
-        }
-    }
+    Ok(())
 }
 
 // Tells whether a file has the length that n, lower and upper demand.
@@ -176,11 +170,11 @@ fn ask_lengths(
     upper_values: usize,
     d: usize,
     len: usize,
-) -> Asked
+) -> Result<(), Refusal>
     ensures { result ≡ ask_lengths n lower upper len (lengths_fit n lower upper r c lower_starts lower_index lower_values upper_starts upper_index upper_values d) }
 {
     if !Matrix::rows_within(n) {
-        return Asked::Stop(Refusal::Rows);
+        return Err(Refusal::Rows);
     }
     if !factor_contents::lengths_fit(
         n,
@@ -196,12 +190,12 @@ fn ask_lengths(
         upper_values,
         d,
     ) {
-        return Asked::Stop(Refusal::Lengths);
+        return Err(Refusal::Lengths);
     }
     if !file_fits(n, lower, upper, len) {
-        return Asked::Stop(Refusal::Lengths);
+        return Err(Refusal::Lengths);
     }
-    Asked::Pass
+    Ok(())
 }
 
 // Writes the file of factors in the plain form over the lent buffer: questions 1, 2, 5, 15 and 21. A refusal leaves it as it was.
@@ -218,12 +212,12 @@ pub fn write_factors(
     upper_values: &[f64],
     d: &[f64],
     file: &mut [u8],
-) -> Ended
+) -> Result<(), Refusal>
     ensures { left result file.new ≡ write_outcome n counts (factor_lists r.now c.now lower_starts.now lower_index.now lower_values.now upper_starts.now upper_index.now upper_values.now d.now) file.old }
 {
     let lower = counts.lower as usize;
     let upper = counts.upper as usize;
-    let asked = ask_lengths(
+    ask_lengths(
         n,
         lower,
         upper,
@@ -237,22 +231,19 @@ pub fn write_factors(
         upper_values.len(),
         d.len(),
         file.len(),
-    );
-    match asked {
-        Asked::Stop(q) => Ended::Refused(q),
-        Asked::Pass => write_lists(
-            n,
-            counts,
-            r,
-            c,
-            lower_starts,
-            &lower_index[..lower],
-            &lower_values[..lower],
-            upper_starts,
-            &upper_index[..upper],
-            &upper_values[..upper],
-            d,
-            file,
-        ),
-    }
+    )?;
+    write_lists(
+        n,
+        counts,
+        r,
+        c,
+        lower_starts,
+        &lower_index[..lower],
+        &lower_values[..lower],
+        upper_starts,
+        &upper_index[..upper],
+        &upper_values[..upper],
+        d,
+        file,
+    )
 }

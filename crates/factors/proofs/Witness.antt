@@ -1,4 +1,5 @@
 -- What the functions require is met by computed values: one place with empty lists, in the plain and in the shared form. 15 passes them.
+use Rattle.base.specs.Answers.{Pass}
 use mathlib.Core.Path.{◌≡◌, refl}
 use mathlib.Core.List.{List, [], ◌∷◌}
 use Prim.Native.Nat.{ℕ}
@@ -7,7 +8,6 @@ use lib.Ieee.{Float}
 use Rattle.base.specs.Lists.{nought, list_at}
 use Rattle.base.specs.First.{first}
 use Rattle.base.specs.declared.Form.TheVariants.{Plain, Shared}
-use Rattle.base.specs.declared.Asked.TheVariants.{Pass}
 use Rattle.outcome.specs.Buffers.{side_buffers}
 use Rattle.outcome.specs.Resolve.{given_list, given_values, rises_in, misplaced, bad_list, bad_at, ask_factors}
 use Rattle.factors.specs.Presented.{FactorsLent, presented}

@@ -1,5 +1,5 @@
 -- Question 15 by the tests that the code makes, and what a pass of it settles.
-use Rattle.std.specs.Prelude.{◌≡◌, Bool, ◌&&◌, ◌||◌, List, [], ◌∷◌, ℕ, zero, suc, ◌+◌, ◌-◌, ◌<◌, ◌≤◌, drop, leb, eqb, Float}
+use Rattle.std.specs.Prelude.{◌≡◌, Bool, ◌&&◌, ◌||◌, List, [], ◌∷◌, ℕ, zero, suc, ◌+◌, ◌-◌, ◌<◌, ◌≤◌, drop, leb, eqb, Float, Some, None}
 use Rattle.std.proofs.Math.Path.{refl}
 use Rattle.std.proofs.Common.{sym, ap, ◌∙◌, drop_of_length-le}
 use Rattle.std.proofs.Math.Bool.{true, false, not, or-true}
@@ -10,19 +10,17 @@ use Rattle.std.proofs.Math.ListN.{length, get_or}
 use Rattle.std.proofs.Math.Seq.{drop-cons}
 use Rattle.std.proofs.Math.Dec.{ltb}
 use Rattle.std.specs.Float.{nan}
+use Rattle.std.specs.List.{list_all}
 use Rattle.std.specs.Float.Ieee.Scale.{finite}
 use borrow.Author.Tests.{lt-ltb, le-ltb, ltb-true, ltb-false, leb-true, not-true, not-false}
 use Rattle.base.specs.Lists.{list_at, row_of}
-use Rattle.base.specs.Answers.{absent}
+use Rattle.base.specs.Answers.{absent, Pass, Found}
 use Rattle.base.specs.FirstLaws.{first-none, stop-pass}
 use Rattle.base.specs.Tests.{or-false, and_cases}
 use Rattle.base.specs.declared.Form.{Form}
 use Rattle.base.specs.declared.Form.TheVariants.{Plain, Shared, ByRow}
 use Rattle.base.specs.declared.Side.{Side}
 use Rattle.base.specs.declared.Side.TheVariants.{Lower, Upper}
-use Rattle.base.specs.declared.Asked.TheVariants.{Pass}
-use Rattle.base.specs.declared.Found.{Found}
-use Rattle.base.specs.declared.Found.TheVariants.{At, Nothing}
 use Rattle.base.specs.declared.Refusal.{Refusal}
 use Rattle.lent.specs.Reading.{ListIn, Below}
 use Rattle.numeric.specs.Stores.{Ascending}
@@ -55,6 +53,10 @@ module _ (l : List Float) (p : ℕ) where
 
   pub finite-end : length l ≤ p → finite_all (drop p l) ≡ true
   finite-end h = rw (drop_of_length-le l h)
+
+pub finite-all : (l : List Float) → list_all finite l ≡ finite_all l
+finite-all [] = refl
+finite-all (x ∷ l) = ap (λ b. finite x && b) (finite-all l)
 
 -- the range by form and side
 pub side-is : (f : Form) (side : Side) (n k : ℕ) (l : List ℕ) → right_side f side n k l ≡ rises_in (least_of f side k) (bound_of f side n k) l
@@ -174,9 +176,9 @@ bound-below Plain Lower n k l = omega arith
 bound-below Shared Lower n k l = omega arith
 bound-below ByRow Lower n k l = omega arith
 
-absent-pass : (o : Found) (g : ℕ → Refusal) → absent o g ≡ Pass → o ≡ Nothing
-absent-pass (At k) g e = absurd (stop-pass (g k) e)
-absent-pass Nothing g e = refl
+absent-pass : (o : Found) (g : ℕ → Refusal) → absent o g ≡ Pass → o ≡ None
+absent-pass (Some k) g e = absurd (stop-pass (g k) e)
+absent-pass None g e = refl
 
 -- a list that is not bad, of what is lent
 module _ (f : Form) (w : Side) (n : ℕ) (starts runs index : List ℕ) (values : List Float) (h : SideLent f n starts runs)

@@ -9,7 +9,7 @@ ghost use Rattle.outcome.specs.Buffers.{side_buffers};
 ghost use Rattle.outcome.specs.Resolve.{rises_in, right_side, misplaced, bad_list, bad_at, ask_factors};
 ghost use Rattle.factors.specs.Presented.{SideLent, FactorsLent, presented};
 
-use base::{Asked, Form, Index, Place, Refusal, Side};
+use base::{Form, Index, Place, Refusal, Side};
 
 // ---- one list
 
@@ -18,15 +18,12 @@ fn rises_in(from: usize, to: usize, list: &[Index]) -> bool
     ensures { result ≡ rises_in from to list.now }
 {
     let mut least = from;
-    let mut p = 0;
-    while p < list.len() {
-        let j = base::wide(list[p]);
-        if (least <= j) & (j < to) {
-            least = j + 1;
-            p += 1;
-        } else {
+    for &place in list {
+        let j = base::wide(place);
+        if !((least <= j) & (j < to)) {
             return false;
         }
+        least = j + 1;
     }
     true
 }
@@ -35,15 +32,7 @@ fn rises_in(from: usize, to: usize, list: &[Index]) -> bool
 fn all_finite(values: &[f64]) -> bool
     ensures { result ≡ finite_all values.now }
 {
-    let mut p = 0;
-    while p < values.len() {
-        if base::is_finite(values[p]) {
-            p += 1;
-        } else {
-            return false;
-        }
-    }
-    true
+    values.iter().all(|v| base::is_finite(*v))
 }
 
 // Tells whether a list lies on its side of place k: a plain lower row below k, a column or T(k) above it and below n.
@@ -55,8 +44,7 @@ fn on_side(form: Form, side: Side, n: usize, k: usize, list: &[Index]) -> bool
         Side::Upper => rises_in(k + 1, n, list),
         Side::Lower => match form {
             Form::Plain => rises_in(0, k, list),
-            Form::Shared => rises_in(k + 1, n, list),
-            Form::ByRow => rises_in(k + 1, n, list),
+            Form::Shared | Form::ByRow => rises_in(k + 1, n, list),
         },
     }
 }
@@ -96,10 +84,7 @@ fn side_good(
         return false;
     }
     let list = lent::list_at(starts, runs, index, k);
-    if on_side(form, side, n, k, list) {
-        return all_finite(lent::values_at(starts, values, k));
-    }
-    false
+    on_side(form, side, n, k, list) && all_finite(lent::values_at(starts, values, k))
 }
 
 // Tells whether both lists of place k are good, and d(k) is finite.
@@ -160,14 +145,13 @@ pub fn ask_factors(
     upper_index: &[Index],
     upper_values: &[f64],
     d: &[f64],
-) -> Asked
+) -> Result<(), Refusal>
     requires { FactorsLent form n lower_starts.now lower_runs.now upper_starts.now upper_runs.now (length d.now) }
     ensures { result ≡ ask_factors form n (presented (side_buffers lower_starts.now lower_runs.now lower_index.now lower_values.now)
         (side_buffers upper_starts.now upper_runs.now upper_index.now upper_values.now) d.now) }
 {
-    let mut k = 0;
-    while k < n {
-        if place_good(
+    for k in 0..n {
+        if !place_good(
             form,
             n,
             k,
@@ -181,10 +165,8 @@ pub fn ask_factors(
             upper_values,
             d,
         ) {
-            k += 1;
-        } else {
-            return Asked::Stop(Refusal::BadFactors(Place(k as u32)));
+            return Err(Refusal::BadFactors(Place(k as u32)));
         }
     }
-    Asked::Pass
+    Ok(())
 }

@@ -1,6 +1,7 @@
 pub mod NumberLaws
 pub mod FloatLaws
 pub mod PutLaws
+pub mod FieldLaws
 pub mod PartLaws
 pub mod ZeroLaws
 pub mod WindowLaws

@@ -1,6 +1,6 @@
 -- Parts of a file: what is read of a stream is its parts, and the stream of what is read is the bytes read.
 use mathlib.Core.Path.{◌≡◌, refl, ap, ap₂, ◌∙◌}
-use mathlib.Core.List.{List, [], ◌∷◌, ◌++◌, append-nil, append_assoc, map, map-append}
+use mathlib.Core.List.{List, [], ◌∷◌, ◌++◌, append-nil, append_assoc}
 use Prim.Native.Nat.{ℕ, zero, suc, ◌+◌, ◌*◌, ◌^◌, ◌<◌, ◌≤◌}
 use native.Mathlib.Nat.{mul-zero, mul-suc, mul-le-mul_left}
 use native.Mathlib.Omega.{arith}
@@ -11,11 +11,6 @@ use Rattle.base.specs.TableLaws.{length-table, get_or-table, table-ext, table-ad
 use Rattle.fields.specs.Numbers.{fields, Part, part, stream, Span, spans_of, extent}
 use Rattle.fields.specs.Payload.{place, payload, payloads, field_at, fields_at, parts_at}
 use Rattle.fields.proofs.NumberLaws.{get_or-after, le_bytes, bytes_le, le-lt, fields-append, length_fields, get_or-fields}
-
-pub map-table : {A B : Type 0} (g : A → B) (f : ℕ → A) (n : ℕ) → map g (table f n) ≡ table (λ k. g (f k)) n
-unfolding table
-map-table g f zero = refl
-map-table g f (suc n) = rw (map-append, map-table g f n)
 
 pub length-fields_at : (w : ℕ) (file : List ℕ) (at n : ℕ) → length (fields_at w file at n) ≡ n
 unfolding fields_at

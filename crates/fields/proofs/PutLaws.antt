@@ -1,11 +1,11 @@
 -- Laws of bytes laid down one after another in the joined payloads.
-use mathlib.Core.Path.{◌≡◌, refl, ap, ◌∙◌}
+use mathlib.Core.Path.{◌≡◌, ap}
 use mathlib.Core.List.{List, [], ◌∷◌, ◌++◌, append-nil, append_assoc}
 use Prim.Native.Nat.{ℕ, suc, ◌+◌, ◌-◌, ◌*◌, ◌/◌, ◌%◌, ◌<◌, ◌≤◌}
-use native.Mathlib.Nat.{add-zero, mul-zero, mul-suc}
+use native.Mathlib.Nat.{add-zero, mul-zero, mul-suc, mul-le-mul_left}
 use native.Mathlib.Numerals.{add-one}
 use native.Mathlib.Omega.{arith}
-use lib.ListN.{length, get_or, take, set, replicate, replicate-append-replicate, length-set}
+use lib.ListN.{length, get_or, take, set, replicate, replicate-append-replicate}
 use lib.Seq.{get_or-set_same, get_or-set_other, take-length}
 use Rattle.base.specs.Lists.{padded}
 use Rattle.base.specs.TableLaws.{table_more, table-ext, length-table}
@@ -20,90 +20,58 @@ put_byte file at v h =
     (ap (λ (l : List ℕ). l ++ (v ∷ []))
     (table-ext (payload (set file (place at) v)) (payload file) at (λ j l. get_or-set_other file (place at) (place j) v 0 (omega arith))))
 
--- ---- a number, byte by byte
+-- ---- a number, byte by byte: what is laid down as far as p, then what is left of it, up to the place `to`
 
-pub record Putting (file₀ : List ℕ) (at w v : ℕ) (file : List ℕ) (rest i : ℕ) : Type 0 where
-  pub within : i ≤ w
-  pub long : length file ≡ length file₀
-  pub laid : payloads file (at + i) ++ bytes (w - i) rest ≡ payloads file₀ at ++ bytes w v
-
-pub put-start : (file : List ℕ) (at w v : ℕ) → Putting file at w v file v 0
-put-start file at w v =
-    record { within = omega arith; long = refl; laid = rw add-zero (ap (λ (k : ℕ). payloads file at ++ bytes k v) (omega arith)) }
-
-pub put-more : (file₀ : List ℕ) (at w v : ℕ) (file : List ℕ) (rest i : ℕ) → i < w → at + w ≤ room file₀ → Putting file₀ at w v file rest i
-    → Putting file₀ at w v (set file (place (at + i)) (rest % 256)) (rest / 256) (i + 1)
+pub put-more : (file : List ℕ) (to p rest : ℕ) → p < to → p < room file
+    → payloads (set file (place p) (rest % 256)) (p + 1) ++ bytes (to - (p + 1)) (rest / 256) ≡ payloads file p ++ bytes (to - p) rest
 unfolding bytes
-put-more file₀ at w v file rest i h r p =
-    let e : w - i ≡ suc (w - (i + 1)) = omega arith in
-    let e2 : at + (i + 1) ≡ at + i + 1 = omega arith in
-    record {
-      within = omega arith;
-      long = simp length-set p.long;
-      laid = rw (e2, put_byte file (at + i) (rest % 256) (rw p.long (omega arith)), append_assoc) (rw e at p.laid);
-    }
+put-more file to p rest h r =
+    let e : to - p ≡ suc (to - (p + 1)) = omega arith in
+    rw (e, put_byte file p (rest % 256) r, append_assoc)
 
-pub put-end : (file₀ : List ℕ) (at w v : ℕ) (file : List ℕ) (rest i : ℕ) → w ≤ i → Putting file₀ at w v file rest i
-    → payloads file (at + w) ≡ payloads file₀ at ++ bytes w v
+pub put-end : (file : List ℕ) (to p rest : ℕ) → p ≡ to → payloads file to ≡ payloads file p ++ bytes (to - p) rest
 unfolding bytes
-put-end file₀ at w v file rest i h p =
-    let e : i ≡ w = omega arith in
-    let e2 : w - w ≡ 0 = omega arith in
-    rw append-nil at (rw (e, e2) at p.laid)
+put-end file to p rest h = let e : to - to ≡ 0 = omega arith in rw (h, e, append-nil)
 
 -- ---- a list of numbers
 
+-- one number of w bytes more has room where all have
+pub room_for-one : (w i n : ℕ) → i < n → w * i + w ≤ w * n
+room_for-one w i n h = let up : w * suc i ≤ w * n = mul-le-mul_left w h in omega (arith, rw mul-suc at up)
+
 pub record Writing (w : ℕ) (file₀ : List ℕ) (at : ℕ) (xs file : List ℕ) (p i : ℕ) : Type 0 where
-  pub within : i ≤ length xs
   pub next : p ≡ at + w * i
-  pub long : length file ≡ length file₀
   pub laid : payloads file p ≡ payloads file₀ at ++ fields w (take i xs)
 
 pub write-start : (w : ℕ) (file : List ℕ) (at : ℕ) (xs : List ℕ) → Writing w file at xs file at 0
 unfolding fields
-write-start w file at xs = record { within = omega arith; next = rw (mul-zero, add-zero); long = refl; laid = rw append-nil }
+write-start w file at xs = record { next = rw (mul-zero, add-zero); laid = rw append-nil }
 
-pub write-more : (w : ℕ) (file₀ : List ℕ) (at : ℕ) (xs file file' : List ℕ) (p p' i x : ℕ) → i < length xs → x ≡ get_or xs i 0
-    → length file' ≡ length file → p' ≡ p + w → payloads file' p' ≡ payloads file p ++ bytes w x
-    → Writing w file₀ at xs file p i → Writing w file₀ at xs file' p' (i + 1)
-write-more w file₀ at xs file file' p p' i x h e l n s r =
+pub write-more : (w : ℕ) (file₀ : List ℕ) (at : ℕ) (xs file file' : List ℕ) (p p' i v x : ℕ) → i < length xs → v ≡ w → x ≡ get_or xs i 0
+    → p' ≡ p + v → payloads file' p' ≡ payloads file p ++ bytes v x → Writing w file₀ at xs file p i → Writing w file₀ at xs file' p' (i + 1)
+write-more w file₀ at xs file file' p p' i v x h f e n s r =
     record {
-      within = omega arith;
-      next = rw (n, r.next, add-one, mul-suc) (omega arith);
-      long = l ∙ r.long;
-      laid = rw (s, e, r.laid, fields-more w xs i h, append_assoc);
+      next = rw (n, f, r.next, add-one, mul-suc) (omega arith);
+      laid = rw (s, f, e, r.laid, fields-more w xs i h, append_assoc);
     }
 
-pub write-end : (w : ℕ) (file₀ : List ℕ) (at : ℕ) (xs file : List ℕ) (p i : ℕ) → length xs ≤ i → Writing w file₀ at xs file p i
+pub write-end : (w : ℕ) (file₀ : List ℕ) (at : ℕ) (xs file : List ℕ) (p i : ℕ) → i ≡ length xs → Writing w file₀ at xs file p i
     → (p ≡ at + w * length xs) × (payloads file p ≡ payloads file₀ at ++ fields w xs)
-write-end w file₀ at xs file p i h r =
-    let e : i ≡ length xs = omega arith in (rw e at r.next, rw take-length at (rw e at r.laid))
+write-end w file₀ at xs file p i e r = (rw e at r.next, rw take-length at (rw e at r.laid))
 
 -- ---- zeros to the end
 
-pub record Zeroing (file₀ : List ℕ) (from : ℕ) (file : List ℕ) (i : ℕ) : Type 0 where
-  pub since : from ≤ i
-  pub within : i ≤ room file₀
-  pub long : length file ≡ length file₀
-  pub laid : payloads file i ≡ payloads file₀ from ++ replicate (i - from) 0
+pub zero-start : (file : List ℕ) (from : ℕ) → payloads file from ≡ payloads file from ++ replicate (from - from) 0
+zero-start file from = let e : from - from ≡ 0 = omega arith in rw (e, append-nil)
 
-pub zero-start : (file : List ℕ) (from : ℕ) → from ≤ room file → Zeroing file from file from
-zero-start file from h = let e : from - from ≡ 0 = omega arith in record { since = omega arith; within = h; long = refl; laid = rw (e, append-nil) }
-
-pub zero_more : (file₀ : List ℕ) (from : ℕ) (file file' : List ℕ) (i i' : ℕ) → i < room file₀ → length file' ≡ length file → i' ≡ i + 1
-    → payloads file' i' ≡ payloads file i ++ bytes 1 0 → Zeroing file₀ from file i → Zeroing file₀ from file' i'
+pub zero_more : (file₀ : List ℕ) (from : ℕ) (file file' : List ℕ) (p q : ℕ) → from ≤ p → q ≡ p + 1 → payloads file' q ≡ payloads file p ++ bytes 1 0
+    → payloads file p ≡ payloads file₀ from ++ replicate (p - from) 0 → payloads file' (p + 1) ≡ payloads file₀ from ++ replicate (p + 1 - from) 0
 unfolding bytes
-zero_more file₀ from file file' i i' h l n e r =
-    let q : i' - from ≡ (i - from) + 1 = omega arith in
-    record {
-      since = omega arith;
-      within = omega arith;
-      long = l ∙ r.long;
-      laid = rw (e, r.laid, q, append_assoc) (ap (λ (x : List ℕ). payloads file₀ from ++ x) (replicate-append-replicate (i - from) 1 0));
-    }
+zero_more file₀ from file file' p q l n e r =
+    let d : q - from ≡ (p - from) + 1 = omega arith in
+    rw (← n, e, r, d, append_assoc) (ap (λ (x : List ℕ). payloads file₀ from ++ x) (replicate-append-replicate (p - from) 1 0))
 
-pub zero-end : (file₀ : List ℕ) (from : ℕ) (file : List ℕ) (i : ℕ) → room file₀ ≤ i → Zeroing file₀ from file i
+pub zero-end : (file₀ : List ℕ) (from : ℕ) (file : List ℕ) (p : ℕ) → p ≡ room file₀ → payloads file p ≡ payloads file₀ from ++ replicate (p - from) 0
     → payloads file (room file₀) ≡ padded 0 (room file₀) (payloads file₀ from)
 unfolding padded
-zero-end file₀ from file i h r =
-    let e : i ≡ room file₀ = omega arith in rw length-table (rw e at r.laid)
+zero-end file₀ from file p e r = rw length-table (rw e at r)

@@ -11,7 +11,8 @@ use Rattle.base.specs.Lists.{table}
 use Rattle.base.specs.TableLaws.{length-table, get_or-table, table-ext, table-add}
 use Rattle.fields.specs.Numbers.{le}
 use Rattle.fields.specs.Payload.{payload, field_at, fields_at, floats_at}
-use Rattle.fields.proofs.PartLaws.{map-table, length-fields_at}
+use Rattle.fields.specs.PayloadLaws.{floats-each}
+use Rattle.fields.proofs.PartLaws.{length-fields_at}
 
 -- ---- tables
 
@@ -65,8 +66,8 @@ module _ (file : List ℕ) where
   float_at at k = of_bits binary64 (field_at 8 file at k)
 
   floats-table : (at n : ℕ) → floats_at file at n ≡ table (float_at at) n
-  unfolding floats_at fields_at float_at
-  floats-table at n = map-table (of_bits binary64) (field_at 8 file at) n
+  unfolding float_at
+  floats-table at n = floats-each file at n
 
   pub float-at : (at n k : ℕ) (z : Float) → k < n → get_or (floats_at file at n) k z ≡ of_bits binary64 (le 8 (payload file) (at + 8 * k))
   unfolding float_at

@@ -1,12 +1,14 @@
 // Numbers of any width in the joined payloads of a file of blocks: read one by one and in lists, and written.
 #![tactic(auto)]
 
-ghost use Rattle.std.specs.Prelude.{◌≡◌, ◌++◌, ◌+◌, ◌-◌, ◌*◌, ◌^◌, ◌≤◌, ◌<◌, length};
+ghost use Rattle.std.specs.Prelude.{◌≡◌, ℕ, List, map, refl, ◌++◌, ◌+◌, ◌*◌, ◌^◌, ◌≤◌, ◌<◌, length};
 ghost use Rattle.std.specs.Float.{binary64};
 ghost use Rattle.std.specs.Float.Ieee.{of_bits, to_bits};
-ghost use Rattle.base.specs.Lists.{padded};
+ghost use Rattle.std.proofs.Common.{lit≤};
+ghost use Rattle.base.specs.Lists.{padded, table};
 ghost use Rattle.fields.specs.Numbers.{le, bytes, fields};
-ghost use Rattle.fields.specs.Payload.{room, payload, payloads, fields_at, floats_at, bits_of, zero_from};
+ghost use Rattle.fields.specs.Payload.{room, payload, payloads, field_at, fields_at, floats_at, bits_of, zero_from};
+ghost use Rattle.fields.specs.PayloadLaws.{fields-each, floats-each, numbers-each};
 
 use base::Index;
 
@@ -31,37 +33,37 @@ pub fn number_at(file: &[u8], at: usize, width: usize) -> u64
     ensures { (result ≡ le width (payload file.now) at) × (result < 256 ^ width) }
 {
     let mut n: u64 = 0;
-    let mut left = width;
-    while 0 < left {
-        left -= 1;
-        n = n * 256 + payload_byte(file, at + left);
+    for i in (0..width).rev() {
+        n = n * 256 + payload_byte(file, at + i);
     }
     n
 }
 
-// Makes a reader at the first payload byte.
-pub fn at_start<'a>(bytes: &'a [u8]) -> Reader<'a>
-    ensures { (result.bytes ≡ bytes.entry) × (result.at ≡ 0) }
-{
-    Reader { bytes, at: 0 }
-}
+impl<'a> Reader<'a> {
+    // Makes a reader at the first payload byte.
+    pub fn new(bytes: &'a [u8]) -> Reader<'a>
+        ensures { (result.bytes ≡ bytes.entry) × (result.at ≡ 0) }
+    {
+        Reader { bytes, at: 0 }
+    }
 
-// Reads the number in the next `width` payload bytes.
-pub fn number<'a>(r: Reader<'a>, width: usize) -> u64
-    requires { (width ≤ 8) × (r.at + width ≤ room r.bytes.now) }
-    ensures { result ≡ le width (payload r.entry.bytes.now) r.entry.at }
-{
-    number_at(r.bytes, r.at, width)
-}
+    // Reads the number in the next `width` payload bytes.
+    pub fn number(self, width: usize) -> u64
+        requires { (width ≤ 8) × (self.at + width ≤ room self.bytes.now) }
+        ensures { result ≡ le width (payload self.entry.bytes.now) self.entry.at }
+    {
+        number_at(self.bytes, self.at, width)
+    }
 
-// Moves the reader past the next `width` payload bytes.
-pub fn past<'a>(r: Reader<'a>, width: usize) -> Reader<'a>
-    requires { r.at + width < 2 ^ 64 }
-    ensures { (result.bytes ≡ r.entry.bytes) × (result.at ≡ r.entry.at + width) }
-{
-    Reader {
-        bytes: r.bytes,
-        at: r.at + width,
+    // Moves the reader past the next `width` payload bytes.
+    pub fn past(self, width: usize) -> Reader<'a>
+        requires { self.at + width < 2 ^ 64 }
+        ensures { (result.bytes ≡ self.entry.bytes) × (result.at ≡ self.entry.at + width) }
+    {
+        Reader {
+            bytes: self.bytes,
+            at: self.at + width,
+        }
     }
 }
 
@@ -87,46 +89,133 @@ pub fn bits_of(x: f64) -> u64
     }
 }
 
-// Fills `out` with the numbers of 2 bytes from `at` on, and answers where they end.
-pub fn read_indices(file: &[u8], at: usize, out: &mut [Index]) -> usize
-    requires { at + 2 * length out.old ≤ room file.now }
-    ensures { (result ≡ at + 2 * length out.old) × (out.new ≡ fields_at 2 file.now at (length out.old)) }
-{
-    let n = out.len();
-    let mut i = 0;
-    while i < n {
-        out[i] = number_at(file, at + 2 * i, 2) as Index;
-        i += 1;
-    }
-    at + 2 * n
+// A value that a file holds as a number of so many bytes.
+pub trait Field: Copy {
+    const WIDTH: usize;
+
+    ghost WIDTH: { ℕ };
+
+    // The value of a number, and the number that a value is written as.
+    ghost value_of: { ℕ → Self };
+
+    ghost number_of: { Self → ℕ };
+
+    // The values that stand in a file from a place on, and the numbers that a list is written as.
+    ghost values_at: { List ℕ → ℕ → ℕ → List Self };
+
+    ghost numbers_of: { List Self → List ℕ };
+
+    // Gives the value of a number.
+    fn from_number(n: u64) -> Self
+        requires { n < 256 ^ WIDTH }
+        ensures { result ≡ value_of n };
+
+    // Gives the number that the value is written as.
+    fn to_number(self) -> u64
+        ensures { result ≡ number_of self };
+
+    ghost narrow: { WIDTH ≤ 8 };
+
+    ghost reads_each: { (file : List ℕ) (at n : ℕ) → values_at file at n ≡ table (λ k. value_of (field_at WIDTH file at k)) n };
+
+    ghost writes_each: { (xs : List Self) → numbers_of xs ≡ map number_of xs };
 }
 
-// Fills `out` with the numbers of 4 bytes from `at` on, and answers where they end.
-pub fn read_u32s(file: &[u8], at: usize, out: &mut [u32]) -> usize
-    requires { at + 4 * length out.old ≤ room file.now }
-    ensures { (result ≡ at + 4 * length out.old) × (out.new ≡ fields_at 4 file.now at (length out.old)) }
-{
-    let n = out.len();
-    let mut i = 0;
-    while i < n {
-        out[i] = number_at(file, at + 4 * i, 4) as u32;
-        i += 1;
+impl Field for Index {
+    const WIDTH: usize = 2;
+
+    ghost WIDTH = { 2 };
+
+    ghost value_of = { λ n. n };
+
+    ghost number_of = { λ x. x };
+
+    ghost values_at = { fields_at 2 };
+
+    ghost numbers_of = { λ xs. xs };
+
+    ghost narrow = { lit≤ tt };
+
+    ghost reads_each = { fields-each 2 };
+
+    ghost writes_each = { numbers-each };
+
+    fn from_number(n: u64) -> Index {
+        n as Index
     }
-    at + 4 * n
+
+    fn to_number(self) -> u64 {
+        self as u64
+    }
 }
 
-// Fills `out` with the floats of 8 bytes from `at` on, and answers where they end.
-pub fn read_f64s(file: &[u8], at: usize, out: &mut [f64]) -> usize
-    requires { at + 8 * length out.old ≤ room file.now }
-    ensures { (result ≡ at + 8 * length out.old) × (out.new ≡ floats_at file.now at (length out.old)) }
-{
-    let n = out.len();
-    let mut i = 0;
-    while i < n {
-        out[i] = float_of(number_at(file, at + 8 * i, 8));
-        i += 1;
+impl Field for u32 {
+    const WIDTH: usize = 4;
+
+    ghost WIDTH = { 4 };
+
+    ghost value_of = { λ n. n };
+
+    ghost number_of = { λ x. x };
+
+    ghost values_at = { fields_at 4 };
+
+    ghost numbers_of = { λ xs. xs };
+
+    ghost narrow = { lit≤ tt };
+
+    ghost reads_each = { fields-each 4 };
+
+    ghost writes_each = { numbers-each };
+
+    fn from_number(n: u64) -> u32 {
+        n as u32
     }
-    at + 8 * n
+
+    fn to_number(self) -> u64 {
+        self as u64
+    }
+}
+
+impl Field for f64 {
+    const WIDTH: usize = 8;
+
+    ghost WIDTH = { 8 };
+
+    ghost value_of = { of_bits binary64 };
+
+    ghost number_of = { to_bits binary64 };
+
+    ghost values_at = { floats_at };
+
+    ghost numbers_of = { bits_of };
+
+    ghost narrow = { lit≤ tt };
+
+    ghost reads_each = { floats-each };
+
+    ghost writes_each = { λ _. refl };
+
+    fn from_number(n: u64) -> f64 {
+        float_of(n)
+    }
+
+    fn to_number(self) -> u64 {
+        bits_of(self)
+    }
+}
+
+// Fills `out` with the values from payload byte `at` on, and answers where they end.
+pub fn read<T: Field>(file: &[u8], at: usize, out: &mut [T]) -> usize
+    requires { at + T.WIDTH * length out.old ≤ room file.now }
+    ensures { (result ≡ at + T.WIDTH * length out.old) × (out.new ≡ T.values_at file.now at (length out.old)) }
+{
+    let mut p = at;
+    for x in out.iter_mut() {
+        *x = T::from_number(number_at(file, p, T::WIDTH));
+        p += T::WIDTH;
+    }
+    p
 }
 
 // Tells whether every payload byte from `from` on is zero.
@@ -134,15 +223,8 @@ pub fn zero_from(file: &[u8], from: usize) -> bool
     requires { from ≤ room file.now }
     ensures { result ≡ zero_from file.now from }
 {
-    let count = file.len() / 512 * 504 - from;
-    let mut i = 0;
-    while i < count {
-        if payload_byte(file, from + i) != 0 {
-            return false;
-        }
-        i += 1;
-    }
-    true
+    let end = file.len() / 512 * 504;
+    (from..end).all(|p| payload_byte(file, p) == 0)
 }
 
 // Lays the `width` bytes of `v` down, least first, as the payload bytes from `at`, and answers where they end.
@@ -151,54 +233,21 @@ pub fn put_number(file: &mut [u8], at: usize, width: usize, v: u64) -> usize
     ensures { (result ≡ at + width) × (payloads file.new result ≡ payloads file.old at ++ bytes width v) }
 {
     let mut rest = v;
-    let mut i = 0;
-    while i < width {
-        let p = at + i;
+    for p in at..at + width {
         file[p / 504 * 512 + p % 504] = (rest % 256) as u8;
-        rest = rest / 256;
-        i += 1;
+        rest /= 256;
     }
     at + width
 }
 
-// Lays numbers of 2 bytes down from `at` on, and answers where they end.
-pub fn write_indices(file: &mut [u8], at: usize, src: &[Index]) -> usize
-    requires { at + 2 * length src.now ≤ room file.old }
-    ensures { (result ≡ at + 2 * length src.now) × (payloads file.new result ≡ payloads file.old at ++ fields 2 src.now) }
+// Lays the values of a list down from payload byte `at` on, and answers where they end.
+pub fn write<T: Field>(file: &mut [u8], at: usize, src: &[T]) -> usize
+    requires { at + T.WIDTH * length src.now ≤ room file.old }
+    ensures { (result ≡ at + T.WIDTH * length src.now) × (payloads file.new result ≡ payloads file.old at ++ fields T.WIDTH (T.numbers_of src.now)) }
 {
     let mut p = at;
-    let mut i = 0;
-    while i < src.len() {
-        p = put_number(file, p, 2, src[i] as u64);
-        i += 1;
-    }
-    p
-}
-
-// Lays numbers of 4 bytes down from `at` on, and answers where they end.
-pub fn write_u32s(file: &mut [u8], at: usize, src: &[u32]) -> usize
-    requires { at + 4 * length src.now ≤ room file.old }
-    ensures { (result ≡ at + 4 * length src.now) × (payloads file.new result ≡ payloads file.old at ++ fields 4 src.now) }
-{
-    let mut p = at;
-    let mut i = 0;
-    while i < src.len() {
-        p = put_number(file, p, 4, src[i] as u64);
-        i += 1;
-    }
-    p
-}
-
-// Lays floats of 8 bytes down from `at` on, and answers where they end.
-pub fn write_f64s(file: &mut [u8], at: usize, src: &[f64]) -> usize
-    requires { at + 8 * length src.now ≤ room file.old }
-    ensures { (result ≡ at + 8 * length src.now) × (payloads file.new result ≡ payloads file.old at ++ fields 8 (bits_of src.now)) }
-{
-    let mut p = at;
-    let mut i = 0;
-    while i < src.len() {
-        p = put_number(file, p, 8, bits_of(src[i]));
-        i += 1;
+    for x in src {
+        p = put_number(file, p, T::WIDTH, x.to_number());
     }
     p
 }
@@ -209,8 +258,7 @@ pub fn put_zeros(file: &mut [u8], from: usize)
     ensures { payloads file.new (room file.old) ≡ padded 0 (room file.old) (payloads file.old from) }
 {
     let end = file.len() / 512 * 504;
-    let mut i = from;
-    while i < end {
-        i = put_number(file, i, 1, 0);
+    for p in from..end {
+        put_number(file, p, 1, 0);
     }
 }

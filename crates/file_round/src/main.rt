@@ -2,27 +2,16 @@
 // The two are the same. Then a byte of the second block is damaged. data/expected.py works out by itself what is to be printed.
 #![tactic(auto)]
 
-ghost use Rattle.std.specs.Prelude.{◌≡◌, ◌<◌};
-
-use base::{Ended, Index};
-use matrix::Shaped;
+use base::{Index, Numbered, Refusal};
 use std::io;
 
 // The bytes as a number to the base 257, modulo a prime.
 fn digest(bytes: &[u8]) -> u64 {
     let mut h: u64 = 1;
-    let mut i = 0;
-    while i < bytes.len() {
-        h = (h % 4294967291 * 257 + wide(bytes[i])) % 4294967291;
-        i += 1;
+    for b in bytes {
+        h = (h % 4294967291 * 257 + u64::from(*b)) % 4294967291;
     }
     h
-}
-
-fn wide(x: u8) -> u64
-    ensures { (result ≡ x) × (result < 256) }
-{
-    x as u64
 }
 
 // Zeros of both signs, subnormals, infinities, the largest number, NaNs of four patterns, and one that differs in every byte.
@@ -44,10 +33,8 @@ fn odd_values() -> [f64; 40] {
 
 fn columns() -> [Index; 40] {
     let mut out: [Index; 40] = [0; 40];
-    let mut i: Index = 0;
-    while i < 40 {
+    for i in 0..40 {
         out[i as usize] = (i * 5 + 3) % 8;
-        i += 1;
     }
     out
 }
@@ -58,7 +45,7 @@ fn other(x: u8) -> u8 {
 }
 
 // The number and the place of an answer.
-fn print_end(rt: &impl Print, a: Ended) -> io::Result<()> {
+fn print_end(rt: &impl Print, a: Result<(), Refusal>) -> io::Result<()> {
     println!(rt; "{} {}", a.number(), a.place())
 }
 
@@ -105,7 +92,7 @@ fn main(rt: HostRuntime) -> io::Result<()> {
     again[700] = other(again[700]);
     let shape = matrix_file::matrix_file_shape(&again);
     match shape {
-        Shaped::Shape(_) => print_end(&rt, Ended::Done),
-        Shaped::Unshaped(q) => print_end(&rt, Ended::Refused(q)),
+        Ok(_) => print_end(&rt, Ok(())),
+        Err(q) => print_end(&rt, Err(q)),
     }
 }

@@ -1,4 +1,5 @@
 -- The call from its stages.
+use Rattle.std.specs.Prelude.{Ok, Err, is_err}
 use Prim.Native.Nat.{ℕ, ◌*◌}
 use mathlib.Core.Path.{◌≡◌, refl, sym, ap, ◌∙◌}
 use mathlib.Core.Bool.{Bool, true, false, not, ◌&&◌, and-true, and-false}
@@ -8,20 +9,15 @@ use lib.Dec.{eqb}
 use lib.Seq.{sets}
 use borrow.Author.Tests.{eqb-true, not-true, not-false}
 use Rattle.base.specs.AllLaws.{all_join}
-use Rattle.base.specs.Answers.{left}
+use Rattle.base.specs.Answers.{left, Asked, Answer}
 use Rattle.base.specs.Lists.{blank}
 use Rattle.base.specs.Limits.{rows_within}
 use Rattle.base.specs.Tests.{by-test, and_cases}
-use Rattle.base.specs.declared.Answer.{Answer}
-use Rattle.base.specs.declared.Answer.TheVariants.{Done, Refused}
-use Rattle.base.specs.declared.Asked.{Asked}
-use Rattle.base.specs.declared.Asked.TheVariants.{Pass, Stop}
 use Rattle.base.specs.declared.Form.TheVariants.{Shared}
 use Rattle.base.specs.declared.Refusal.TheVariants.{Lengths}
 use Rattle.matrix.specs.Input.{Input}
 use Rattle.outcome.specs.Buffers.{Buffers, all_buffers, sizes, pattern_tests, structure_tests, ask_shape, Outcome, ended, stop}
 use Rattle.outcome.specs.Structure.{structure}
-use Rattle.stages.specs.Stages.{is_refused}
 use Rattle.stages.specs.Branches.{never}
 use Rattle.lists.proofs.Handed.{Structures, structure-done}
 use Rattle.sheet.specs.Sheet.{pages_for, sheet_bytes}
@@ -54,15 +50,15 @@ module _ (i : Input) (s : Buffers) (len : ℕ) (t : Bool) (e : Wrong i.n len t) 
       (λ r. rw (r, all_join (pattern_tests i ++ structure_tests Shared i.n (sizes s)) (eqb len (sheet_bytes i.n) ∷ []), not-wrong i.n len t e h r, and-true))
       (λ r. rw r)
 
-  stop-same : (a b : Asked) (rest : Outcome Answer) → a ≡ b → stop Refused a s (stop Refused b s rest) ≡ stop Refused b s rest
-  stop-same a Pass rest q = rw q
-  stop-same a (Stop p) rest q = rw q
+  stop-same : (a b : Asked) (rest : Outcome Answer) → a ≡ b → stop Err a s (stop Err b s rest) ≡ stop Err b s rest
+  stop-same a (Ok _) rest q = rw q
+  stop-same a (Err p) rest q = rw q
 
   sheet-structure : t ≡ false → sheet_structure i s len ≡ structure Shared i s
   unfolding sheet_structure structure
   sheet-structure h = stop-same (ask_sheet i (sizes s) len) (ask_shape i.n (pattern_tests i ++ structure_tests Shared i.n (sizes s))) _ (ask-same h)
 
-  ask-wrong : t ≡ true → ask_sheet i (sizes s) len ≡ Stop Lengths
+  ask-wrong : t ≡ true → ask_sheet i (sizes s) len ≡ Err Lengths
   unfolding ask_sheet ask_shape
   ask-wrong h =
       let p = and_cases (rows_within i.n) (not (eqb len (sheet_bytes i.n))) (sym e ∙ h) in
@@ -70,10 +66,10 @@ module _ (i : Input) (s : Buffers) (len : ℕ) (t : Bool) (e : Wrong i.n len t) 
 
 -- ---- what is printed from
 
-pub print-lent : (i : Input) (s t : Buffers) (a : Answer) (b : Bool) → b ≡ is_refused a → b ≡ false → ended a t ≡ structure Shared i s
+pub print-lent : (i : Input) (s t : Buffers) (a : Answer) (b : Bool) → b ≡ is_err a → b ≡ false → ended a t ≡ structure Shared i s
     → SheetLent i.n i.r t.lower.starts t.lower.runs t.lower.index t.upper.starts t.upper.runs t.marks
-print-lent i s t (Done c) b f g o = sheet-lent i s t (structure-done Shared refl i s t c (sym o))
-print-lent i s t (Refused q) b f g o = never b g f
+print-lent i s t (Ok c) b f g o = sheet-lent i s t (structure-done Shared refl i s t c (sym o))
+print-lent i s t (Err q) b f g o = never b g f
 
 -- ---- the three ends
 
@@ -86,14 +82,14 @@ module _ (i : Input) (s : Buffers) (old : List ℕ) where
   ends a u new p q = ap (λ (l : List ℕ). left a (sheet_buffers u l)) p ∙ ap (with_sheet i old) q
 
 module _ (i : Input) (s : Buffers) (old : List ℕ) (t : Bool) (e : Wrong i.n (length old) t) where
-  pub wrong-out : t ≡ true → Ends i s old (Refused Lengths) s old
+  pub wrong-out : t ≡ true → Ends i s old (Err Lengths) s old
   unfolding sheet_structure
-  wrong-out h = ends i s old (Refused Lengths) s old refl (rw (ask-wrong i s (length old) t e h))
+  wrong-out h = ends i s old (Err Lengths) s old refl (rw (ask-wrong i s (length old) t e h))
 
   module _ (h : t ≡ false) where
-    pub refused-left : (a : Answer) (u : Buffers) (b : Bool) → b ≡ is_refused a → b ≡ true → ended a u ≡ structure Shared i s → Ends i s old a u old
-    refused-left (Done c) u b f g o = never b f g
-    refused-left (Refused q) u b f g o = ends i s old (Refused q) u old refl (o ∙ sym (sheet-structure i s (length old) t e h))
+    pub refused-left : (a : Answer) (u : Buffers) (b : Bool) → b ≡ is_err a → b ≡ true → ended a u ≡ structure Shared i s → Ends i s old a u old
+    refused-left (Ok c) u b f g o = never b f g
+    refused-left (Err q) u b f g o = ends i s old (Err q) u old refl (o ∙ sym (sheet-structure i s (length old) t e h))
 
     module _ (u : Buffers) (m new : List ℕ)
         (P : SheetPrinted i.n i.r u.lower.starts u.lower.runs u.lower.index u.upper.starts u.upper.runs u.marks old m new) where
@@ -108,9 +104,9 @@ module _ (i : Input) (s : Buffers) (old : List ℕ) (t : Bool) (e : Wrong i.n (l
             P.printed ∙ ap (sets old 0) (sheet-same i.n _ (fill_line i) (line-is i s u D P.lower P.counted))
             ∙ sets-whole old _ (eqb-true _ _ (not-wrong i.n (length old) t e h D.stood.rows) ∙ sym (sheet-long i.n (fill_line i) (line-exact i s u D) (few i s u D)))
 
-      pub done-left : (a : Answer) (b : Bool) → b ≡ is_refused a → b ≡ false → ended a u ≡ structure Shared i s → Ends i s old a (all_buffers u.lower u.upper u.d u.x u.work m) new
-      done-left (Done c) b f g o =
+      pub done-left : (a : Answer) (b : Bool) → b ≡ is_err a → b ≡ false → ended a u ≡ structure Shared i s → Ends i s old a (all_buffers u.lower u.upper u.d u.x u.work m) new
+      done-left (Ok c) b f g o =
           let D = structure-done Shared refl i s u c (sym o) in
-          ends i s old (Done c) _ new (sheet-is D)
-          (ap (λ (l : List ℕ). ended (Done c) (all_buffers u.lower u.upper u.d u.x u.work l)) (marks-same D) ∙ o ∙ sym (sheet-structure i s (length old) t e h))
-      done-left (Refused q) b f g o = never b g f
+          ends i s old (Ok c) _ new (sheet-is D)
+          (ap (λ (l : List ℕ). ended (Ok c) (all_buffers u.lower u.upper u.d u.x u.work l)) (marks-same D) ∙ o ∙ sym (sheet-structure i s (length old) t e h))
+      done-left (Err q) b f g o = never b g f

@@ -1,4 +1,5 @@
 -- A sheet computed: three places, whose lower rows are not as long as their lower columns, in an order of their own. And the call on it.
+use Rattle.std.specs.Prelude.{Ok, Err}
 use Prim.Native.Nat.{ℕ}
 use mathlib.Core.Path.{◌≡◌, refl}
 use mathlib.Core.List.{List, [], ◌∷◌, ◌++◌}
@@ -7,7 +8,6 @@ use lib.Ieee.{nan}
 use Rattle.base.specs.Answers.{left}
 use Rattle.base.specs.First.{first}
 use Rattle.base.specs.Lists.{asc, count, has, joined, list_at, nought, padded, sum, table}
-use Rattle.base.specs.declared.Answer.TheVariants.{Done, Refused}
 use Rattle.base.specs.declared.Refusal.TheVariants.{Lengths}
 use Rattle.fill.specs.Fill.{reach, filled, upper, upper_row, lower_row, lower_column, products}
 use Rattle.placement.specs.Placing.{count_above, tails, best_from, first_at, agree, append_all, fresh, meets, overlap, tail_or, shared, after, placed, start_of}
@@ -47,7 +47,7 @@ used bytes =
     (shared_buffers (7 ∷ 7 ∷ 7 ∷ 7 ∷ []) (7 ∷ 7 ∷ 7 ∷ []) (7 ∷ 7 ∷ []) (nan ∷ nan ∷ []) (7 ∷ 7 ∷ 7 ∷ 7 ∷ []) (7 ∷ 7 ∷ 7 ∷ []) (7 ∷ 7 ∷ []) (nan ∷ nan ∷ []) [] [] (replicate 9 nan) (replicate 32 7))
     (replicate bytes 7)
 
-pub done : sheet_outcome three (used 2050) ≡ left (Done (record { lower = 1; upper = 2; products = 1 }))
+pub done : sheet_outcome three (used 2050) ≡ left (Ok (record { lower = 1; upper = 2; products = 1 }))
     (sheet_buffers
     (shared_buffers (0 ∷ 1 ∷ 1 ∷ 1 ∷ []) (0 ∷ 1 ∷ 1 ∷ []) (2 ∷ 0 ∷ []) (nought ∷ nought ∷ []) (0 ∷ 1 ∷ 2 ∷ 2 ∷ []) (0 ∷ 0 ∷ 1 ∷ []) (2 ∷ 0 ∷ []) (nought ∷ nought ∷ []) [] [] (replicate 9 nought) (replicate 32 0))
     (fill_sheet three))
@@ -55,6 +55,6 @@ unfolding three sheet_outcome sheet_structure ask_sheet ask_shape structure ask_
 done = refl
 
 -- a byte less
-pub short : sheet_outcome three (used 2049) ≡ left (Refused Lengths) (used 2049)
+pub short : sheet_outcome three (used 2049) ≡ left (Err Lengths) (used 2049)
 unfolding three sheet_outcome sheet_structure ask_sheet ask_shape
 short = refl

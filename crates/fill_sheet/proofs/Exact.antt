@@ -1,9 +1,9 @@
 -- "Every line has its exact width for every accepted matrix."
+use Rattle.base.specs.Answers.{Answer}
+use Rattle.std.specs.Prelude.{Ok}
 use Prim.Native.Nat.{◌*◌}
 use mathlib.Core.Path.{◌≡◌, refl, ap}
 use lib.ListN.{length}
-use Rattle.base.specs.declared.Answer.{Answer}
-use Rattle.base.specs.declared.Answer.TheVariants.{Done}
 use Rattle.base.specs.declared.Counts.{Counts}
 use Rattle.base.specs.declared.Form.TheVariants.{Shared}
 use Rattle.matrix.specs.Input.{Input}
@@ -16,7 +16,7 @@ use Rattle.fill_sheet.specs.FillSheet.{fill_line, fill_sheet, ask_sheet, sheet_s
 use Rattle.fill_sheet.proofs.Left.{line-exact, few}
 
 -- the sheet that a done call leaves: 50 lines a page, each of its exact width
-pub sheet-exact : (i : Input) (s : SheetBuffers) (c : Counts) → (sheet_outcome i s).answer ≡ Done c → Lines (pages_for i.n * 50) (sheet_outcome i s).held.sheet
+pub sheet-exact : (i : Input) (s : SheetBuffers) (c : Counts) → (sheet_outcome i s).answer ≡ Ok c → Lines (pages_for i.n * 50) (sheet_outcome i s).held.sheet
 unfolding sheet_outcome sheet_structure fill_sheet
 sheet-exact i s c e =
     let o : Outcome Answer = sheet_structure i s.stores (length s.sheet) in

@@ -1,9 +1,6 @@
 -- The fill sheet of a matrix, and the call that prints it. Definitions only.
-use Rattle.std.specs.Prelude.{ℕ, List, [], ◌∷◌, ◌++◌, length, get_or, eqb}
-use Rattle.base.specs.Answers.{Left, left}
-use Rattle.base.specs.declared.Answer.{Answer}
-use Rattle.base.specs.declared.Answer.TheVariants.{Done, Refused}
-use Rattle.base.specs.declared.Asked.{Asked}
+use Rattle.std.specs.Prelude.{ℕ, List, [], ◌∷◌, ◌++◌, length, get_or, eqb, Ok, Err}
+use Rattle.base.specs.Answers.{Left, left, Asked, Answer}
 use Rattle.base.specs.declared.Form.TheVariants.{Shared}
 use Rattle.base.specs.declared.Side.TheVariants.{Upper}
 use Rattle.base.specs.declared.Sizes.{Sizes}
@@ -29,12 +26,12 @@ ask_sheet i z len = ask_shape i.n (pattern_tests i ++ structure_tests Shared i.n
 
 -- "the questions and returned counts are the shared structure call's, with its stores and scratch ending as there"
 unfoldable pub sheet_structure : Input → Buffers → ℕ → Outcome Answer
-sheet_structure i s len = stop Refused (ask_sheet i (sizes s) len) s (structure Shared i s)
+sheet_structure i s len = stop Err (ask_sheet i (sizes s) len) s (structure Shared i s)
 
 -- "a refusal leaves the sheet untouched"
 abbrev pub sheet_after : Input → Answer → List ℕ → List ℕ
-sheet_after i (Done c) old = fill_sheet i
-sheet_after i (Refused q) old = old
+sheet_after i (Ok c) old = fill_sheet i
+sheet_after i (Err q) old = old
 
 -- the buffers that the call writes: those of the structure call, and the sheet
 pub record SheetBuffers : Type 0 where

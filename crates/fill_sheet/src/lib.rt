@@ -4,13 +4,13 @@
 ghost use Rattle.std.specs.Prelude.{◌≡◌, not, ◌&&◌, [], eqb};
 ghost use Rattle.base.specs.Answers.{left};
 ghost use Rattle.base.specs.Limits.{rows_within};
-ghost use Rattle.matrix.specs.Input.{input_of};
+ghost use Rattle.matrix.specs.Input.{lent_pattern};
 ghost use Rattle.outcome.specs.Buffers.{shared_buffers};
 ghost use Rattle.sheet.specs.Sheet.{sheet_bytes};
 ghost use Rattle.fill_sheet.specs.FillSheet.{sheet_buffers, sheet_outcome};
 
-use base::{Answer, Index, Refusal};
-use matrix::Matrix;
+use base::{Counts, Index, Refusal};
+use matrix::{Matrix, System};
 
 // Asks 2 of the sheet: tells whether n is within its limits and the length is not that of n places. Of another n structure_shared asks 1.
 fn wrong_length(n: usize, len: usize) -> bool
@@ -24,11 +24,7 @@ fn wrong_length(n: usize, len: usize) -> bool
 
 // Finds the fill of M' and places it in the shared form, as structure_shared does, and prints the fill sheet of it.
 pub fn fill_sheet(
-    n: usize,
-    starts: &[u32],
-    columns: &[Index],
-    r: &[Index],
-    c: &[Index],
+    input: System<'_>,
     lower_starts: &mut [u32],
     lower_runs: &mut [u32],
     lower_index: &mut [Index],
@@ -40,20 +36,16 @@ pub fn fill_sheet(
     work: &mut [f64],
     marks: &mut [u32],
     sheet: &mut [u8],
-) -> Answer
+) -> Result<Counts, Refusal>
     ensures { left result (sheet_buffers (shared_buffers lower_starts.new lower_runs.new lower_index.new lower_values.new upper_starts.new upper_runs.new upper_index.new upper_values.new [] [] work.new marks.new) sheet.new)
-        ≡ sheet_outcome (input_of n starts.now columns.now [] r.now c.now [])
+        ≡ sheet_outcome (lent_pattern input.entry)
         (sheet_buffers (shared_buffers lower_starts.old lower_runs.old lower_index.old lower_values.old upper_starts.old upper_runs.old upper_index.old upper_values.old [] [] work.old marks.old) sheet.old) }
 {
-    if wrong_length(n, sheet.len()) {
-        return Answer::Refused(Refusal::Lengths);
+    if wrong_length(input.n, sheet.len()) {
+        return Err(Refusal::Lengths);
     }
     let a = shared_form::structure_shared(
-        n,
-        starts,
-        columns,
-        r,
-        c,
+        input,
         lower_starts,
         lower_runs,
         lower_index,
@@ -65,12 +57,12 @@ pub fn fill_sheet(
         work,
         marks,
     );
-    if stages::refuses(a) {
+    if a.is_err() {
         return a;
     }
     sheet::print(
-        n,
-        r,
+        input.n,
+        input.r,
         lower_starts,
         lower_runs,
         lower_index,

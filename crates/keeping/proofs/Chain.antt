@@ -1,4 +1,5 @@
 -- "A restart should not eliminate again": solve, write, read, and another right side, as a solve with that right side ends.
+use Rattle.std.specs.Prelude.{Ok}
 use mathlib.Core.Path.{◌≡◌, sym, ap, ◌∙◌}
 use mathlib.Core.Bool.{true}
 use mathlib.Core.List.{List, []}
@@ -6,10 +7,7 @@ use Prim.Native.Nat.{ℕ}
 use lib.ListN.{length}
 use lib.Ieee.{Float}
 use Rattle.base.specs.All.{all}
-use Rattle.base.specs.Answers.{number_of_end, left}
-use Rattle.base.specs.declared.Answer.TheVariants as answers
-use Rattle.base.specs.declared.Ended.TheVariants as ends
-use Rattle.base.specs.declared.Asked.TheVariants.{Pass}
+use Rattle.base.specs.Answers.{number_of_answer, left, Pass}
 use Rattle.base.specs.declared.Form.TheVariants.{Plain}
 use Rattle.matrix.specs.Input.{Input, input_of}
 use Rattle.outcome.specs.Buffers.{Buffers, plain_buffers, sizes, buffer_tests}
@@ -37,7 +35,7 @@ module _ (i : Input) (s : Buffers) (ls li us ui marks : List ℕ) (lv uv d x wor
   may = kept-asked i s (plain_buffers ls li lv us ui uv d x work marks) h (length buffer) long
 
   -- they are written,
-  pub kept-written : write_outcome i.n (counts i) l buffer ≡ left ends.Done file
+  pub kept-written : write_outcome i.n (counts i) l buffer ≡ left Pass file
   unfolding write_outcome
   kept-written = rw may
 
@@ -46,7 +44,7 @@ module _ (i : Input) (s : Buffers) (ls li us ui marks : List ℕ) (lv uv d x wor
     l' = held m (cut (counts i) l)
 
     -- read into other buffers,
-    pub kept_read : read_outcome file m ≡ left (answers.Done (counts i)) l'
+    pub kept_read : read_outcome file m ≡ left (Ok (counts i)) l'
     kept_read = written-read-call i.n (counts i) l buffer w may m fit
 
     -- and another right side over what was read gives the answer and the x of a solve with it.
@@ -60,10 +58,10 @@ module _ (i : Input) (s : Buffers) (ls li us ui marks : List ℕ) (lv uv d x wor
       original = rw (right-only Plain i b (plain_buffers ls li lv us ui uv d x work marks)) (resolving Plain plain-keeps i s (plain_buffers ls li lv us ui uv d x work marks) h b finite)
 
       pub kept-solves : ((resolve Plain (input_of i.n [] [] [] l'.r l'.c b) (lent_with l' x' work' marks')).answer ≡ end_of (solve Plain (with_right i b) s).answer)
-          × (number_of_end (resolve Plain (input_of i.n [] [] [] l'.r l'.c b) (lent_with l' x' work' marks')).answer ≡ 0
+          × (number_of_answer (resolve Plain (input_of i.n [] [] [] l'.r l'.c b) (lent_with l' x' work' marks')).answer ≡ 0
           → (resolve Plain (input_of i.n [] [] [] l'.r l'.c b) (lent_with l' x' work' marks')).buffers.x ≡ (solve Plain (with_right i b) s).buffers.x)
       unfolding with_solution
       kept-solves = (
         sym alike.answer ∙ original.answer,
-        λ z. let y = ap number_of_end alike.answer ∙ z in sym (alike.x y) ∙ ap (λ (t : Buffers). t.x) (original.buffers y),
+        λ z. let y = ap number_of_answer alike.answer ∙ z in sym (alike.x y) ∙ ap (λ (t : Buffers). t.x) (original.buffers y),
       )

@@ -1,4 +1,5 @@
 -- What a solve or a refactor of the plain form leaves passes the writer's questions: it can be kept.
+use Rattle.std.specs.Prelude.{None}
 use mathlib.Core.Path.{◌≡◌, refl, sym, ap, ap₂, ◌∙◌}
 use mathlib.Core.Bool.{Bool, true, false, not, ◌&&◌, ◌||◌}
 use mathlib.Core.List.{List, ◌++◌}
@@ -13,15 +14,13 @@ use borrow.Author.Tests.{le-leb, eq-eqb, eqb-true, not-false}
 use Rattle.base.specs.Lists.{sum, count, has}
 use Rattle.base.specs.All.{all}
 use Rattle.base.specs.AllLaws.{all_true, all_join}
-use Rattle.base.specs.Answers.{holds, and_then}
+use Rattle.base.specs.Answers.{holds, and_then, Pass}
 use Rattle.base.specs.AscLaws.{sum-ext, count-ext, length-asc, has-asc}
 use Rattle.base.specs.First.{first}
 use Rattle.base.specs.FirstLaws.{first-none, first-all, both-pass, holds-pass, absent-pass}
 use Rattle.base.specs.Limits.{max_rows, max_slots, rows_within}
 use Rattle.base.specs.Tests.{or-false, and_cases}
-use Rattle.base.specs.declared.Asked.TheVariants.{Pass}
 use Rattle.base.specs.declared.Counts.{Counts}
-use Rattle.base.specs.declared.Found.TheVariants.{Nothing}
 use Rattle.base.specs.declared.Form.TheVariants.{Plain}
 use Rattle.base.specs.declared.Refusal.TheVariants.{Rows, Lengths}
 use Rattle.base.specs.declared.Side.{Side}
@@ -133,7 +132,7 @@ module _ (i : Input) (s t : Buffers) (a : Result) (g : FactorsKept Plain i s t a
   passed-15 : ask15 n k.lower k.upper used ≡ Pass
   unfolding ask15 ask_factors bad_at cut
   passed-15 =
-      let e : first (bad_at Plain n (presented_lists used)) n ≡ Nothing = first-all (bad_at Plain n (presented_lists used)) n (λ j q. rw (lower-used j q, upper-used j q, (whole j q).2)) in
+      let e : first (bad_at Plain n (presented_lists used)) n ≡ None = first-all (bad_at Plain n (presented_lists used)) n (λ j q. rw (lower-used j q, upper-used j q, (whole j q).2)) in
       rw (e, eq-eqb (get_or t.lower.starts n 0) k.lower lower-end, eq-eqb (get_or t.upper.starts n 0) k.upper upper-end)
 
   -- ---- 21

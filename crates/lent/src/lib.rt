@@ -20,14 +20,14 @@ pub fn list_length(starts: &[u32], i: usize) -> usize
     base::slot(starts[i + 1]) - base::slot(starts[i])
 }
 
-// Hands back list i of an index store.
-pub fn list_at<'a>(starts: &[u32], runs: &[u32], index: &'a [Index], i: usize) -> &'a [Index]
-    requires { ListIn starts.now runs.now (length index.now) i }
-    ensures { result.now ≡ list_at starts.now runs.now index.now i }
+// Hands back list i of a store.
+pub fn list_at<'a, T>(starts: &[u32], runs: &[u32], store: &'a [T], i: usize) -> &'a [T]
+    requires { ListIn starts.now runs.now (length store.now) i }
+    ensures { result.now ≡ list_at starts.now runs.now store.now i }
 {
     let a = base::slot(runs[i]);
     let e = a + list_length(starts, i);
-    &index[a..e]
+    &store[a..e]
 }
 
 // Hands back the values along list i, which stand one list after another.
@@ -35,9 +35,7 @@ pub fn values_at<'a>(starts: &[u32], values: &'a [f64], i: usize) -> &'a [f64]
     requires { ListIn starts.now starts.now (length values.now) i }
     ensures { result.now ≡ row_of starts.now values.now i }
 {
-    let lo = base::slot(starts[i]);
-    let hi = base::slot(starts[i + 1]);
-    &values[lo..hi]
+    list_at(starts, starts, values, i)
 }
 
 // ---- orders
@@ -85,7 +83,7 @@ pub fn row_values<'a>(starts: &[u32], values: &'a [f64], i: OwnNumber) -> &'a [f
     requires { ListIn starts.now starts.now (length values.now) i.0 }
     ensures { result.now ≡ row_of starts.now values.now i.0 }
 {
-    values_at(starts, values, i.0 as usize)
+    list_at(starts, starts, values, i.0 as usize)
 }
 
 // Gives the right side's value in an own row.

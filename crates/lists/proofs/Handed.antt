@@ -1,4 +1,5 @@
 -- After a structure call or a solve that ends without a refusal, the lookup hands back T(k), and lower row k or lower column k.
+use Rattle.std.specs.Prelude.{Ok, Err}
 use mathlib.Core.Path.{◌≡◌, refl, sym, ap, ◌∙◌}
 use mathlib.Core.Bool.{Bool, true, ◌&&◌, false≢true}
 use mathlib.Core.List.{List, [], ◌∷◌, ◌++◌, append_assoc}
@@ -14,17 +15,13 @@ use Rattle.base.specs.ZerosLaws.{padded-length}
 use Rattle.base.specs.Tests.{and_cases}
 use Rattle.base.specs.All.{all}
 use Rattle.base.specs.AllLaws.{all_true}
-use Rattle.base.specs.Answers.{spot, holds, number_of_answer}
+use Rattle.base.specs.Answers.{spot, holds, number_of_answer, Pass, Asked, Answer}
 use Rattle.base.specs.declared.Form.{Form}
 use Rattle.base.specs.declared.Form.TheVariants.{Plain, Shared, ByRow}
 use Rattle.base.specs.declared.Side.{Side}
 use Rattle.base.specs.declared.Side.TheVariants.{Lower, Upper}
 use Rattle.base.specs.declared.Counts.{Counts}
 use Rattle.base.specs.declared.Refusal.TheVariants.{Rows, Lengths}
-use Rattle.base.specs.declared.Asked.{Asked}
-use Rattle.base.specs.declared.Asked.TheVariants.{Pass, Stop}
-use Rattle.base.specs.declared.Answer.{Answer}
-use Rattle.base.specs.declared.Answer.TheVariants.{Done, Refused}
 use Rattle.fill.specs.Fill.{Pattern}
 use Rattle.fill.proofs.ListLaws.{lower-is-upper}
 use Rattle.base.specs.Limits.{rows_within, max_slots}
@@ -162,9 +159,9 @@ module _ (f : Form) (v : leaves f ≡ true) (i : Input) (z : Sizes) (t : Buffers
 -- ---- the calls
 
 -- no question stopped a call that is done
-pub stop-done : (a : Asked) (s t : Buffers) (rest : Outcome Answer) (c : Counts) → stop Refused a s rest ≡ ended (Done c) t → (a ≡ Pass) × (rest ≡ ended (Done c) t)
-stop-done Pass s t rest c e = (refl, e)
-stop-done (Stop q) s t rest c e = absurd (number-some q (ap (λ (o : Outcome Answer). number_of_answer o.answer) e))
+pub stop-done : (a : Asked) (s t : Buffers) (rest : Outcome Answer) (c : Counts) → stop Err a s rest ≡ ended (Ok c) t → (a ≡ Pass) × (rest ≡ ended (Ok c) t)
+stop-done (Ok _) s t rest c e = (refl, e)
+stop-done (Err q) s t rest c e = absurd (number-some q (ap (λ (o : Outcome Answer). number_of_answer o.answer) e))
 
 -- a structure call that is done: its questions, its lists, its scratch
 pub record Structures (f : Form) (i : Input) (s t : Buffers) : Type 0 where
@@ -173,7 +170,7 @@ pub record Structures (f : Form) (i : Input) (s t : Buffers) : Type 0 where
   pub stood : Stood f i t
   pub marks : t.marks ≡ replicate (sizes s).marks 0
 
-pub structure-done : (f : Form) → leaves f ≡ true → (i : Input) (s t : Buffers) (c : Counts) → structure f i s ≡ ended (Done c) t → Structures f i s t
+pub structure-done : (f : Form) → leaves f ≡ true → (i : Input) (s t : Buffers) (c : Counts) → structure f i s ≡ ended (Ok c) t → Structures f i s t
 unfolding structure structured
 structure-done f v i s t c e =
     let p = stop-done (ask_shape i.n (pattern_tests i ++ structure_tests f i.n (sizes s))) s t _ c e in
@@ -189,11 +186,11 @@ structure-done f v i s t c e =
     }
 
 -- "Lookup", after the structure call
-pub structure-handed : (f : Form) → leaves f ≡ true → (i : Input) (s t : Buffers) (c : Counts) → structure f i s ≡ ended (Done c) t → Handed f i t
+pub structure-handed : (f : Form) → leaves f ≡ true → (i : Input) (s t : Buffers) (c : Counts) → structure f i s ≡ ended (Ok c) t → Handed f i t
 structure-handed f v i s t c e = stood-handed f v i (sizes s) t (structure-done f v i s t c e).stood
 
 -- the two sides of what a solve leaves
-concluded-sides : (f : Form) → leaves f ≡ true → (i : Input) (z : Sizes) (x : List Float) (t : Buffers) (c : Counts) (o : Out Result) → concluded f i z x o ≡ ended (Done c) t
+concluded-sides : (f : Form) → leaves f ≡ true → (i : Input) (z : Sizes) (x : List Float) (t : Buffers) (c : Counts) (o : Out Result) → concluded f i z x o ≡ ended (Ok c) t
     → (a : Result) × (t.lower ≡ side_placed f Lower (stored i) i.n z.lower (values_kept f Lower (stored i) i.n a.rows))
     × (t.upper ≡ side_placed f Upper (stored i) i.n z.upper (values_kept f Upper (stored i) i.n a.rows))
 unfolding kept
@@ -203,7 +200,7 @@ concluded-sides ByRow v i z x t c (ok a) e = absurd (false≢true v)
 concluded-sides f v i z x t c (met q) e = absurd (number-some (fault_of q) (ap (λ (o : Outcome Answer). number_of_answer o.answer) e))
 
 -- after a solve
-pub solve-handed : (f : Form) → leaves f ≡ true → (i : Input) (s t : Buffers) (c : Counts) → solve f i s ≡ ended (Done c) t → Handed f i t
+pub solve-handed : (f : Form) → leaves f ≡ true → (i : Input) (s t : Buffers) (c : Counts) → solve f i s ≡ ended (Ok c) t → Handed f i t
 unfolding solve shape
 solve-handed f v i s t c e =
     let p = stop-done (shape f i (sizes s)) s t _ c e in
@@ -219,18 +216,18 @@ module _ (i : Input) (s : Buffers) (c : Counts) (ls li us ui : List ℕ) (lv uv 
   plain_by : Handed Plain i (plain_buffers ls li lv us ui uv d x w m) → HandedPlain i ls li us ui
   plain_by h = record { lower = h Lower; upper = h Upper }
 
-  pub structure-plain : ended (Done c) (plain_buffers ls li lv us ui uv d x w m) ≡ structure Plain i s → HandedPlain i ls li us ui
+  pub structure-plain : ended (Ok c) (plain_buffers ls li lv us ui uv d x w m) ≡ structure Plain i s → HandedPlain i ls li us ui
   structure-plain e = plain_by (structure-handed Plain refl i s _ c (sym e))
 
-  pub solve-plain : ended (Done c) (plain_buffers ls li lv us ui uv d x w m) ≡ solve Plain i s → HandedPlain i ls li us ui
+  pub solve-plain : ended (Ok c) (plain_buffers ls li lv us ui uv d x w m) ≡ solve Plain i s → HandedPlain i ls li us ui
   solve-plain e = plain_by (solve-handed Plain refl i s _ c (sym e))
 
 module _ (i : Input) (s : Buffers) (c : Counts) (ls lr li us ur ui : List ℕ) (lv uv d x w : List Float) (m : List ℕ) where
   shared-by : Handed Shared i (shared_buffers ls lr li lv us ur ui uv d x w m) → HandedShared i ls lr li us ur ui
   shared-by h = record { lower = λ k l. h Lower k l ∙ sym (lower-is-upper (stored i) i.n k); upper = h Upper }
 
-  pub structure-shared : ended (Done c) (shared_buffers ls lr li lv us ur ui uv d x w m) ≡ structure Shared i s → HandedShared i ls lr li us ur ui
+  pub structure-shared : ended (Ok c) (shared_buffers ls lr li lv us ur ui uv d x w m) ≡ structure Shared i s → HandedShared i ls lr li us ur ui
   structure-shared e = shared-by (structure-handed Shared refl i s _ c (sym e))
 
-  pub solve-shared : ended (Done c) (shared_buffers ls lr li lv us ur ui uv d x w m) ≡ solve Shared i s → HandedShared i ls lr li us ur ui
+  pub solve-shared : ended (Ok c) (shared_buffers ls lr li lv us ur ui uv d x w m) ≡ solve Shared i s → HandedShared i ls lr li us ur ui
   solve-shared e = shared-by (solve-handed Shared refl i s _ c (sym e))

@@ -1,4 +1,5 @@
 -- The call from its stages.
+use Rattle.std.specs.Prelude.{Ok, Err}
 use Prim.Native.Nat.{ℕ, ◌*◌, ◌<◌, ◌≤◌}
 use mathlib.Core.Path.{◌≡◌, sym, ◌∙◌}
 use mathlib.Core.Bool.{Bool, true, false, not}
@@ -11,7 +12,6 @@ use borrow.Author.Tests.{not-true, not-false}
 use Rattle.base.specs.Lists.{nought, blank, padded, table}
 use Rattle.base.specs.Limits.{max_rows, rows_within}
 use Rattle.base.specs.Answers.{left}
-use Rattle.base.specs.declared.Made.TheVariants.{Entries, Refused}
 use Rattle.base.specs.declared.Refusal.TheVariants.{Rows, Lengths}
 use Rattle.matrix.specs.Lists.{matrix_lists, lengths_right}
 use Rattle.matrix.specs.ListsLaws.{Long, long-lists, range-of}
@@ -23,12 +23,12 @@ unfolding blank padded
 blank-padded v l size e = rw (e, sub-zero)
 
 module _ (n seed : ℕ) (s j : List ℕ) (v : List Float) (r c : List ℕ) (b : List Float) where
-  pub out-rows : (t : Bool) → t ≡ rows_within n → not t ≡ true → left (Refused Rows) (matrix_lists s j v r c b) ≡ load_outcome n seed (matrix_lists s j v r c b)
+  pub out-rows : (t : Bool) → t ≡ rows_within n → not t ≡ true → left (Err Rows) (matrix_lists s j v r c b) ≡ load_outcome n seed (matrix_lists s j v r c b)
   unfolding load_outcome ask_load
   out-rows t e h = rw (sym e ∙ not-true t h)
 
   module _ (t : Bool) (et : t ≡ rows_within n) (ht : not t ≡ false) (u : Bool) (eu : u ≡ lengths_right n (4 * n) (length s) (length j) (length v) (length r) (length c) (length b)) where
-    pub out-lengths : not u ≡ true → left (Refused Lengths) (matrix_lists s j v r c b) ≡ load_outcome n seed (matrix_lists s j v r c b)
+    pub out-lengths : not u ≡ true → left (Err Lengths) (matrix_lists s j v r c b) ≡ load_outcome n seed (matrix_lists s j v r c b)
     unfolding load_outcome ask_load
     out-lengths h = rw (sym et ∙ not-false t ht, sym eu ∙ not-true u h)
 
@@ -44,7 +44,7 @@ module _ (n seed : ℕ) (s j : List ℕ) (v : List Float) (r c : List ℕ) (b : 
     orders-few h = let F = lent h in (omega (arith, range-of n t et ht, F.r-long), omega (arith, range-of n t et ht, F.c-long))
 
     pub out-made : not u ≡ false → (e : ℕ) (s' j' : List ℕ) (v' : List Float) (r' c' : List ℕ) (b' : List Float) → RowsDrawn n seed e s' j' v' → r' ≡ table (λ (k : ℕ). k) (length r) → c' ≡ table (λ (k : ℕ). k) (length c)
-        → b' ≡ table (λ (k : ℕ). one) (length b) → left (Entries e) (matrix_lists s' j' v' r' c' b') ≡ load_outcome n seed (matrix_lists s j v r c b)
+        → b' ≡ table (λ (k : ℕ). one) (length b) → left (Ok e) (matrix_lists s' j' v' r' c' b') ≡ load_outcome n seed (matrix_lists s j v r c b)
     unfolding load_outcome ask_load load
     out-made h e s' j' v' r' c' b' D er ec eb =
         let F = lent h in

@@ -1,29 +1,32 @@
--- A column in a row, entry by entry; a draw in the stores.
-use Prim.Native.Nat.{ℕ, suc, ◌+◌, ◌-◌, ◌<◌, ◌≤◌}
+-- A column in a row, a list of one value; a draw in the stores.
+use Prim.Native.Nat.{ℕ, zero, suc, ◌+◌, ◌-◌, ◌<◌, ◌≤◌}
 use mathlib.Core.Path.{◌≡◌, refl, sym, ap, ◌∙◌}
-use mathlib.Core.Bool.{Bool, true, false}
+use mathlib.Core.Bool.{Bool, true, false, ◌||◌}
 use mathlib.Core.List.{List, [], ◌∷◌, ◌++◌, append_assoc, map-append}
 use native.Mathlib.Omega.{arith}
-use lib.ListN.{length, get_or, take, drop, set, replicate, length-set, length-append, length-map, drop_of_length-le}
+use lib.ListN.{length, take, drop, set, replicate, length-set, length-append, length-map}
 use lib.Ieee.{Float}
 use lib.Seq.{set_at, take_at, drop_at}
-use borrow.Author.Tests.{eq-eqb, ne_eqb}
-use Rattle.base.specs.Lists.{has, nought, padded}
-use Rattle.base.specs.AscLaws.{has-drop}
+use lib.Dec.{eqb}
+use native.Mathlib.Numerals.{add-one}
+use Rattle.std.specs.List.{list_any}
+use Rattle.std.proofs.lemmas.Grind.{replicate_next}
+use Rattle.base.specs.Lists.{has, nought, padded, table}
 use Rattle.load.specs.Load.{drawn, column_of, values_for, four, minus_one, added}
 use Rattle.load.specs.Stores.{Held, Drawable, Drew, RowDrawable, RowDrew}
 use Rattle.load.specs.declared.Drawn.{Drawn}
 
-module _ (row : List ℕ) (j p : ℕ) where
-  pub has-hit : p < length row → get_or row p 0 ≡ j → has (drop p row) j ≡ true
-  has-hit h e = has-drop row j p h ∙ rw (eq-eqb (get_or row p 0) j e)
+-- what `contains` answers
+pub any-has : (row : List ℕ) (j : ℕ) → list_any (λ x. eqb x j) row ≡ has row j
+unfolding has
+any-has [] j = refl
+any-has (x ∷ xs) j = ap (λ b. eqb x j || b) (any-has xs j)
 
-  pub has-miss : p < length row → (get_or row p 0 ≡ j → ⊥) → has (drop (p + 1) row) j ≡ has (drop p row) j
-  has-miss h n = sym (has-drop row j p h ∙ rw (ne_eqb (get_or row p 0) j n))
-
-  pub has_end : length row ≤ p → has (drop p row) j ≡ false
-  unfolding has
-  has_end h = rw (drop_of_length-le row h)
+-- what `fill` leaves
+pub table-same : {A : Type 0} (v : A) (n : ℕ) → replicate n v ≡ table (λ (k : ℕ). v) n
+unfolding table
+table-same v zero = refl
+table-same v (suc n) = (rw add-one at (replicate_next n v)) ∙ ap (λ l. l ++ (v ∷ [])) (table-same v n)
 
 -- ---- one slot more of a padded store
 
@@ -93,9 +96,9 @@ module _ (n from : ℕ) (d : Drawn) (columns : List ℕ) (values : List Float) (
     held = λ before given row size l H. rw same-column (draw-skips H j (ap (λ l. has l j) (sym (row_read H)) ∙ sym e ∙ t));
   }
 
-  pub drew-add : (b : Bool) → b ≡ has (take (d.end - from) (drop from columns)) j → b ≡ false → (i : ℕ) → i ≡ j → (v : Float) → v ≡ minus_one
-      → Drew n from d columns values (record { end = d.end + 1; seed = s }) (set columns d.end i) (set values d.end v)
-  drew-add b e t i ei v ev = rw (ei, ev) (record {
+  pub drew-add : (b : Bool) → b ≡ has (take (d.end - from) (drop from columns)) j → b ≡ false → (v : Float) → v ≡ minus_one
+      → Drew n from d columns values (record { end = d.end + 1; seed = s }) (set columns d.end j) (set values d.end v)
+  drew-add b e t v ev = rw ev (record {
     seed-is = es;
     seed-small = small;
     columns-long = length-set columns d.end j;
@@ -121,34 +124,34 @@ row-begun before given k size from columns values h eb eg ec ev = record {
   some = omega arith;
 }
 
-module _ (n k from seed : ℕ) (columns : List ℕ) (values : List Float) (i : ℕ) (v : Float) (ei : i ≡ k) (ev : v ≡ four) (a b r : Drawn) (c₂ c₃ c₄ : List ℕ) (v₂ v₃ v₄ : List Float)
-    (A : Drew n from (record { end = from + 1; seed = seed }) (set columns from i) (set values from v) a c₂ v₂) (B : Drew n from a c₂ v₂ b c₃ v₃) (R : Drew n from b c₃ v₃ r c₄ v₄) where
-  pub row-drew : RowDrew n k from seed columns values r c₄ v₄
+module _ (n k : ℕ) (d : Drawn) (columns : List ℕ) (values : List Float) (i : ℕ) (v : Float) (ei : i ≡ k) (ev : v ≡ four) (a b r : Drawn) (c₂ c₃ c₄ : List ℕ) (v₂ v₃ v₄ : List Float)
+    (A : Drew n d.end (record { end = d.end + 1; seed = d.seed }) (set columns d.end i) (set values d.end v) a c₂ v₂) (B : Drew n d.end a c₂ v₂ b c₃ v₃) (R : Drew n d.end b c₃ v₃ r c₄ v₄) where
+  pub row-drew : RowDrew n k d columns values r c₄ v₄
   row-drew = record {
     seed-is = R.seed-is ∙ ap drawn (B.seed-is ∙ ap drawn A.seed-is);
     seed-small = R.seed-small;
-    columns-long = R.columns-long ∙ B.columns-long ∙ A.columns-long ∙ length-set columns from i;
-    values-long = R.values-long ∙ B.values-long ∙ A.values-long ∙ length-set values from v;
+    columns-long = R.columns-long ∙ B.columns-long ∙ A.columns-long ∙ length-set columns d.end i;
+    values-long = R.values-long ∙ B.values-long ∙ A.values-long ∙ length-set values d.end v;
     most = omega (arith, A.most, B.most, R.most);
     held = λ before given size h eb eg ec eg'.
-        let H₂ = A.held before given (k ∷ []) size (omega arith) (rw (ei, ev) (row-begun before given k size from columns values (omega arith) eb eg ec eg')) in
+        let H₂ = A.held before given (k ∷ []) size (omega arith) (rw (ei, ev) (row-begun before given k size d.end columns values (omega arith) eb eg ec eg')) in
         let H₃ = B.held before given _ size (omega (arith, A.most)) H₂ in
         rw (B.seed-is ∙ ap drawn A.seed-is, A.seed-is) at (R.held before given _ size (omega (arith, A.most, B.most)) H₃);
   }
 
 -- each draw of a row has what it asks for
-pub drawable : {n k size long from seed : ℕ} → RowDrawable n k size long from seed → (columns values : ℕ) → columns ≡ size → values ≡ long → (d : Drawn) → from ≤ d.end → d.end < from + 4 → d.seed < 65536
-    → Drawable n columns values from d
+drawable : {n k size long : ℕ} {e : Drawn} → RowDrawable n k size long e → (columns values : ℕ) → columns ≡ size → values ≡ long → (d : Drawn) → e.end ≤ d.end → d.end < e.end + 4 → d.seed < 65536
+    → Drawable n columns values e.end d
 drawable R columns values ec ev d b l s = record { rows = omega (arith, R.place); few = R.few; long = ev ∙ R.long ∙ sym ec; begun = b; room = omega (arith, R.room, ec); seed-small = s }
 
-module _ (n k from seed : ℕ) (columns : List ℕ) (values : List Float) (i : ℕ) (v : Float) (R : RowDrawable n k (length columns) (length values) from seed) where
-  pub first-drawable : Drawable n (length (set columns from i)) (length (set values from v)) from (record { end = from + 1; seed = seed })
-  first-drawable = drawable R _ _ (length-set columns from i) (length-set values from v) _ (omega arith) (omega arith) R.seed-small
+module _ (n k : ℕ) (d : Drawn) (columns : List ℕ) (values : List Float) (i : ℕ) (v : Float) (R : RowDrawable n k (length columns) (length values) d) where
+  pub first-drawable : Drawable n (length (set columns d.end i)) (length (set values d.end v)) d.end (record { end = d.end + 1; seed = d.seed })
+  first-drawable = drawable R _ _ (length-set columns d.end i) (length-set values d.end v) _ (omega arith) (omega arith) R.seed-small
 
-  module _ (a : Drawn) (c₂ : List ℕ) (v₂ : List Float) (A : Drew n from (record { end = from + 1; seed = seed }) (set columns from i) (set values from v) a c₂ v₂) where
-    pub second-drawable : Drawable n (length c₂) (length v₂) from a
-    second-drawable = drawable R _ _ (A.columns-long ∙ length-set columns from i) (A.values-long ∙ length-set values from v) a (omega (arith, A.least)) (omega (arith, A.most)) A.seed-small
+  module _ (a : Drawn) (c₂ : List ℕ) (v₂ : List Float) (A : Drew n d.end (record { end = d.end + 1; seed = d.seed }) (set columns d.end i) (set values d.end v) a c₂ v₂) where
+    pub second-drawable : Drawable n (length c₂) (length v₂) d.end a
+    second-drawable = drawable R _ _ (A.columns-long ∙ length-set columns d.end i) (A.values-long ∙ length-set values d.end v) a (omega (arith, A.least)) (omega (arith, A.most)) A.seed-small
 
-    pub third-drawable : (b : Drawn) (c₃ : List ℕ) (v₃ : List Float) → Drew n from a c₂ v₂ b c₃ v₃ → Drawable n (length c₃) (length v₃) from b
+    pub third-drawable : (b : Drawn) (c₃ : List ℕ) (v₃ : List Float) → Drew n d.end a c₂ v₂ b c₃ v₃ → Drawable n (length c₃) (length v₃) d.end b
     third-drawable b c₃ v₃ B =
-        drawable R _ _ (B.columns-long ∙ A.columns-long ∙ length-set columns from i) (B.values-long ∙ A.values-long ∙ length-set values from v) b (omega (arith, A.least, B.least)) (omega (arith, A.most, B.most)) B.seed-small
+        drawable R _ _ (B.columns-long ∙ A.columns-long ∙ length-set columns d.end i) (B.values-long ∙ A.values-long ∙ length-set values d.end v) b (omega (arith, A.least, B.least)) (omega (arith, A.most, B.most)) B.seed-small

@@ -1,4 +1,5 @@
 -- The load passes questions 3 to 7, and 19 with every floor that is one, and its lists are what 1 and 2 ask for, with e its entry count. No claim is made on pivots.
+use Rattle.base.specs.Answers.{Pass}
 use Prim.Native.Nat.{ℕ, zero, suc, ◌+◌, ◌<◌, ◌≤◌}
 use mathlib.Core.Path.{◌≡◌, refl, sym, ap, ◌∙◌}
 use mathlib.Core.Bool.{true, false, not, ◌&&◌}
@@ -14,7 +15,6 @@ use Rattle.base.specs.Limits.{max_rows, max_entries}
 use Rattle.base.specs.Tests.{by-test}
 use Rattle.base.specs.FirstLaws.{first-all}
 use Rattle.base.specs.TableLaws.{get_or-table, length-table}
-use Rattle.base.specs.declared.Asked.TheVariants.{Pass}
 use Rattle.base.specs.Magnitude.{is_floor}
 use Rattle.matrix.specs.Input.{with_floor, is_of}
 use Rattle.matrix.specs.ListsLaws.{Long}

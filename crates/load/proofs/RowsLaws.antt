@@ -36,14 +36,14 @@ seed-more : (n seed k : ℕ) → seed_at n seed (k + 1) ≡ (row_from n (seed_at
 unfolding seed_at
 seed-more n seed k = rw add-one
 
-module _ {n seed k end s : ℕ} {starts columns : List ℕ} {values : List Float} (D : RowsDrawing n seed k end s starts columns values) where
+module _ {n seed k : ℕ} {d : Drawn} {starts columns : List ℕ} {values : List Float} (D : RowsDrawing n seed k d starts columns values) where
   columns-size : length columns ≡ 4 * n
   columns-size = ap length D.columns-are ∙ padded-length 0 (4 * n) (joined (row_at n seed) k) (omega (arith, entries-long n seed k, D.end_is, D.most, D.within))
 
   values-size : length values ≡ 4 * n
   values-size = ap length D.values-are ∙ padded-length nought (4 * n) (joined (λ i. values_for (row_at n seed i)) k) (omega (arith, numbers-long n seed k, D.end_is, D.most, D.within))
 
-  pub row-drawable : n ≤ max_rows → k < n → RowDrawable n k (length columns) (length values) end s
+  pub row-drawable : n ≤ max_rows → k < n → RowDrawable n k (length columns) (length values) d
   row-drawable f h = record {
     place = h;
     few = f;
@@ -53,16 +53,16 @@ module _ {n seed k end s : ℕ} {starts columns : List ℕ} {values : List Float
   }
 
   -- own row k is drawn too
-  module _ (h : k < n) (r : Drawn) (columns' : List ℕ) (values' : List Float) (R : RowDrew n k end s columns values r columns' values') where
-    row_is : (row_from n s k).row ≡ row_at n seed k
+  module _ (h : k < n) (r : Drawn) (columns' : List ℕ) (values' : List Float) (R : RowDrew n k d columns values r columns' values') where
+    row_is : (row_from n d.seed k).row ≡ row_at n seed k
     unfolding row_at
     row_is = ap (λ (q : ℕ). (row_from n q k).row) D.seed-is
 
-    row-held : Held (joined (row_at n seed) k) (joined (λ i. values_for (row_at n seed i)) k) (row_at n seed k) (4 * n) end r.end columns' values'
+    row-held : Held (joined (row_at n seed) k) (joined (λ i. values_for (row_at n seed i)) k) (row_at n seed k) (4 * n) d.end r.end columns' values'
     row-held =
         rw row_is at (R.held _ _ (4 * n) (omega (arith, D.most)) (entries-long n seed k ∙ sym D.end_is) (numbers-long n seed k ∙ sym D.end_is) D.columns-are D.values-are)
 
-    pub drawing-more : (e : ℕ) → e ≡ r.end → RowsDrawing n seed (k + 1) r.end r.seed (set starts (k + 1) e) columns' values'
+    pub drawing-more : (e : ℕ) → e ≡ r.end → RowsDrawing n seed (k + 1) r (set starts (k + 1) e) columns' values'
     drawing-more e q =
         let ended : r.end ≡ entries_at n seed (k + 1) = row-held.end_is ∙ ap (λ (m : ℕ). m + length (row_at n seed k)) D.end_is ∙ sym (entries-more n seed k) in
         record {
@@ -77,7 +77,7 @@ module _ {n seed k end s : ℕ} {starts columns : List ℕ} {values : List Float
           values-are = row-held.values-are ∙ ap (padded nought (4 * n)) (sym (joined-more (λ i. values_for (row_at n seed i)) k));
         }
 
-  pub drawing-end : n ≤ k → RowsDrawn n seed end starts columns values
+  pub drawing-end : n ≤ k → RowsDrawn n seed d.end starts columns values
   unfolding load
   drawing-end h =
       let e : k ≡ n = omega (arith, D.within) in
@@ -88,7 +88,7 @@ module _ {n seed k end s : ℕ} {starts columns : List ℕ} {values : List Float
         values-are = rw e at D.values-are;
       }
 
-pub drawing-start : (n seed : ℕ) (starts columns : List ℕ) (values : List Float) → RowsLent n seed starts columns values → RowsDrawing n seed 0 0 seed (set starts 0 0) columns values
+pub drawing-start : (n seed : ℕ) (starts columns : List ℕ) (values : List Float) → RowsLent n seed starts columns values → RowsDrawing n seed 0 (record { end = 0; seed = seed }) (set starts 0 0) columns values
 unfolding entries_at sum seed_at joined table
 drawing-start n seed starts columns values L = record {
   within = omega arith;
@@ -103,7 +103,7 @@ drawing-start n seed starts columns values L = record {
 }
 
 -- the stores are as long as they were
-module _ {n seed k end s : ℕ} {starts₀ columns₀ : List ℕ} {values₀ : List Float} {starts columns : List ℕ} {values : List Float} (L : RowsLent n seed starts₀ columns₀ values₀) (D : RowsDrawing n seed k end s starts columns values) where
+module _ {n seed k : ℕ} {d : Drawn} {starts₀ columns₀ : List ℕ} {values₀ : List Float} {starts columns : List ℕ} {values : List Float} (L : RowsLent n seed starts₀ columns₀ values₀) (D : RowsDrawing n seed k d starts columns values) where
   pub columns-same : length columns ≡ length columns₀
   columns-same = columns-size D ∙ sym (ap length L.columns-are ∙ padded-length 0 (4 * n) [] (omega arith))
 

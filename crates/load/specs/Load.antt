@@ -1,12 +1,9 @@
 -- The test load: from n and a 16-bit seed s the same matrix on every machine. Definitions only.
-use Rattle.std.specs.Prelude.{ℕ, zero, suc, ◌+◌, ◌*◌, ◌/◌, ◌%◌, true, false, cond, List, [], ◌∷◌, ◌++◌, map, length, Float, pos}
+use Rattle.std.specs.Prelude.{ℕ, zero, suc, ◌+◌, ◌*◌, ◌/◌, ◌%◌, true, false, cond, List, [], ◌∷◌, ◌++◌, map, length, Float, pos, Ok, Err}
 use Rattle.std.specs.Float.{fin}
 use Rattle.base.specs.Lists.{has, sum, table, joined, nought, padded}
 use Rattle.base.specs.Limits.{rows_within}
-use Rattle.base.specs.Answers.{holds, and_then, Left, or_untouched}
-use Rattle.base.specs.declared.Asked.{Asked}
-use Rattle.base.specs.declared.Made.{Made}
-use Rattle.base.specs.declared.Made.TheVariants.{Entries, Refused}
+use Rattle.base.specs.Answers.{holds, and_then, Left, or_untouched, Made, Asked}
 use Rattle.base.specs.declared.Refusal.TheVariants.{Rows, Lengths}
 use Rattle.matrix.specs.Input.{Input, input_of}
 use Rattle.matrix.specs.Lists.{MatrixLists, matrix_lists, lists_right}
@@ -80,4 +77,4 @@ held_by i = matrix_lists i.starts (padded 0 (4 * i.n) i.columns) (padded nought 
 
 -- the outcome of `test_load`: "the entry count is returned", "a refusal writes nothing"
 unfoldable pub load_outcome : ℕ → ℕ → MatrixLists → Left Made MatrixLists
-load_outcome n s l = or_untouched Refused (ask_load n l) (Entries (entries_at n s n)) (held_by (load n s)) l
+load_outcome n s l = or_untouched Err (ask_load n l) (Ok (entries_at n s n)) (held_by (load n s)) l

@@ -36,22 +36,22 @@ pub record Drew (n from : ℕ) (d : Drawn) (columns : List ℕ) (values : List F
       → Held before given (added row (column_of n (drawn d.seed))) size from r.end columns' values'
 
 -- what a row is asked for
-pub record RowDrawable (n k size values from seed : ℕ) : Type 0 where
+pub record RowDrawable (n k size values : ℕ) (d : Drawn) : Type 0 where
   pub place : k < n
   pub few : n ≤ max_rows
   pub long : values ≡ size
-  pub room : from + 4 ≤ size
-  pub seed-small : seed < 65536
+  pub room : d.end + 4 ≤ size
+  pub seed-small : d.seed < 65536
 
 -- what drawing a row does
-pub record RowDrew (n k from seed : ℕ) (columns : List ℕ) (values : List Float) (r : Drawn) (columns' : List ℕ) (values' : List Float) : Type 0 where
-  pub seed-is : r.seed ≡ (row_from n seed k).seed
+pub record RowDrew (n k : ℕ) (d : Drawn) (columns : List ℕ) (values : List Float) (r : Drawn) (columns' : List ℕ) (values' : List Float) : Type 0 where
+  pub seed-is : r.seed ≡ (row_from n d.seed k).seed
   pub seed-small : r.seed < 65536
   pub columns-long : length columns' ≡ length columns
   pub values-long : length values' ≡ length values
-  pub most : r.end ≤ from + 4
-  pub held : (before : List ℕ) (given : List Float) (size : ℕ) → from + 4 ≤ size → length before ≡ from → length given ≡ from → columns ≡ padded 0 size before → values ≡ padded nought size given
-      → Held before given (row_from n seed k).row size from r.end columns' values'
+  pub most : r.end ≤ d.end + 4
+  pub held : (before : List ℕ) (given : List Float) (size : ℕ) → d.end + 4 ≤ size → length before ≡ d.end → length given ≡ d.end → columns ≡ padded 0 size before → values ≡ padded nought size given
+      → Held before given (row_from n d.seed k).row size d.end r.end columns' values'
 
 -- ---- the rows
 
@@ -64,12 +64,12 @@ pub record RowsLent (n seed : ℕ) (starts columns : List ℕ) (values : List Fl
   pub values-are : values ≡ padded nought (4 * n) []
 
 -- the rows before own row k are drawn
-pub record RowsDrawing (n seed k end s : ℕ) (starts columns : List ℕ) (values : List Float) : Type 0 where
+pub record RowsDrawing (n seed k : ℕ) (d : Drawn) (starts columns : List ℕ) (values : List Float) : Type 0 where
   pub within : k ≤ n
-  pub seed-is : s ≡ seed_at n seed k
-  pub seed-small : s < 65536
-  pub end_is : end ≡ entries_at n seed k
-  pub most : end ≤ 4 * k
+  pub seed-is : d.seed ≡ seed_at n seed k
+  pub seed-small : d.seed < 65536
+  pub end_is : d.end ≡ entries_at n seed k
+  pub most : d.end ≤ 4 * k
   pub starts-long : length starts ≡ n + 1
   pub starts-are : take (k + 1) starts ≡ table (entries_at n seed) (k + 1)
   pub columns-are : columns ≡ padded 0 (4 * n) (joined (row_at n seed) k)

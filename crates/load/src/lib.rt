@@ -2,14 +2,14 @@
 #![tactic(auto)]
 
 ghost use Rattle.std.specs.Prelude.{◌≡◌, ℕ, ◌<◌, ◌≤◌, length};
-ghost use Rattle.base.specs.Lists.{has, table};
-ghost use Rattle.load.specs.Load.{drawn, column_of, four, minus_one, one, load_outcome};
+ghost use Rattle.base.specs.Lists.{table};
+ghost use Rattle.load.specs.Load.{drawn, column_of, one, load_outcome};
 ghost use Rattle.matrix.specs.Lists.{matrix_lists};
 ghost use Rattle.base.specs.Answers.{left};
 ghost use Rattle.base.specs.Limits.{max_rows};
 ghost use Rattle.load.specs.Stores.{Drawable, Drew, RowDrawable, RowDrew, RowsLent, RowsDrawn};
 
-use base::{Index, Made, Refusal};
+use base::{Index, Refusal};
 use matrix::Matrix;
 
 // Gives the seed that a draw sets.
@@ -28,78 +28,52 @@ fn column_of(n: u32, seed: u32) -> u32
     seed / 16 % n
 }
 
-// Tells whether a column stands in the row.
-fn stands(row: &[Index], j: u32) -> bool
-    ensures { result ≡ has row.now j }
-{
-    let mut p: usize = 0;
-    while p < row.len() {
-        if base::number(row[p]) == j {
-            return true;
-        }
-        p += 1;
-    }
-    false
-}
+// The value of entry (k, k).
+const DIAGONAL: f64 = 4.0;
 
-// Gives the value of entry (k, k). A function of its own, so that the literal is tied to the definition once.
-fn diagonal() -> f64
-    ensures { result ≡ four }
-{
-    4.0
-}
+// The value of a drawn entry.
+const SHARE: f64 = -1.0;
 
-// Gives the value of a drawn entry.
-fn share() -> f64
-    ensures { result ≡ minus_one }
-{
-    -1.0
-}
-
-// A row in the stores: where it ends, and the seed after it.
+// How far the stores are filled, and the seed of the next draw.
 #[derive(Clone, Copy)]
 pub struct Drawn {
     pub end: usize,
     pub seed: u32,
 }
 
-// Draws once for the row from `from` on.
-fn draw(n: u32, columns: &mut [Index], values: &mut [f64], from: usize, d: Drawn) -> Drawn
-    requires { Drawable n (length columns.old) (length values.old) from d }
-    ensures { Drew n from d columns.old values.old result columns.new values.new }
-{
-    let seed = next(d.seed);
-    let j = column_of(n, seed);
-    let end = d.end;
-    if stands(&columns[from..end], j) {
-        return Drawn { end, seed };
+impl Drawn {
+    // Draws once for the row from `from` on.
+    fn draw(self, n: u32, columns: &mut [Index], values: &mut [f64], from: usize) -> Drawn
+        requires { Drawable n (length columns.old) (length values.old) from self }
+        ensures { Drew n from self columns.old values.old result columns.new values.new }
+    {
+        let end = self.end;
+        let seed = next(self.seed);
+        let column = base::narrow(column_of(n, seed));
+        if columns[from..end].contains(&column) {
+            return Drawn { end, seed };
+        }
+        columns[end] = column;
+        values[end] = SHARE;
+        Drawn { end: end + 1, seed }
     }
-    columns[end] = base::narrow(j);
-    values[end] = share();
-    Drawn { end: end + 1, seed }
-}
 
-// Draws own row k from slot `from` on: the diagonal, then three draws.
-fn draw_row(
-    n: u32,
-    k: u32,
-    columns: &mut [Index],
-    values: &mut [f64],
-    from: usize,
-    seed: u32,
-) -> Drawn
-    requires { RowDrawable n k (length columns.old) (length values.old) from seed }
-    ensures { RowDrew n k from seed columns.old values.old result columns.new values.new }
-{
-    columns[from] = base::narrow(k);
-    values[from] = diagonal();
-    let first = Drawn {
-        end: from + 1,
-        seed,
-    };
-    let a = draw(n, columns, values, from, first);
-    let b = draw(n, columns, values, from, a);
-    draw(n, columns, values, from, b)
+    // Draws own row k: the diagonal, then three draws.
+    fn draw_row(self, n: u32, k: u32, columns: &mut [Index], values: &mut [f64]) -> Drawn
+        requires { RowDrawable n k (length columns.old) (length values.old) self }
+        ensures { RowDrew n k self columns.old values.old result columns.new values.new }
+    {
+        let from = self.end;
+        columns[from] = base::narrow(k);
+        values[from] = DIAGONAL;
+        let first = Drawn {
+            end: from + 1,
+            seed: self.seed,
+        };
+        let a = first.draw(n, columns, values, from);
+        let b = a.draw(n, columns, values, from);
+        b.draw(n, columns, values, from)
+    }
 }
 
 // Draws the rows one after another and answers how many entries they have.
@@ -114,17 +88,12 @@ fn draw_rows(
     ensures { RowsDrawn n seed result starts.new columns.new values.new }
 {
     starts[0] = 0;
-    let mut end: usize = 0;
-    let mut s = seed;
-    let mut k: usize = 0;
-    while k < n {
-        let row = draw_row(n as u32, k as u32, columns, values, end, s);
-        end = row.end;
-        s = row.seed;
-        k += 1;
-        starts[k] = end as u32;
+    let mut d = Drawn { end: 0, seed };
+    for k in 0..n {
+        d = d.draw_row(n as u32, k as u32, columns, values);
+        starts[k + 1] = d.end as u32;
     }
-    end
+    d.end
 }
 
 // Writes the order 0, 1, .. .
@@ -132,10 +101,8 @@ fn natural(order: &mut [Index])
     requires { length order.old ≤ max_rows }
     ensures { order.new ≡ table (λ (k : ℕ). k) (length order.old) }
 {
-    let mut k: usize = 0;
-    while k < order.len() {
-        order[k] = base::narrow(k as u32);
-        k += 1;
+    for (k, place) in order.iter_mut().enumerate() {
+        *place = base::narrow(k as u32);
     }
 }
 
@@ -143,11 +110,7 @@ fn natural(order: &mut [Index])
 fn ones(b: &mut [f64])
     ensures { b.new ≡ table (λ (k : ℕ). one) (length b.old) }
 {
-    let mut k: usize = 0;
-    while k < b.len() {
-        b[k] = 1.0;
-        k += 1;
-    }
+    b.fill(1.0);
 }
 
 // Makes the test load of n rows from a seed: its rows, the orders 0, 1, .., and a right side of ones. Answers how many
@@ -161,12 +124,12 @@ pub fn test_load(
     r: &mut [Index],
     c: &mut [Index],
     b: &mut [f64],
-) -> Made
+) -> Result<usize, Refusal>
     ensures { left result (matrix_lists starts.new columns.new values.new r.new c.new b.new)
         ≡ load_outcome n seed (matrix_lists starts.old columns.old values.old r.old c.old b.old) }
 {
     if !Matrix::rows_within(n) {
-        return Made::Refused(Refusal::Rows);
+        return Err(Refusal::Rows);
     }
     if !Matrix::lengths_right(
         n,
@@ -178,13 +141,13 @@ pub fn test_load(
         c.len(),
         b.len(),
     ) {
-        return Made::Refused(Refusal::Lengths);
+        return Err(Refusal::Lengths);
     }
-    base::clear_index(columns);
-    base::clear_f64(values);
+    base::clear(columns);
+    base::clear(values);
     let entries = draw_rows(n, seed as u32, starts, columns, values);
     natural(r);
     natural(c);
     ones(b);
-    Made::Entries(entries)
+    Ok(entries)
 }

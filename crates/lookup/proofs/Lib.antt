@@ -1,1 +1,2 @@
+pub mod StoredLaws
 pub mod Witness

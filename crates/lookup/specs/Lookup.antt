@@ -9,6 +9,7 @@ use Rattle.base.specs.declared.Side.TheVariants.{Lower, Upper}
 use Rattle.base.specs.Index.{index_bytes}
 use Rattle.base.specs.Limits.{rows_within, max_slots}
 use Rattle.lookup.specs.declared.Span.{Span}
+use Rattle.lookup.specs.declared.StoredLists.{StoredLists}
 
 -- what is lent of one side; the plain form's runs start where its lists do
 pub record SideLists : Type 0 where
@@ -18,6 +19,10 @@ pub record SideLists : Type 0 where
 
 abbrev pub side_lists : List ℕ → List ℕ → List ℕ → SideLists
 side_lists s r i = record { starts = s; runs = r; index = i }
+
+-- as the code holds them
+abbrev pub lists_of : StoredLists → SideLists
+lists_of l = side_lists l.starts.now l.runs.now l.index.now
 
 abbrev pub of_side : {A : Type 0} → Side → A → A → A
 of_side Lower l u = l

@@ -4,7 +4,7 @@
 ghost use Rattle.std.specs.Prelude.{◌≡◌, ◌<◌, ◌≤◌, length};
 ghost use Rattle.base.specs.Limits.{max_rows};
 ghost use Rattle.base.specs.declared.Form as forms;
-ghost use Rattle.lookup.specs.Lookup.{SideLent, side_lists, of_side, run_starts, sized, run_span, span_of, span_in, Inside, PartOf, lookup};
+ghost use Rattle.lookup.specs.Lookup.{SideLent, side_lists, of_side, lists_of, run_starts, sized, run_span, span_of, span_in, Inside, PartOf, lookup};
 
 use base::{Form, Index, Place, Side, slot};
 use matrix::Matrix;
@@ -14,6 +14,33 @@ use matrix::Matrix;
 pub struct Span {
     pub from: usize,
     pub to: usize,
+}
+
+impl Span {
+    // No slot, at a store's start.
+    const NONE: Span = Span { from: 0, to: 0 };
+
+    // A run of b - a slots, where the list starts do not fall and the run stands in its store; else none.
+    fn of_run(a: usize, b: usize, run: usize, slots: usize) -> Span
+        requires { (b < 4294967296) × (run < 4294967296) }
+        ensures { result ≡ run_span a b run slots }
+    {
+        if a <= b && run + (b - a) <= slots {
+            return Span {
+                from: run,
+                to: run + (b - a),
+            };
+        }
+        Span::NONE
+    }
+
+    // Hands back the slots of a store.
+    fn part(self, store: &[Index]) -> &[Index]
+        requires { Inside self (length store.now) }
+        ensures { PartOf store.entry self result }
+    {
+        &store[self.from..self.to]
+    }
 }
 
 // How many run starts a form has; the plain form's are its list starts.
@@ -28,86 +55,110 @@ fn run_starts(form: Form, n: usize) -> usize
     }
 }
 
-// Tells whether n is within its limits and the lengths of one side are as stated.
-fn side_fits(form: Form, n: usize, starts: &[u32], runs: &[u32], index: &[Index]) -> bool
-    ensures { result ≡ sized form n (side_lists starts.now runs.now index.now) }
-{
-    if Matrix::rows_within(n) {
-        return (starts.len() == n + 1)
-            & (runs.len() == run_starts(form, n))
-            & (index.len() <= Matrix::MAX_SLOTS);
-    }
-    false
+// What is lent of one side.
+#[derive(Clone, Copy)]
+struct StoredLists<'s, 'a> {
+    starts: &'s [u32],
+    runs: &'s [u32],
+    index: &'a [Index],
 }
 
-// A run of b - a slots, where the list starts do not fall and the run stands in its store; else the store's start.
-fn run_span(a: usize, b: usize, run: usize, slots: usize) -> Span
-    requires { (b < 4294967296) × (run < 4294967296) }
-    ensures { result ≡ run_span a b run slots }
-{
-    if a <= b {
-        if run + (b - a) <= slots {
-            return Span {
-                from: run,
-                to: run + (b - a),
-            };
-        }
+impl<'s, 'a> StoredLists<'s, 'a> {
+    // Tells whether n is within its limits and the side's lengths are as stated.
+    fn fits(self, form: Form, n: usize) -> bool
+        ensures { result ≡ sized form n (lists_of self.entry) }
+    {
+        Matrix::rows_within(n)
+            && self.starts.len() == n + 1
+            && self.runs.len() == run_starts(form, n)
+            && self.index.len() <= Matrix::MAX_SLOTS
     }
-    Span { from: 0, to: 0 }
-}
 
-// The span of the list at a place; the store's start where the lengths do not fit or the place is not below n.
-fn list_span(fit: bool, k: Place, n: usize, starts: &[u32], runs: &[u32], index: &[Index]) -> Span
-    requires { SideLent fit n starts.now runs.now }
-    ensures { result ≡ span_of fit k n (side_lists starts.now runs.now index.now) }
-{
-    let at = slot(k.0);
-    if fit {
-        if at < n {
-            return run_span(
-                slot(starts[at]),
-                slot(starts[at + 1]),
-                slot(runs[at]),
-                index.len(),
+    // The span of the list at a place; none where the lengths do not fit or the place is not below n.
+    fn span(self, fit: bool, k: Place, n: usize) -> Span
+        requires { SideLent fit n self.starts.now self.runs.now }
+        ensures { result ≡ span_of fit k n (lists_of self.entry) }
+    {
+        let at = slot(k.0);
+        if fit && at < n {
+            return Span::of_run(
+                slot(self.starts[at]),
+                slot(self.starts[at + 1]),
+                slot(self.runs[at]),
+                self.index.len(),
             );
         }
+        Span::NONE
     }
-    Span { from: 0, to: 0 }
 }
 
-// Where the list of a side at a place stands in that side's index store.
-fn span_of(
+// Both sides of a structure in a form.
+#[derive(Clone, Copy)]
+struct Stored<'s, 'a> {
     form: Form,
-    side: Side,
-    k: Place,
     n: usize,
-    lower_starts: &[u32],
-    lower_runs: &[u32],
-    lower_index: &[Index],
-    upper_starts: &[u32],
-    upper_runs: &[u32],
-    upper_index: &[Index],
-) -> Span
-    ensures { result ≡ span_in form side k n (side_lists lower_starts.now lower_runs.now lower_index.now) (side_lists upper_starts.now upper_runs.now upper_index.now) }
-{
-    let fit = side_fits(form, n, lower_starts, lower_runs, lower_index)
-        & side_fits(form, n, upper_starts, upper_runs, upper_index);
-    match side {
-        Side::Lower => list_span(fit, k, n, lower_starts, lower_runs, lower_index),
-        Side::Upper => list_span(fit, k, n, upper_starts, upper_runs, upper_index),
-    }
+    lower: StoredLists<'s, 'a>,
+    upper: StoredLists<'s, 'a>,
 }
 
-// The slots of a span of the store that a side names.
-fn part<'a>(side: Side, s: Span, lower: &'a [Index], upper: &'a [Index]) -> &'a [Index]
-    requires { Inside s (length (of_side side lower upper).now) }
-    ensures { PartOf (of_side side lower.entry upper.entry) s result }
-{
-    let from = s.from;
-    let to = s.to;
-    match side {
-        Side::Lower => &lower[from..to],
-        Side::Upper => &upper[from..to],
+impl<'s, 'a> Stored<'s, 'a> {
+    // The plain form, whose runs start where its lists do.
+    fn plain(
+        n: usize,
+        lower_starts: &'s [u32],
+        lower_index: &'a [Index],
+        upper_starts: &'s [u32],
+        upper_index: &'a [Index],
+    ) -> Stored<'s, 'a>
+        ensures { result ≡ record {
+          form = forms.Form.Plain;
+          n = n;
+          lower = record { starts = lower_starts.entry; runs = lower_starts.entry; index = lower_index.entry };
+          upper = record { starts = upper_starts.entry; runs = upper_starts.entry; index = upper_index.entry };
+        } }
+    {
+        Stored {
+            form: Form::Plain,
+            n,
+            lower: StoredLists {
+                starts: lower_starts,
+                runs: lower_starts,
+                index: lower_index,
+            },
+            upper: StoredLists {
+                starts: upper_starts,
+                runs: upper_starts,
+                index: upper_index,
+            },
+        }
+    }
+
+    // The lists of a side.
+    fn named(self, side: Side) -> StoredLists<'s, 'a>
+        ensures { result ≡ of_side side self.entry.lower self.entry.upper }
+    {
+        match side {
+            Side::Lower => self.lower,
+            Side::Upper => self.upper,
+        }
+    }
+
+    // Where the list of a side at a place stands in that side's index store.
+    fn span(self, side: Side, k: Place) -> Span
+        ensures { result ≡ span_in self.entry.form side k self.entry.n (lists_of self.entry.lower) (lists_of self.entry.upper) }
+    {
+        let fit = self.lower.fits(self.form, self.n) & self.upper.fits(self.form, self.n);
+        let lists = self.named(side);
+        lists.span(fit, k, self.n)
+    }
+
+    // Hands back that list, as the part of its store that holds it.
+    fn list(self, side: Side, k: Place) -> &'a [Index]
+        ensures listed { result.now ≡ lookup self.entry.form side k self.entry.n (lists_of self.entry.lower) (lists_of self.entry.upper) }
+        ensures part_of { PartOf (of_side side self.entry.lower.index self.entry.upper.index) (span_in self.entry.form side k self.entry.n (lists_of self.entry.lower) (lists_of self.entry.upper)) result }
+    {
+        let lists = self.named(side);
+        self.span(side, k).part(lists.index)
     }
 }
 
@@ -123,18 +174,8 @@ pub fn span_plain(
 ) -> Span
     ensures { result ≡ span_in forms.Form.Plain side k n (side_lists lower_starts.now lower_starts.now lower_index.now) (side_lists upper_starts.now upper_starts.now upper_index.now) }
 {
-    span_of(
-        Form::Plain,
-        side,
-        k,
-        n,
-        lower_starts,
-        lower_starts,
-        lower_index,
-        upper_starts,
-        upper_starts,
-        upper_index,
-    )
+    let stored = Stored::plain(n, lower_starts, lower_index, upper_starts, upper_index);
+    stored.span(side, k)
 }
 
 // Tells the same in the shared form.
@@ -151,18 +192,21 @@ pub fn span_shared(
 ) -> Span
     ensures { result ≡ span_in forms.Form.Shared side k n (side_lists lower_starts.now lower_runs.now lower_index.now) (side_lists upper_starts.now upper_runs.now upper_index.now) }
 {
-    span_of(
-        Form::Shared,
-        side,
-        k,
+    let stored = Stored {
+        form: Form::Shared,
         n,
-        lower_starts,
-        lower_runs,
-        lower_index,
-        upper_starts,
-        upper_runs,
-        upper_index,
-    )
+        lower: StoredLists {
+            starts: lower_starts,
+            runs: lower_runs,
+            index: lower_index,
+        },
+        upper: StoredLists {
+            starts: upper_starts,
+            runs: upper_runs,
+            index: upper_index,
+        },
+    };
+    stored.span(side, k)
 }
 
 // Hands back the list of a side at a place in the plain form, as the part of its store that holds it.
@@ -175,19 +219,11 @@ pub fn list_plain<'a>(
     upper_starts: &[u32],
     upper_index: &'a [Index],
 ) -> &'a [Index]
-    ensures result_value { result.now ≡ lookup forms.Form.Plain side k n (side_lists lower_starts.now lower_starts.now lower_index.now) (side_lists upper_starts.now upper_starts.now upper_index.now) }
+    ensures listed { result.now ≡ lookup forms.Form.Plain side k n (side_lists lower_starts.now lower_starts.now lower_index.now) (side_lists upper_starts.now upper_starts.now upper_index.now) }
     ensures part_of { PartOf (of_side side lower_index.entry upper_index.entry) (span_in forms.Form.Plain side k n (side_lists lower_starts.now lower_starts.now lower_index.now) (side_lists upper_starts.now upper_starts.now upper_index.now)) result }
 {
-    let s = span_plain(
-        side,
-        k,
-        n,
-        lower_starts,
-        lower_index,
-        upper_starts,
-        upper_index,
-    );
-    part(side, s, lower_index, upper_index)
+    let stored = Stored::plain(n, lower_starts, lower_index, upper_starts, upper_index);
+    stored.list(side, k)
 }
 
 // Hands back the same in the shared form.
@@ -202,19 +238,22 @@ pub fn list_shared<'a>(
     upper_runs: &[u32],
     upper_index: &'a [Index],
 ) -> &'a [Index]
-    ensures result_value { result.now ≡ lookup forms.Form.Shared side k n (side_lists lower_starts.now lower_runs.now lower_index.now) (side_lists upper_starts.now upper_runs.now upper_index.now) }
+    ensures listed { result.now ≡ lookup forms.Form.Shared side k n (side_lists lower_starts.now lower_runs.now lower_index.now) (side_lists upper_starts.now upper_runs.now upper_index.now) }
     ensures part_of { PartOf (of_side side lower_index.entry upper_index.entry) (span_in forms.Form.Shared side k n (side_lists lower_starts.now lower_runs.now lower_index.now) (side_lists upper_starts.now upper_runs.now upper_index.now)) result }
 {
-    let s = span_shared(
-        side,
-        k,
+    let stored = Stored {
+        form: Form::Shared,
         n,
-        lower_starts,
-        lower_runs,
-        lower_index,
-        upper_starts,
-        upper_runs,
-        upper_index,
-    );
-    part(side, s, lower_index, upper_index)
+        lower: StoredLists {
+            starts: lower_starts,
+            runs: lower_runs,
+            index: lower_index,
+        },
+        upper: StoredLists {
+            starts: upper_starts,
+            runs: upper_runs,
+            index: upper_index,
+        },
+    };
+    stored.list(side, k)
 }

@@ -12,7 +12,7 @@ ghost use Rattle.marks.specs.Rows.{Loaded, Closing, UpperListed, Renewed, Counta
 ghost use Rattle.base.specs.Scratch.{blocks_from, upper_cuts, list_from};
 ghost use Rattle.base.specs.Limits.{max_rows};
 
-use base::{Index, Place, scratch};
+use base::{Index, OwnNumber, Place, scratch};
 
 // Adds place j to the set.
 pub fn mark(marks: &mut [u32], n: usize, stamp: u32, j: usize)
@@ -29,38 +29,21 @@ fn merge_list(marks: &mut [u32], n: usize, stamp: u32, list: &[Index])
     requires room { Room n marks.old }
     ensures { marks.new ≡ stamped n stamp marks.old list.now }
 {
-    let mut p = 0;
-    while p < list.len() {
-        let j = base::wide(list[p]);
-        mark(marks, n, stamp, j);
-        p += 1;
+    for &j in list {
+        mark(marks, n, stamp, base::wide(j));
     }
-}
-
-// Where the block of j ends, or `end` if that is before.
-fn block_end(j: usize, end: usize) -> usize
-    requires { (j < end) × (end ≤ max_rows) }
-    ensures { (j < result) × (result ≤ end) × (result ≤ (j / 64 + 1) * 64) }
-{
-    let stop = (j / 64 + 1) * 64;
-    if stop < end {
-        return stop;
-    }
-    end
 }
 
 // Where the next stamped block behind that of j begins, or `end` if that is before. The block of j is not stamped.
 fn next_block(marks: &[u32], n: usize, stamp: u32, j: usize, end: usize) -> usize
-    requires j_lt_end { (j < end) × (end ≤ n) × Room n marks.now }
-    requires fact { get_or marks.now (blocks_from n + j / 64) 0 ≡ stamp → ⊥ }
+    requires room { (j < end) × (end ≤ n) × Room n marks.now }
+    requires bare { get_or marks.now (blocks_from n + j / 64) 0 ≡ stamp → ⊥ }
     ensures { Bare n stamp marks.now j end result }
 {
-    let mut b = j / 64 + 1;
-    while b * 64 < end {
+    for b in j / 64 + 1..end.div_ceil(64) {
         if marks[scratch::BLOCKS * n + b] == stamp {
             return b * 64;
         }
-        b += 1;
     }
     end
 }
@@ -78,29 +61,28 @@ fn gather_block(
     ensures { (result ≡ had + length (members stamp marks.old from end)) × (marks.new ≡ sets marks.old (at + had) (members stamp marks.old from end)) }
 {
     let mut count = had;
-    let mut q = from;
-    while q < end {
+    for q in from..end {
         if marks[q] == stamp {
             marks[at + count] = q as u32;
             count += 1;
         }
-        q += 1;
     }
     count
 }
 
 // Writes the members from `from` up to `end`, ascending, from slot `at` on and answers how many they are.
 fn gather(marks: &mut [u32], n: usize, stamp: u32, from: usize, end: usize, at: usize) -> usize
-    requires from_le_end { (from ≤ end) × (end ≤ n) × Room n marks.old }
-    requires n_bound { (upper_cuts n ≤ at) × (at + (end - from) ≤ length marks.old) }
+    requires bounds { (from ≤ end) × (end ≤ n) × Room n marks.old }
+    requires space { (upper_cuts n ≤ at) × (at + (end - from) ≤ length marks.old) }
     requires blocks { Blocks n stamp marks.old }
     ensures { (result ≡ length (members stamp marks.old from end)) × (marks.new ≡ sets marks.old at (members stamp marks.old from end)) }
 {
+    // A `for` over the blocks makes each bare one three times as dear: both ends of a block are computed before its stamp is read.
     let mut count = 0;
     let mut j = from;
     while j < end {
         if marks[scratch::BLOCKS * n + j / 64] == stamp {
-            let stop = block_end(j, end);
+            let stop = end.min((j / 64 + 1) * 64);
             count = gather_block(marks, stamp, j, stop, at, count);
             j = stop;
         } else {
@@ -117,11 +99,9 @@ pub fn load_row(marks: &mut [u32], n: usize, stamp: u32, cols: &[Index])
     requires order { Order n marks.old }
     ensures { marks.new ≡ stamped n stamp marks.old (placed (order_of n marks.old) cols.now) }
 {
-    let mut q = 0;
-    while q < cols.len() {
-        let j = lent::entry_place(n, marks, cols, q);
-        mark(marks, n, stamp, j);
-        q += 1;
+    for &column in cols {
+        let place = lent::place_of(n, marks, OwnNumber(base::number(column)));
+        mark(marks, n, stamp, place.0 as usize);
     }
 }
 
@@ -172,18 +152,16 @@ fn merge_block(
     index: &[Index],
 ) -> usize
     requires parts { Parts n end marks.old cuts runs.now index.now }
-    requires had_le_from { (had ≤ from) × (from ≤ end) × (end ≤ n) × Base n cuts × Room n marks.old }
+    requires bounds { (had ≤ from) × (from ≤ end) × (end ≤ n) × Base n cuts × Room n marks.old }
     ensures { GoesOn n stamp cuts runs.now index.now marks.old from had marks.new end result }
 {
     let mut count = had;
-    let mut i = from;
-    while i < end {
+    for i in from..end {
         if marks[i] == stamp {
             marks[scratch::LIST * n + count] = i as u32;
             count += 1;
             merge_run(marks, n, stamp, i, cuts, runs, index);
         }
-        i += 1;
     }
     count
 }
@@ -200,19 +178,15 @@ fn merge_lower(
     index: &[Index],
 ) -> usize
     requires parts { Parts n k marks.old cuts runs.now index.now }
-    requires k_le_n { (k ≤ n) × Base n cuts × Room n marks.old }
+    requires bounds { (k ≤ n) × Base n cuts × Room n marks.old }
     requires blocks { Blocks n stamp marks.old }
     ensures { Merged n stamp k (part_at marks.old cuts runs.now index.now) marks.old marks.new result }
 {
     let mut count = 0;
-    let mut i = 0;
-    while i < k {
-        if marks[scratch::BLOCKS * n + i / 64] == stamp {
-            let stop = block_end(i, k);
-            count = merge_block(marks, n, stamp, i, stop, count, cuts, runs, index);
-            i = stop;
-        } else {
-            i = next_block(marks, n, stamp, i, k);
+    for b in 0..k.div_ceil(64) {
+        if marks[scratch::BLOCKS * n + b] == stamp {
+            let end = k.min(b * 64 + 64);
+            count = merge_block(marks, n, stamp, b * 64, end, count, cuts, runs, index);
         }
     }
     count
@@ -222,14 +196,12 @@ fn merge_lower(
 fn reach_of(list: &[Index], k: usize) -> usize
     ensures { (result ≡ upto k list.now) × (result ≤ length list.now) }
 {
-    let mut p = 0;
-    while p < list.len() {
-        if base::wide(list[p]) == k {
+    for (p, &x) in list.iter().enumerate() {
+        if base::wide(x) == k {
             return p + 1;
         }
-        p += 1;
     }
-    p
+    list.len()
 }
 
 // Place k meets list i: if it is not yet cut and has k, it is cut behind k.
@@ -264,17 +236,15 @@ fn close_cuts(
     runs: &[u32],
     index: &[Index],
 )
-    requires by_index { (i : ℕ) → i < k → ListIn starts.now runs.now (length index.now) i }
-    requires k_lt_n { (k < n) × Base n cuts × Room n marks.old }
+    requires lists { (i : ℕ) → i < k → ListIn starts.now runs.now (length index.now) i }
+    requires bounds { (k < n) × Base n cuts × Room n marks.old }
     requires walk { Walk n k below marks.old }
     ensures { (stamp : ℕ) → take below (drop (list_from n) marks.old) ≡ members stamp marks.old 0 k
         → marks.new ≡ visited stamp (cut_one cuts k (list_at starts.now runs.now index.now)) 0 k marks.old }
 {
-    let mut p = 0;
-    while p < below {
+    for p in 0..below {
         let i = base::slot(marks[scratch::LIST * n + p]);
         cut_list(marks, k, i, cuts, starts, runs, index);
-        p += 1;
     }
 }
 
@@ -298,7 +268,7 @@ pub fn load_row_place(
     columns: &[Index],
     r: &[Index],
 )
-    requires k_in_bounds { (k.0 < length r.now) × Room n marks.old }
+    requires bounds { (k.0 < length r.now) × Room n marks.old }
     requires list_in { ListIn starts.now starts.now (length columns.now) (get_or r.now k.0 0) }
     requires below { Below n (row_of starts.now columns.now (get_or r.now k.0 0)) }
     requires order { Order n marks.old }
@@ -321,7 +291,7 @@ pub fn close_place(
     index: &[Index],
 ) -> usize
     requires parts { Parts n k.0 marks.old cuts runs.now index.now }
-    requires k_lt_n { (k.0 < n) × Base n cuts × Room n marks.old }
+    requires bounds { (k.0 < n) × Base n cuts × Room n marks.old }
     requires blocks { Blocks n stamp marks.old }
     ensures { Closing n stamp k.0 cuts runs.now index.now marks.old marks.new result }
 {
@@ -333,7 +303,7 @@ pub fn close_place(
 pub fn has_diagonal(marks: &[u32], stamp: u32, k: Place) -> bool
     requires { k.0 < length marks.now }
     ensures value { result ≡ marked stamp marks.now k.0 }
-    ensures by_index { (n : ℕ) (P : Pattern) → k.0 < n → Holds n stamp marks.now (filled P k.0) → result ≡ filled P k.0 k.0 }
+    ensures filled { (n : ℕ) (P : Pattern) → k.0 < n → Holds n stamp marks.now (filled P k.0) → result ≡ filled P k.0 k.0 }
 {
     let i = k.0 as usize;
     marks[i] == stamp
@@ -341,7 +311,7 @@ pub fn has_diagonal(marks: &[u32], stamp: u32, k: Place) -> bool
 
 // Writes T(k) behind lower row k, which has `below` entries.
 pub fn list_upper(marks: &mut [u32], n: usize, stamp: u32, k: Place, below: usize) -> usize
-    requires k_lt_n { (k.0 < n) × (below ≤ k.0) × Room n marks.old }
+    requires bounds { (k.0 < n) × (below ≤ k.0) × Room n marks.old }
     requires blocks { Blocks n stamp marks.old }
     ensures { (P : Pattern) → Holds n stamp marks.old (filled P k.0) → UpperListed P n k.0 below marks.old marks.new result }
 {
@@ -360,8 +330,8 @@ pub fn renew_cuts(
     runs: &[u32],
     index: &[Index],
 )
-    requires by_index { (i : ℕ) → i < k.0 + 1 → ListIn starts.now runs.now (length index.now) i }
-    requires k_lt_n { (k.0 < n) × Base n cuts × Room n marks.old }
+    requires lists { (i : ℕ) → i < k.0 + 1 → ListIn starts.now runs.now (length index.now) i }
+    requires bounds { (k.0 < n) × Base n cuts × Room n marks.old }
     requires walk { Walk n k.0 below marks.old }
     ensures { (stamp : ℕ) → take below (drop (list_from n) marks.old) ≡ members stamp marks.old 0 k.0
         → Renewed n stamp k.0 cuts starts.now runs.now index.now marks.old marks.new }
@@ -377,11 +347,9 @@ pub fn row_products(list: &[u32], starts: &[u32]) -> u64
     ensures { result ≡ total (map (length_in starts.now) list.now) }
 {
     let mut sum: u64 = 0;
-    let mut p = 0;
-    while p < list.len() {
-        let i = base::slot(list[p]);
-        sum += lent::list_length(starts, i) as u64;
-        p += 1;
+    for &i in list {
+        let at = base::slot(i);
+        sum += lent::list_length(starts, at) as u64;
     }
     sum
 }

@@ -1,5 +1,6 @@
 -- Orders: their entries are below n, no number stands twice, every number below n stands at its place.
-use Rattle.std.specs.Prelude.{◌≡◌, false, cond, List, ℕ, zero, suc, ◌-◌, ◌≤◌, ◌<◌, leb, ltb, ◌≢◌}
+use Rattle.base.specs.Answers.{Found}
+use Rattle.std.specs.Prelude.{◌≡◌, false, cond, List, ℕ, zero, suc, ◌-◌, ◌≤◌, ◌<◌, leb, ltb, ◌≢◌, Some, None}
 use Rattle.std.proofs.Math.Path.{refl, ap}
 use native.Mathlib.Omega.{arith}
 use Rattle.std.proofs.Common.{not-suc-le-zero}
@@ -11,8 +12,6 @@ use Rattle.base.specs.FirstLaws.{first-at, first_found, first-none, is_at-none}
 use Rattle.base.specs.Tests.{or-false}
 use Rattle.matrix.specs.Input.{is_of, index_of, ic}
 use Rattle.matrix.specs.Questions.{bad_index, IsOrder}
-use Rattle.base.specs.declared.Found.{Found}
-use Rattle.base.specs.declared.Found.TheVariants.{At, Nothing}
 
 -- an order's entries are below n
 pub order_below : (o : List ℕ) (n : ℕ) → IsOrder o n → (k : ℕ) → k < n → get_or o k 0 < n
@@ -25,7 +24,7 @@ unfolding IsOrder bad_index
 order-fresh o n h k l = (or-false (leb n (get_or o k 0)) _ (first-none (bad_index o n) n h k l)).1
 
 module _ (o : List ℕ) (n : ℕ) (order : IsOrder o n) where
-  before : (k : ℕ) → k < n → first (is_of o (get_or o k 0)) k ≡ Nothing
+  before : (k : ℕ) → k < n → first (is_of o (get_or o k 0)) k ≡ None
   before k l = is_at-none _ (order-fresh o n order k l)
 
   -- no number stands twice
@@ -78,7 +77,7 @@ pigeon (suc n) (suc m) f b d =
     omega arith
 
 module _ (o : List ℕ) (n : ℕ) (order : IsOrder o n) where
-  missed : (j : ℕ) → j < n → first (is_of o j) n ≡ Nothing → ⊥
+  missed : (j : ℕ) → j < n → first (is_of o j) n ≡ None → ⊥
   unfolding is_of
   missed j l h =
       let off : (i : ℕ) → i < n → get_or o i 0 ≢ j = λ i b. eqb-false (get_or o i 0) j (first-none (is_of o j) n h i b) in
@@ -93,7 +92,7 @@ module _ (o : List ℕ) (n : ℕ) (order : IsOrder o n) where
   place-hits j l = go (first (is_of o j) n) refl
     where
       go : (f : Found) → first (is_of o j) n ≡ f → (ic o n j < n) × (get_or o (ic o n j) 0 ≡ j)
-      go (At k) e =
+      go (Some k) e =
           let h = first_found (is_of o j) n k e in
           rw e (h.0, eqb-true (get_or o k 0) j h.1)
-      go Nothing e = absurd (missed j l e)
+      go None e = absurd (missed j l e)

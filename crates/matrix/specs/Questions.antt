@@ -1,13 +1,11 @@
 -- Questions 3 to 7 and 19, each by itself: a test of every index, of which `first` takes the first that holds; 19 is one test. Definitions only.
-use Rattle.std.specs.Prelude.{◌≡◌, Bool, not, ◌&&◌, ◌||◌, List, ℕ, ◌+◌, length, get_or, leb, ltb, eqb, Float}
+use Rattle.std.specs.Prelude.{◌≡◌, Bool, not, ◌&&◌, ◌||◌, List, ℕ, ◌+◌, length, get_or, leb, ltb, eqb, Float, None}
 use Rattle.std.specs.Float.{nan}
 use Rattle.std.specs.Float.Ieee.Scale.{finite}
 use Rattle.base.specs.Magnitude.{is_floor}
 use Rattle.base.specs.First.{first, is_at}
-use Rattle.base.specs.Answers.{own, holds, absent, and_then}
-use Rattle.base.specs.declared.Found.TheVariants.{Nothing}
+use Rattle.base.specs.Answers.{own, holds, absent, and_then, Asked}
 use Rattle.base.specs.declared.Refusal.TheVariants.{Starts, Column, Order, NotFinite, EmptyRow, Floor}
-use Rattle.base.specs.declared.Asked.{Asked}
 use Rattle.matrix.specs.Input.{Input, is_of}
 
 -- 3: the starts fall after row i, or it is row 0 and they do not begin at 0, or it is the last row and they do not end at e
@@ -38,7 +36,7 @@ empty_row s r k = no_entry s (get_or r k 0)
 
 -- o is an order of 0 to n - 1: no index of it is at fault
 unfoldable pub IsOrder : List ℕ → ℕ → Type 0
-IsOrder o n = first (bad_index o n) n ≡ Nothing
+IsOrder o n = first (bad_index o n) n ≡ None
 
 -- ---- the questions
 

@@ -6,20 +6,27 @@ ghost use Rattle.base.specs.Limits.{max_rows, max_entries, max_slots, rows_withi
 ghost use Rattle.matrix.specs.Lists.{lengths_right};
 ghost use Rattle.matrix.specs.Shape.{shape_of};
 
-use base::Refusal;
+use base::{Index, Refusal};
+
+// A matrix, its orders, a right side and a floor under pivots, as they are lent: row i has the own columns and the values
+// from starts[i] to starts[i + 1], r and c are the orders of rows and columns. What a call doesn't read may be empty.
+#[derive(Clone, Copy)]
+pub struct System<'a> {
+    pub n: usize,
+    pub starts: &'a [u32],
+    pub columns: &'a [Index],
+    pub values: &'a [f64],
+    pub r: &'a [Index],
+    pub c: &'a [Index],
+    pub b: &'a [f64],
+    pub floor: f64,
+}
 
 // The shape of a matrix: its rows and its entries.
 #[derive(Clone, Copy)]
 pub struct Matrix {
     pub rows: usize,
     pub entries: usize,
-}
-
-// A shape within the limits, or why not.
-#[derive(Clone, Copy)]
-pub enum Shaped {
-    Shape(Matrix),
-    Unshaped(Refusal),
 }
 
 // The greatest n, e and number of slots of a store.
@@ -61,19 +68,19 @@ impl Matrix {
     }
 
     // Makes the shape of n rows and e entries: refusal 1 for n, 2 for e.
-    pub fn new(n: usize, e: usize) -> Shaped
+    pub fn new(n: usize, e: usize) -> Result<Matrix, Refusal>
         ensures { result ≡ shape_of n e }
     {
         if Self::rows_within(n) {
             if e <= Self::MAX_ENTRIES {
-                return Shaped::Shape(Matrix {
+                return Ok(Matrix {
                     rows: n,
                     entries: e,
                 });
             }
-            return Shaped::Unshaped(Refusal::Lengths);
+            return Err(Refusal::Lengths);
         }
-        Shaped::Unshaped(Refusal::Rows)
+        Err(Refusal::Rows)
     }
 
     // Gives the constants, which are those that the definitions name.

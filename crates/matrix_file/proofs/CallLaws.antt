@@ -1,4 +1,6 @@
 -- The ways through the three calls, and what passed questions tell.
+use Rattle.matrix.specs.Shape.{Shaped}
+use Rattle.std.specs.Prelude.{Ok, Err}
 use mathlib.Core.Path.{◌≡◌, refl, sym, ap, ◌∙◌}
 use mathlib.Core.Bool.{Bool, true, false, not, ◌&&◌}
 use mathlib.Core.List.{List, [], ◌∷◌, ◌++◌, append-nil, append_assoc}
@@ -11,18 +13,13 @@ use lib.Ieee.{Float}
 use Rattle.base.specs.Lists.{table}
 use Rattle.base.specs.Tests.{and_cases}
 use Rattle.base.specs.FirstLaws.{both-pass, holds-pass}
-use Rattle.base.specs.Answers.{holds, and_then, left}
-use Rattle.base.specs.declared.Asked.{Asked}
-use Rattle.base.specs.declared.Asked.TheVariants.{Pass, Stop}
-use Rattle.base.specs.declared.Ended.TheVariants.{Done, Refused}
+use Rattle.base.specs.Answers.{holds, and_then, left, Pass, Asked}
 use Rattle.base.specs.declared.Refusal.{Refusal}
 use Rattle.base.specs.declared.Refusal.TheVariants.{Rows, Lengths, FileShape}
 use Rattle.base.specs.Limits.{max_rows, max_entries, rows_within}
 use Rattle.matrix.specs.Input.{Input}
 use Rattle.matrix.specs.ListsLaws.{Long, long-lists, rows-range}
 use Rattle.matrix.specs.declared.Matrix.{Matrix}
-use Rattle.matrix.specs.declared.Shaped.{Shaped}
-use Rattle.matrix.specs.declared.Shaped.TheVariants.{Shape, Unshaped}
 use Rattle.fields.specs.Numbers.{bytes, fields, part, stream}
 use Rattle.fields.specs.Payload.{room, payloads, fields_at, floats_at}
 use Rattle.fields.proofs.PartLaws.{stream-append}
@@ -39,14 +36,14 @@ head-room file a e p = let w = asked-whole file (sym e ∙ p) in omega arith
 -- ---- the shape of a file
 
 module _ (file : List ℕ) (n e : ℕ) (a : Asked) (en : n ≡ n_of file) (ee : e ≡ e_of file) (ask : a ≡ ask_head file n e) where
-  pub head-pass : a ≡ Pass → Shape (record { rows = n; entries = e }) ≡ shaped (ask_head file (n_of file) (e_of file)) (shape_in file)
+  pub head-pass : a ≡ Pass → Ok (record { rows = n; entries = e }) ≡ shaped (ask_head file (n_of file) (e_of file)) (shape_in file)
   head-pass p = rw (← en, ← ee, ← ask, p)
 
-  pub head-stop : (q : Refusal) → a ≡ Stop q → Unshaped q ≡ shaped (ask_head file (n_of file) (e_of file)) (shape_in file)
+  pub head-stop : (q : Refusal) → a ≡ Err q → Err q ≡ shaped (ask_head file (n_of file) (e_of file)) (shape_in file)
   head-stop q p = rw (← en, ← ee, ← ask, p)
 
 module _ (file : List ℕ) (a : Asked) (ask : a ≡ ask_blocks file) where
-  pub shape-stop : (q : Refusal) → a ≡ Stop q → Unshaped q ≡ opened file
+  pub shape-stop : (q : Refusal) → a ≡ Err q → Err q ≡ opened file
   unfolding opened ask_file
   shape-stop q p = rw (← ask, p)
 
@@ -56,15 +53,15 @@ module _ (file : List ℕ) (a : Asked) (ask : a ≡ ask_blocks file) where
 
 -- ---- a file that opens
 
-shaped-pass : (a : Asked) (m m' : Matrix) → Shape m ≡ shaped a m' → (a ≡ Pass) × (m ≡ m')
-shaped-pass Pass m m' e = (refl, cc)
-shaped-pass (Stop q) m m' e = let z : ◌≡◌ {A = ℕ} 0 1 = cc in absurd (omega arith)
+shaped-pass : (a : Asked) (m m' : Matrix) → Ok m ≡ shaped a m' → (a ≡ Pass) × (m ≡ m')
+shaped-pass (Ok _) m m' e = (refl, cc)
+shaped-pass (Err q) m m' e = let z : ◌≡◌ {A = ℕ} 0 1 = cc in absurd (omega arith)
 
-shaped-stop : (a : Asked) (q : Refusal) (m : Matrix) → Unshaped q ≡ shaped a m → a ≡ Stop q
-shaped-stop (Stop p) q m e = cc
-shaped-stop Pass q m e = let z : ◌≡◌ {A = ℕ} 0 1 = cc in absurd (omega arith)
+shaped-stop : (a : Asked) (q : Refusal) (m : Matrix) → Err q ≡ shaped a m → a ≡ Err q
+shaped-stop (Err p) q m e = cc
+shaped-stop (Ok _) q m e = let z : ◌≡◌ {A = ℕ} 0 1 = cc in absurd (omega arith)
 
-pub opened-pass : (file : List ℕ) (m : Matrix) → Shape m ≡ opened file → (ask_file file ≡ Pass) × (m ≡ shape_in file)
+pub opened-pass : (file : List ℕ) (m : Matrix) → Ok m ≡ opened file → (ask_file file ≡ Pass) × (m ≡ shape_in file)
 unfolding opened
 opened-pass file m e = shaped-pass (ask_file file) m (shape_in file) e
 
@@ -94,25 +91,25 @@ fitting file p =
       count = eqb-true (length file / 512) (blocks_for (size_of (n_of file) (e_of file))) (and_cases (eqb (length file / 512) (blocks_for (size_of (n_of file) (e_of file)))) _ fits.1).0;
     }
 
-pub rows-most : (file : List ℕ) (f : Shaped) (m : Matrix) → f ≡ opened file → f ≡ Shape m → m.rows ≤ max_rows
+pub rows-most : (file : List ℕ) (f : Shaped) (m : Matrix) → f ≡ opened file → f ≡ Ok m → m.rows ≤ max_rows
 rows-most file f m o p =
     let q = opened-pass file m (sym p ∙ o) in rw (ap (λ (m : Matrix). m.rows) q.1) (fitting file q.0).n-most
 
 -- ---- reading
 
 module _ (file : List ℕ) (l : MatrixLists) (f : Shaped) (o : f ≡ opened file) where
-  pub read-stop : (q : Refusal) → f ≡ Unshaped q → left (Refused q) l ≡ read_outcome file l
+  pub read-stop : (q : Refusal) → f ≡ Err q → left (Err q) l ≡ read_outcome file l
   unfolding read_outcome ask_read opened
   read-stop q p = rw (shaped-stop (ask_file file) q (shape_in file) (sym p ∙ o))
 
-  module _ (m : Matrix) (p : f ≡ Shape m) (x : Bool) (ex : x ≡ lists_right m.rows m.entries l) where
+  module _ (m : Matrix) (p : f ≡ Ok m) (x : Bool) (ex : x ≡ lists_right m.rows m.entries l) where
     abbrev passed : (ask_file file ≡ Pass) × (m ≡ shape_in file)
     passed = opened-pass file m (sym p ∙ o)
 
     right_is : lists_right (n_of file) (e_of file) l ≡ x
     right_is = ap (λ (m : Matrix). lists_right m.rows m.entries l) (sym passed.1) ∙ sym ex
 
-    pub read-lengths : not x ≡ true → left (Refused Lengths) l ≡ read_outcome file l
+    pub read-lengths : not x ≡ true → left (Err Lengths) l ≡ read_outcome file l
     unfolding read_outcome ask_read
     read-lengths n = rw (passed.0, right_is, not-true x n)
 
@@ -124,27 +121,27 @@ module _ (file : List ℕ) (l : MatrixLists) (f : Shaped) (o : f ≡ opened file
 
     pub read_done : (l' : MatrixLists) → not x ≡ false
         → l' ≡ lists_at file (length l.starts) (length l.columns) (length l.values) (length l.r) (length l.c) (length l.b)
-        → left Done l' ≡ read_outcome file l
+        → left Pass l' ≡ read_outcome file l
     unfolding read_outcome ask_read matrix_at
     read_done l' n e =
         let g = long-are n in
         rw (passed.0, right_is, not-false x n)
-        (ap (λ (y : MatrixLists). left Done y) (e ∙ rw (g.starts-long, g.columns-long, g.values-long, g.r-long, g.c-long, g.b-long)))
+        (ap (λ (y : MatrixLists). left Pass y) (e ∙ rw (g.starts-long, g.columns-long, g.values-long, g.r-long, g.c-long, g.b-long)))
 
 -- ---- writing
 
 module _ (n e s v r c b len : ℕ) (x : Bool) (ex : x ≡ rows_within n) where
-  pub ask-1 : not x ≡ true → Stop Rows ≡ ask_lengths n e s v r c b len
+  pub ask-1 : not x ≡ true → Err Rows ≡ ask_lengths n e s v r c b len
   unfolding ask_lengths
   ask-1 p = then-no (rows_within n) x Rows _ ex p
 
   module _ (p : not x ≡ false) where
-    pub ask-18 : max_entries < e → Stop FileShape ≡ ask_lengths n e s v r c b len
+    pub ask-18 : max_entries < e → Err FileShape ≡ ask_lengths n e s v r c b len
     unfolding ask_lengths
     ask-18 l = rw (← ex, not-false x p, lt-leb e max_entries l)
 
     module _ (l : e ≤ max_entries) (y : Bool) (ey : y ≡ lengths_right n e s e v r c b) where
-      pub ask-2 : not (y && eqb len (file_length n e)) ≡ true → Stop Lengths ≡ ask_lengths n e s v r c b len
+      pub ask-2 : not (y && eqb len (file_length n e)) ≡ true → Err Lengths ≡ ask_lengths n e s v r c b len
       unfolding ask_lengths
       ask-2 q = rw (← ex, not-false x p, le-leb e max_entries l, ← ey, not-true (y && eqb len (file_length n e)) q)
 
@@ -181,11 +178,11 @@ module _ (i : Input) (len : ℕ) (p : ask_write i len ≡ Pass) where
   file-long = eqb-true len (file_length i.n e) both.1
 
 module _ (i : Input) (file : List ℕ) (a : Asked) (ask : a ≡ ask_write i (length file)) where
-  pub write-stop : (q : Refusal) → a ≡ Stop q → left (Refused q) file ≡ write_outcome i file
+  pub write-stop : (q : Refusal) → a ≡ Err q → left (Err q) file ≡ write_outcome i file
   unfolding write_outcome
   write-stop q p = rw (← ask, p)
 
-  pub write_done : (file' : List ℕ) → a ≡ Pass → file' ≡ written i → left Done file' ≡ write_outcome i file
+  pub write_done : (file' : List ℕ) → a ≡ Pass → file' ≡ written i → left Pass file' ≡ write_outcome i file
   unfolding write_outcome
   write_done file' p w = rw (← ask, p, w)
 

@@ -1,17 +1,17 @@
 -- The example's file opens to n = 2 and e = 4, holds the example's matrix, and is what that is written as: all computed.
+use Rattle.base.specs.Answers.{Pass}
+use Rattle.std.specs.Prelude.{Ok}
 use mathlib.Core.Path.{◌≡◌, refl}
 use lib.Ieee.{of_bits, to_bits}
 use Rattle.base.specs.Lists.{sum, table, joined, padded}
 use Rattle.base.specs.First.{first}
-use Rattle.base.specs.declared.Asked.TheVariants.{Pass}
-use Rattle.matrix.specs.declared.Shaped.TheVariants.{Shape}
 use Rattle.fields.specs.Numbers.{le, bytes, fields, stream}
 use Rattle.fields.specs.Payload.{fields_at, floats_at, marked}
 use Rattle.blocks.specs.Blocks.{check_a, check_b, right_block, wrong_block, ask_blocks, seal_block, file_of}
 use Rattle.matrix_file.specs.MatrixFile.{written, lists_at, matrix_at, ask_head, ask_file, opened, ask_lengths, ask_write}
 use Rattle.matrix_file.specs.Example.{example_matrix, example_file}
 
-pub example-opens : opened example_file ≡ Shape (record { rows = 2; entries = 4 })
+pub example-opens : opened example_file ≡ Ok (record { rows = 2; entries = 4 })
 unfolding opened ask_file ask_blocks ask_head first wrong_block right_block check_a check_b sum le marked example_file
 example-opens = refl
 

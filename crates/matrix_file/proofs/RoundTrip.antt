@@ -1,4 +1,7 @@
 -- What is written is read, what is read is written: the three theorems of the matrix file.
+use Rattle.std.specs.Prelude.{Ok}
+use Rattle.std.specs.declared.result.Result.{Result}
+use Rattle.base.specs.declared.Refusal.{Refusal}
 use mathlib.Core.Path.{◌≡◌, refl, sym, ap, ap₂, ◌∙◌}
 use mathlib.Core.Logic.{◌↔◌}
 use mathlib.Core.Bool.{true}
@@ -8,14 +11,11 @@ use native.Mathlib.Omega.{arith}
 use borrow.Author.Tests.{le-leb, eq-eqb}
 use lib.ListN.{length, get_or, length-map}
 use lib.Ieee.{binary64, of_bits}
-use Rattle.base.specs.Answers.{left}
+use Rattle.base.specs.Answers.{left, Pass}
 use Rattle.base.specs.Lists.{table}
-use Rattle.base.specs.declared.Asked.TheVariants.{Pass}
-use Rattle.base.specs.declared.Ended.TheVariants.{Done}
 use Rattle.base.specs.Limits.{max_rows, max_entries}
 use Rattle.matrix.specs.Input.{Input, input_of}
 use Rattle.matrix.specs.declared.Matrix.{Matrix}
-use Rattle.matrix.specs.declared.Shaped.TheVariants.{Shape}
 use Rattle.fields.specs.Numbers.{Part, stream, Span, span, spans_of, extent}
 use Rattle.fields.specs.Payload.{payload, fields_at, floats_at, parts_at}
 use Rattle.fields.proofs.WordLaws.{Binary64, Bytes, QuietAt, of-bits, bits_small, floats-fit, numbers_of, quiet-words, words-quiet}
@@ -151,9 +151,9 @@ module _ (file : List ℕ) (small : Bytes file) where
     unfolding matrix_at lists_at
     e-held = length-fields_at 2 file _ (e_of file)
 
-    shape-held : Shape (shape_of held) ≡ Shape (shape_in file)
+    shape-held : ◌≡◌ {A = Result Matrix Refusal} (Ok (shape_of held)) (Ok (shape_in file))
     unfolding matrix_at
-    shape-held = ap (λ (k : ℕ). Shape (record { rows = n_of file; entries = k })) e-held
+    shape-held = ap (λ (k : ℕ). Ok (record { rows = n_of file; entries = k })) e-held
 
     held-asked : ask_write held (length file) ≡ Pass
     unfolding matrix_at lists_at floats_at ask_write ask_lengths
@@ -209,27 +209,27 @@ module _ (file : List ℕ) (small : Bytes file) where
 -- ---- the theorems
 
 -- A matrix that passes the writer's questions is written to a file that opens to its shape and holds it: n and the six lists; a file has no floor.
-pub written_read : (i : Input) → Widths i → (len : ℕ) → ask_write i len ≡ Pass → (opened (written i) ≡ Shape (shape_of i)) × (matrix_at (written i) ≡ with_rows i.n (lists_in i))
+pub written_read : (i : Input) → Widths i → (len : ℕ) → ask_write i len ≡ Pass → (opened (written i) ≡ Ok (shape_of i)) × (matrix_at (written i) ≡ with_rows i.n (lists_in i))
 unfolding opened matrix_at
 written_read i w len p = (rw (written-asked i w len p, n-is i w len p, e-is i w len p), rw (n-is i w len p, e-is i w len p) (lists-are i w len p))
 
 -- The same of the calls: what was written is read into lists of the right lengths, whatever these held.
 pub written-read-call : (i : Input) (l : MatrixLists) → Widths i → (len : ℕ) → ask_write i len ≡ Pass → lists_right i.n (length i.columns) l ≡ true
-    → read_outcome (written i) l ≡ left Done (lists_in i)
+    → read_outcome (written i) l ≡ left Pass (lists_in i)
 unfolding read_outcome ask_read
 written-read-call i l w len p right =
-    rw (written-asked i w len p, n-is i w len p, e-is i w len p, right) (ap (λ (m : Input). left Done (lists_in m)) (written_read i w len p).1)
+    rw (written-asked i w len p, n-is i w len p, e-is i w len p, right) (ap (λ (m : Input). left Pass (lists_in m)) (written_read i w len p).1)
 
 -- A file that opens is what its matrix is written as exactly if each of its NaNs has the pattern of a written one.
-pub file-written : (file : List ℕ) → Bytes file → (m : Matrix) → opened file ≡ Shape m → (written (matrix_at file) ≡ file) ↔ QuietNaNs file
+pub file-written : (file : List ℕ) → Bytes file → (m : Matrix) → opened file ≡ Ok m → (written (matrix_at file) ≡ file) ↔ QuietNaNs file
 file-written file small m o =
     let a = (opened-pass file m (sym o)).0 in (quiet-held file small a, held-written file small a)
 
 -- A file that opens, read and written, opens to the same shape and holds the same matrix, whatever its NaNs.
-pub read_again : (file : List ℕ) → Bytes file → (m : Matrix) → opened file ≡ Shape m
-    → (opened (written (matrix_at file)) ≡ Shape m) × (matrix_at (written (matrix_at file)) ≡ matrix_at file)
+pub read_again : (file : List ℕ) → Bytes file → (m : Matrix) → opened file ≡ Ok m
+    → (opened (written (matrix_at file)) ≡ Ok m) × (matrix_at (written (matrix_at file)) ≡ matrix_at file)
 unfolding matrix_at
 read_again file small m o =
     let a = opened-pass file m (sym o) in
     let again = written_read (matrix_at file) (held-widths file small a.0) (length file) (held-asked file small a.0) in
-    (again.0 ∙ (shape-held file small a.0 ∙ ap Shape (sym a.1)), again.1)
+    (again.0 ∙ (shape-held file small a.0 ∙ ap Ok (sym a.1)), again.1)

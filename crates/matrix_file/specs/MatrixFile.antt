@@ -1,17 +1,12 @@
 -- The matrix file: its layout, its questions, what it holds, and the outcomes of the three calls. Definitions only.
-use Rattle.std.specs.Prelude.{Bool, ◌&&◌, List, [], ◌∷◌, ◌++◌, ℕ, ◌+◌, ◌*◌, length, eqb, leb, Float}
-use Rattle.base.specs.Answers.{holds, and_then, Left, or_untouched}
-use Rattle.base.specs.declared.Asked.{Asked}
-use Rattle.base.specs.declared.Asked.TheVariants.{Pass, Stop}
-use Rattle.base.specs.declared.Ended.{Ended}
-use Rattle.base.specs.declared.Ended.TheVariants.{Done, Refused}
+use Rattle.matrix.specs.Shape.{Shaped}
+use Rattle.std.specs.Prelude.{Bool, ◌&&◌, List, [], ◌∷◌, ◌++◌, ℕ, ◌+◌, ◌*◌, length, eqb, leb, Float, Ok, Err}
+use Rattle.base.specs.Answers.{holds, and_then, Left, or_untouched, Pass, Asked}
 use Rattle.base.specs.declared.Refusal.TheVariants.{Rows, Lengths, FileShape}
 use Rattle.base.specs.Limits.{max_entries, rows_within}
 use Rattle.matrix.specs.Input.{Input}
 use Rattle.matrix.specs.Lists.{MatrixLists, matrix_lists, lists_in, with_rows, lengths_right, lists_right}
 use Rattle.matrix.specs.declared.Matrix.{Matrix}
-use Rattle.matrix.specs.declared.Shaped.{Shaped}
-use Rattle.matrix.specs.declared.Shaped.TheVariants.{Shape, Unshaped}
 use Rattle.fields.specs.Numbers.{le, Part, part, stream}
 use Rattle.fields.specs.Payload.{payload, fields_at, floats_at, bits_of}
 use Rattle.blocks.specs.Blocks.{blocks_for, file_of, ends_at, ask_blocks}
@@ -82,8 +77,8 @@ ask_file file = and_then (ask_blocks file) (ask_head file (n_of file) (e_of file
 
 -- a shape, once the questions are passed
 abbrev pub shaped : Asked → Matrix → Shaped
-shaped Pass m = Shape m
-shaped (Stop q) m = Unshaped q
+shaped (Ok _) m = Ok m
+shaped (Err q) m = Err q
 
 -- the outcome of `matrix_file_shape`
 unfoldable pub opened : List ℕ → Shaped
@@ -105,8 +100,8 @@ ask_write i len = ask_lengths i.n (length i.columns) (length i.starts) (length i
 
 -- ---- the outcomes of `read_matrix` and `write_matrix`
 
-unfoldable pub read_outcome : List ℕ → MatrixLists → Left Ended MatrixLists
-read_outcome file l = or_untouched Refused (ask_read file l) Done (lists_in (matrix_at file)) l
+unfoldable pub read_outcome : List ℕ → MatrixLists → Left Asked MatrixLists
+read_outcome file l = or_untouched Err (ask_read file l) Pass (lists_in (matrix_at file)) l
 
-unfoldable pub write_outcome : Input → List ℕ → Left Ended (List ℕ)
-write_outcome i file = or_untouched Refused (ask_write i (length file)) Done (written i) file
+unfoldable pub write_outcome : Input → List ℕ → Left Asked (List ℕ)
+write_outcome i file = or_untouched Err (ask_write i (length file)) Pass (written i) file

@@ -2,8 +2,7 @@
 #![tactic(auto)]
 
 ghost use Rattle.std.specs.Prelude.{◌≡◌, ◌++◌, ◌+◌, ◌*◌, ◌≤◌, ◌<◌, length};
-ghost use Rattle.base.specs.Answers.{left};
-ghost use Rattle.base.specs.declared.Asked.TheVariants.{Pass};
+ghost use Rattle.base.specs.Answers.{left, Pass};
 ghost use Rattle.base.specs.Limits.{max_rows};
 ghost use Rattle.matrix.specs.Input.{input_of};
 ghost use Rattle.fields.specs.Numbers.{stream};
@@ -11,8 +10,9 @@ ghost use Rattle.fields.specs.Payload.{room, payloads};
 ghost use Rattle.matrix.specs.Lists.{matrix_lists};
 ghost use Rattle.matrix_file.specs.MatrixFile.{n_of, e_of, shape_in, shaped, fits_shape, ask_head, opened, lists_at, matrix_parts, order_parts, written, ask_lengths, ask_write, read_outcome, write_outcome};
 
-use base::{Asked, Ended, Index, Refusal};
-use matrix::{Matrix, Shaped};
+use base::{Index, Refusal};
+use fields::Reader;
+use matrix::Matrix;
 
 // The two numbers that a matrix file begins with.
 #[derive(Clone, Copy)]
@@ -26,11 +26,11 @@ pub fn sizes_of(file: &[u8]) -> Sizes
     requires { 8 ≤ room file.now }
     ensures { (result.n ≡ n_of file.now) × (result.e ≡ e_of file.now) }
 {
-    let r = fields::at_start(file);
-    let n = fields::number(r, 4);
-    let s = fields::past(r, 4);
-    let e = fields::number(s, 4);
-    Sizes { n, e }
+    let r = Reader::new(file);
+    Sizes {
+        n: r.number(4),
+        e: r.past(4).number(4),
+    }
 }
 
 // Question 18.
@@ -45,45 +45,39 @@ fn fits_shape(file: &[u8], n: usize, e: usize) -> bool
 }
 
 // Questions 1 and 18 of n and e as the file has them.
-fn ask_head(file: &[u8], n: usize, e: usize) -> Asked
+fn ask_head(file: &[u8], n: usize, e: usize) -> Result<(), Refusal>
     ensures { result ≡ ask_head file.now n e }
 {
     if !Matrix::rows_within(n) {
-        return Asked::Stop(Refusal::Rows);
+        return Err(Refusal::Rows);
     }
     if !fits_shape(file, n, e) {
-        return Asked::Stop(Refusal::FileShape);
+        return Err(Refusal::FileShape);
     }
-    Asked::Pass
+    Ok(())
 }
 
 // The shape of the matrix in a file of whole blocks.
-fn head_shape(file: &[u8]) -> Shaped
+fn head_shape(file: &[u8]) -> Result<Matrix, Refusal>
     requires { 8 ≤ room file.now }
     ensures { result ≡ shaped (ask_head file.now (n_of file.now) (e_of file.now)) (shape_in file.now) }
 {
     let sizes = sizes_of(file);
     let n = sizes.n as usize;
     let e = sizes.e as usize;
-    let asked = ask_head(file, n, e);
-    match asked {
-        Asked::Pass => Shaped::Shape(Matrix {
-            rows: n,
-            entries: e,
-        }),
-        Asked::Stop(q) => Shaped::Unshaped(q),
-    }
+    ask_head(file, n, e)?;
+    Ok(Matrix {
+        rows: n,
+        entries: e,
+    })
 }
 
 // Gives the shape of the matrix in a file: questions 16, 17, 1 and 18.
-pub fn matrix_file_shape(file: &[u8]) -> Shaped
+pub fn matrix_file_shape(file: &[u8]) -> Result<Matrix, Refusal>
     ensures { result ≡ opened file.now }
 {
-    let asked = blocks::ask_blocks(file);
-    match asked {
-        Asked::Pass => head_shape(file),
-        Asked::Stop(q) => Shaped::Unshaped(q),
-    }
+    blocks::ask_blocks(file)?;
+    head_shape(file)
 }
 
 // Fills the lists with what stands in the file from payload byte 8 on.
@@ -99,12 +93,12 @@ fn load(
     requires { 8 + 4 * length starts.old + 2 * length columns.old + 8 * length values.old + 2 * length r.old + 2 * length c.old + 8 * length b.old ≤ room file.now }
     ensures { matrix_lists starts.new columns.new values.new r.new c.new b.new ≡ lists_at file.now (length starts.old) (length columns.old) (length values.old) (length r.old) (length c.old) (length b.old) }
 {
-    let at = fields::read_u32s(file, 8, starts);
-    let at = fields::read_indices(file, at, columns);
-    let at = fields::read_f64s(file, at, values);
-    let at = fields::read_indices(file, at, r);
-    let at = fields::read_indices(file, at, c);
-    fields::read_f64s(file, at, b);
+    let at = fields::read(file, 8, starts);
+    let at = fields::read(file, at, columns);
+    let at = fields::read(file, at, values);
+    let at = fields::read(file, at, r);
+    let at = fields::read(file, at, c);
+    fields::read(file, at, b);
 }
 
 // Reads the matrix of a file into the lent buffers: questions 16, 17, 1, 18 and 2. A refusal leaves them as they were.
@@ -116,29 +110,24 @@ pub fn read_matrix(
     r: &mut [Index],
     c: &mut [Index],
     b: &mut [f64],
-) -> Ended
+) -> Result<(), Refusal>
     ensures { left result (matrix_lists starts.new columns.new values.new r.new c.new b.new) ≡ read_outcome file.now (matrix_lists starts.old columns.old values.old r.old c.old b.old) }
 {
-    let found = matrix_file_shape(file);
-    match found {
-        Shaped::Unshaped(q) => Ended::Refused(q),
-        Shaped::Shape(m) => {
-            if !Matrix::lengths_right(
-                m.rows,
-                m.entries,
-                starts.len(),
-                columns.len(),
-                values.len(),
-                r.len(),
-                c.len(),
-                b.len(),
-            ) {
-                return Ended::Refused(Refusal::Lengths);
-            }
-            load(file, starts, columns, values, r, c, b);
-            Ended::Done
-        }
+    let m = matrix_file_shape(file)?;
+    if !Matrix::lengths_right(
+        m.rows,
+        m.entries,
+        starts.len(),
+        columns.len(),
+        values.len(),
+        r.len(),
+        c.len(),
+        b.len(),
+    ) {
+        return Err(Refusal::Lengths);
     }
+    load(file, starts, columns, values, r, c, b);
+    Ok(())
 }
 
 // Lays n, e, starts, columns and values down from the first payload byte on, and answers where they end.
@@ -148,9 +137,9 @@ fn lay_matrix(n: usize, starts: &[u32], columns: &[Index], values: &[f64], file:
 {
     let at = fields::put_number(file, 0, 4, n as u64);
     let at = fields::put_number(file, at, 4, columns.len() as u64);
-    let at = fields::write_u32s(file, at, starts);
-    let at = fields::write_indices(file, at, columns);
-    fields::write_f64s(file, at, values)
+    let at = fields::write(file, at, starts);
+    let at = fields::write(file, at, columns);
+    fields::write(file, at, values)
 }
 
 // Lays r, c and b down from payload byte `at` on, and answers where they end.
@@ -158,9 +147,9 @@ fn lay_orders(at: usize, r: &[Index], c: &[Index], b: &[f64], file: &mut [u8]) -
     requires { at + 2 * length r.now + 2 * length c.now + 8 * length b.now ≤ room file.old }
     ensures { (result ≡ at + 2 * length r.now + 2 * length c.now + 8 * length b.now) × (payloads file.new result ≡ payloads file.old at ++ stream (order_parts r.now c.now b.now)) }
 {
-    let at = fields::write_indices(file, at, r);
-    let at = fields::write_indices(file, at, c);
-    fields::write_f64s(file, at, b)
+    let at = fields::write(file, at, r);
+    let at = fields::write(file, at, c);
+    fields::write(file, at, b)
 }
 
 // Writes the file of a matrix over a buffer of its length.
@@ -192,21 +181,21 @@ fn ask_write(
     c: usize,
     b: usize,
     len: usize,
-) -> Asked
+) -> Result<(), Refusal>
     ensures { result ≡ ask_lengths n e starts values r c b len }
 {
     if !Matrix::rows_within(n) {
-        return Asked::Stop(Refusal::Rows);
+        return Err(Refusal::Rows);
     }
     if Matrix::MAX_ENTRIES < e {
-        return Asked::Stop(Refusal::FileShape);
+        return Err(Refusal::FileShape);
     }
-    if !(Matrix::lengths_right(n, e, starts, e, values, r, c, b)
-        & (len == 512 * ((12 + 16 * n + 10 * e + 503) / 504)))
+    if Matrix::lengths_right(n, e, starts, e, values, r, c, b)
+        & (len == 512 * ((12 + 16 * n + 10 * e + 503) / 504))
     {
-        return Asked::Stop(Refusal::Lengths);
+        return Ok(());
     }
-    Asked::Pass
+    Err(Refusal::Lengths)
 }
 
 // Writes the file of a matrix over the lent buffer: questions 1, 18 and 2. A refusal leaves it as it was.
@@ -219,10 +208,10 @@ pub fn write_matrix(
     c: &[Index],
     b: &[f64],
     file: &mut [u8],
-) -> Ended
+) -> Result<(), Refusal>
     ensures { left result file.new ≡ write_outcome (input_of n starts.now columns.now values.now r.now c.now b.now) file.old }
 {
-    let asked = ask_write(
+    ask_write(
         n,
         columns.len(),
         starts.len(),
@@ -231,12 +220,7 @@ pub fn write_matrix(
         c.len(),
         b.len(),
         file.len(),
-    );
-    match asked {
-        Asked::Stop(q) => Ended::Refused(q),
-        Asked::Pass => {
-            store(n, starts, columns, values, r, c, b, file);
-            Ended::Done
-        }
-    }
+    )?;
+    store(n, starts, columns, values, r, c, b, file);
+    Ok(())
 }

@@ -1,25 +1,25 @@
 -- A turn of each loop, as a law of the definition that the loop computes: the rest of the list, from the value after the turn, gives what it gave before.
 use mathlib.Core.Path.{◌≡◌, refl, sym, ap, ◌∙◌}
-use mathlib.Core.Bool.{true, false}
+use mathlib.Core.Bool.{true, false, ◌&&◌}
 use mathlib.Core.List.{List, [], ◌∷◌, ◌++◌}
 use Prim.Native.Nat.{ℕ, suc, ◌+◌, ◌-◌, ◌*◌, ◌<◌, ◌≤◌}
-use native.Mathlib.Nat.{add_assoc}
 use native.Mathlib.Numerals.{add-one}
 use native.Mathlib.Omega.{arith}
 use lib.ListN.{length, get_or, set, take, drop, drop_of_length-le, length-drop, length-set}
-use lib.Seq.{sets, drop-cons, length-take-le, drop_at, take_at, get_or-take, get_or-drop, get_or-set_other, drop-set-add}
+use lib.Seq.{drop-cons, get_or-take, get_or-drop, get_or-set_other, drop-set-add}
 use lib.Ieee.{Float, nan, binary64, sub, mul}
 use lib.Ieee.Scale.{finite}
+use Rattle.std.specs.List.{list_all}
+use Rattle.std.proofs.lemmas.List.{get_or_default}
 use Rattle.base.specs.Lists.{list_at, row_of, pairs, nought}
 use Rattle.base.specs.declared.RowSums.{RowSums}
 use Rattle.lent.specs.Reading.{Below, placed}
 use Rattle.lent.specs.ReadingLaws.{take_rest}
 use Rattle.arithmetic.specs.Arith.{ok, met, overflow, Given, Work}
 use Rattle.arithmetic.specs.Stopping.{any, subtract, steps, rest, back}
-use Rattle.arithmetic.specs.RowEnd.{finite_on, finite_all, products}
+use Rattle.arithmetic.specs.RowEnd.{finite_on}
 use Rattle.arithmetic.specs.Sticky.{step-any, rest_at}
-use Rattle.numeric.specs.Rows.{Shut}
-use Rattle.numeric.specs.Stores.{Ascending, store_given, work, Stepped, gathered, zeroed, set_all, with_value, entering, Columns, columns, keep_columns}
+use Rattle.numeric.specs.Stores.{Ascending, store_given, work, Stepped, zeroed, set_all, with_value, entering, Columns, columns, keep_columns}
 use Rattle.base.specs.Scratch.{z_from}
 
 -- ---- step 1
@@ -56,16 +56,6 @@ module _ (m : Float) (js : List ℕ) (us : List Float) where
   pub subtract-end : (w : List Float) (p : ℕ) → length js ≤ p → subtract any m (drop p js) (drop p us) w ≡ ok w
   unfolding subtract
   subtract-end w p h = rw (drop_of_length-le js h)
-
--- one i, from what its calls return
-pub stepped : (n i : ℕ) (f : List Float) (starts runs upper : List ℕ) (u : List Float) (row : RowSums) (js : List ℕ) (us last : List Float)
-    → js ≡ list_at starts runs upper i → us ≡ row_of starts u i
-    → subtract any (get_or f i nan) js us (take n f) ≡ ok last → length last ≡ length (take n f) → z_from n ≤ length f
-    → Stepped n i (store_given n f starts runs upper u) f (last ++ drop n f) row
-    (record { sum = sub binary64 row.sum (mul binary64 (get_or f i nan) (get_or f (n + i) nan)); reciprocal = row.reciprocal; y = row.y })
-stepped n i f starts runs upper u row js us last ej eu e le room =
-    let ln : length last ≡ n = le ∙ length-take-le n f (omega arith) in
-    record { kept = drop_at last (drop n f) n ln; working = rw (take_at last (drop n f) n ln, ← ej, ← eu) e; sums = refl }
 
 -- the loop before turn p: f₀ and s₀ as it began, f and s as they are, l the multipliers so far
 pub record Eliminating (n : ℕ) (lower : List ℕ) (G : Given) (f₀ : List Float) (s₀ : RowSums) (f : List Float) (s : RowSums) (p : ℕ) : Type 0 where
@@ -108,30 +98,13 @@ steps-end G lower a p h = rw (drop_of_length-le lower h)
 
 -- ---- step 3
 
-module _ (js : List ℕ) (w : List Float) (p : ℕ) where
-  pub finite_on-pass : p < length js → finite (get_or w (get_or js p 0) nan) ≡ true → finite_on (drop (p + 1) js) w ≡ finite_on (drop p js) w
-  finite_on-pass h f = rw (add-one, drop-cons js p 0, f)
+pub finite_on-all : (js : List ℕ) (w : List Float) → list_all (λ j. finite (get_or w j nan)) js ≡ finite_on js w
+finite_on-all [] w = refl
+finite_on-all (j ∷ js) w = ap (λ b. finite (get_or w j nan) && b) (finite_on-all js w)
 
-  pub finite_on-fail : p < length js → finite (get_or w (get_or js p 0) nan) ≡ false → finite_on (drop p js) w ≡ false
-  finite_on-fail h f = rw (drop-cons js p 0, f)
-
-  pub finite_on-end : length js ≤ p → finite_on (drop p js) w ≡ true
-  finite_on-end h = rw (drop_of_length-le js h)
-
-module _ (d : Float) (js : List ℕ) (w u : List Float) (from p : ℕ) where
-  pub scale-pass : p < length js → finite (mul binary64 (get_or w (get_or js p 0) nan) d) ≡ true
-      → (finite_all (products d w (drop (p + 1) js)) ≡ finite_all (products d w (drop p js)))
-      × (sets (set u (from + p) (mul binary64 (get_or w (get_or js p 0) nan) d)) (from + (p + 1)) (products d w (drop (p + 1) js)) ≡ sets u (from + p) (products d w (drop p js)))
-  scale-pass h f = (
-    rw (add-one, drop-cons js p 0, f),
-    rw (← add_assoc, add-one, add-one, drop-cons js p 0),
-  )
-
-  pub scale-fail : p < length js → finite (mul binary64 (get_or w (get_or js p 0) nan) d) ≡ false → finite_all (products d w (drop p js)) ≡ false
-  scale-fail h f = rw (drop-cons js p 0, f)
-
-  pub scale-end : length js ≤ p → (finite_all (products d w (drop p js)) ≡ true) × (sets u (from + p) (products d w (drop p js)) ≡ u)
-  scale-end h = (rw (drop_of_length-le js h), rw (drop_of_length-le js h))
+-- an item of the list, as a walk over it gives it
+pub place_inside : (n x : ℕ) (js : List ℕ) (p : ℕ) → Below n js → p < length js → x ≡ get_or js p x → x < n
+place_inside n x js p b h e = rw (e ∙ get_or_default js p x 0 h) (b p h)
 
 -- ---- clearing and keeping
 
@@ -140,17 +113,6 @@ zero_turn js w p j e h = rw (e, add-one, drop-cons js p 0)
 
 pub zero-end : (js : List ℕ) (w : List Float) (p : ℕ) → length js ≤ p → zeroed (drop p js) w ≡ w
 zero-end js w p h = rw (drop_of_length-le js h)
-
-pub gather-turn : (js : List ℕ) (w l : List Float) (from p j : ℕ) → j ≡ get_or js p 0 → p < length js
-    → sets (set l (from + p) (get_or w j nan)) (from + (p + 1)) (gathered (drop (p + 1) js) w) ≡ sets l (from + p) (gathered (drop p js) w)
-gather-turn js w l from p j e h = rw (e, ← add_assoc, add-one, add-one, drop-cons js p 0)
-
-pub gather-end : (js : List ℕ) (w l : List Float) (from p : ℕ) → length js ≤ p → sets l (from + p) (gathered (drop p js) w) ≡ l
-gather-end js w l from p h = rw (drop_of_length-le js h)
-
-pub shut : (n k : ℕ) (lower above js : List ℕ) (f f₁ f₂ d : List Float) (t : RowSums) → js ≡ above → f₁ ≡ zeroed lower (set f k nought) → f₂ ≡ zeroed js f₁
-    → Shut n k lower above f (set f₂ (n + k) t.y) d (set d k t.reciprocal) t
-shut n k lower above js f f₁ f₂ d t e e₁ e₂ = record { scratch = rw (e₂, e₁, e); reciprocals = refl }
 
 -- the loop over a row's columns before turn p; the cursors of the columns that are left are as they were
 pub record Keeping (starts : List ℕ) (w : List Float) (lower cursors₀ : List ℕ) (l₀ : List Float) (cursors : List ℕ) (l : List Float) (p : ℕ) : Type 0 where
@@ -195,9 +157,6 @@ module _ (js : List ℕ) (us z : List Float) where
 
 pub tail-length : (f : List Float) (n : ℕ) → length f ≡ 3 * n → length (take (length f - (z_from n)) (drop (z_from n) f)) ≡ n
 tail-length f n h = rw (take_rest (z_from n) f) (simp length-drop (omega arith))
-
-pub rest-is : (t r : Float) (js ks : List ℕ) (us vs z x : List Float) → js ≡ ks → us ≡ vs → z ≡ x → rest any t js us z ≡ ok r → rest any t ks vs x ≡ ok r
-rest-is t r js ks us vs z x ej eu ez e = rw (← ej, ← eu, ← ez) e
 
 back-turn : (G : Given) (k i : ℕ) (z : List Float) (t : Float) → k ≡ suc i → finite (G.y i) ≡ true → rest any (G.y i) (G.upper i) (G.u i) z ≡ ok t
     → finite t ≡ true → back G k z ≡ back G i (set z i t)

@@ -21,11 +21,10 @@ use Rattle.arithmetic.specs.Stopping.{◌>>=◌, any, at, pivot, load, start, st
 use Rattle.arithmetic.specs.RowEnd.{products}
 use Rattle.arithmetic.specs.Factors.{bind_ok}
 use Rattle.arithmetic.specs.Sticky.{ok-inj}
-use Rattle.numeric.specs.declared.Pivot.{Pivot}
-use Rattle.numeric.specs.declared.Pivot.TheVariants.{Usable, Zero, Overflow}
+use Rattle.std.specs.Prelude.{Result, Ok, Err, ⊤}
+use Rattle.numeric.specs.declared.RowFault.{RowFault}
+use Rattle.numeric.specs.declared.RowFault.TheVariants.{Zero, Overflow}
 use Rattle.numeric.specs.Stores.{StoreShape, store_given, work, Eliminated, Finished, numbered_back, gathered, zeroed}
-use Rattle.numeric.specs.declared.Back.{Back}
-use Rattle.numeric.specs.declared.Back.TheVariants.{Complete, Stopped}
 use Rattle.numeric.specs.Rows.{filled_row, Closed, RowLent, Stacked, u_of, RowsHeld, Reduced, Shut, kept_row}
 use Rattle.numeric.specs.StoreLaws.{sets-part, products-length, stacked-none, set-all-drop, set-all-length, set-all-stays, set-all-has}
 use Rattle.numeric.specs.KeepLaws.{stacked-row}
@@ -96,7 +95,7 @@ module _ (S : System) (rows : List Row) (n k : ℕ) (f : List Float) (starts run
   )
 
   module _ (lower places : List ℕ) (vs : List Float) (b floor : Float) (L : RowLent S k lower places vs b floor) (C : Closed S k) (T : StoreShape n starts runs upper (length u)) where
-    pub reduced : (W g v : List Float) (s r : RowSums) (above : List ℕ) (from : ℕ) (answer : Pivot) → s.sum ≡ b
+    pub reduced : (W g v : List Float) (s r : RowSums) (above : List ℕ) (from : ℕ) (answer : Result RowSums RowFault) → s.sum ≡ b
         → load any [] (pairs places vs) (take n f) ≡ ok W → length W ≡ length (take n f)
         → Eliminated n lower (store_given n (W ++ drop n f) starts runs upper u) (W ++ drop n f) g s r
         → above ≡ list_at starts runs upper k → from ≡ get_or starts k 0
@@ -128,7 +127,7 @@ module _ (S : System) (rows : List Row) (n k : ℕ) (f : List Float) (starts run
   -- ---- the stores before row k + 1
 
   module _ (C : Closed S k) (T : StoreShape n starts runs upper (length u)) (lower : List ℕ) (el : S.lower k ≡ lower) (g h' v d e : List Float) (lg : length g ≡ length f) (t : RowSums)
-      (R : Reduced S rows n k starts f g u v (Usable t)) (Q : Shut n k lower (list_at starts runs upper k) g h' d e t) where
+      (R : Reduced S rows n k starts f g u v (Ok t)) (Q : Shut n k lower (list_at starts runs upper k) g h' d e t) where
     abbrev next : Row
     next = kept_row (gathered (S.lower k) (take n g)) (row_of starts v k) t
 
@@ -219,10 +218,10 @@ module _ {S : System} {rows : List Row} {n k : ℕ} {f : List Float} {starts run
   stopped : (q : Fault) → row S rows k ≡ met q → solved S ≡ met q
   stopped q e = solved-met S q (ap (λ (m : ℕ). forward S m 0 []) H.size ∙ forward-met S n k rows q h H.done e)
 
-  pub held-zero : {g v : List Float} → Reduced S rows n k starts f g u v Zero → solved S ≡ met (zero_pivot k)
+  pub held-zero : {g v : List Float} → Reduced S rows n k starts f g u v (Err Zero) → solved S ≡ met (zero_pivot k)
   held-zero R = stopped (zero_pivot k) (sym R.answer)
 
-  pub held-overflow : {g v : List Float} → Reduced S rows n k starts f g u v Overflow → solved S ≡ met (overflow k)
+  pub held-overflow : {g v : List Float} → Reduced S rows n k starts f g u v (Err Overflow) → solved S ≡ met (overflow k)
   held-overflow R = stopped (overflow k) (sym R.answer)
 
 -- each y is finite
@@ -291,10 +290,10 @@ module _ {S : System} {rows : List Row} {n : ℕ} {f : List Float} {starts runs 
       ∙ ap (λ (z : List Float). back (given S rows) n z) (sym H.zs)
       ∙ sym (back-same (store_given n f starts runs upper u) (given S rows) n (drop (z_from n) f) (λ i l. (sym (H.lists i l), H.us.each i l, y-here i l))) ∙ sym e)
 
-  pub held-solved : (z : List Float) (r : Back) → numbered_back z r ≡ back (store_given n f starts runs upper u) n (drop (z_from n) f) → r ≡ Complete
+  pub held-solved : (z : List Float) (r : Result ⊤ ℕ) → numbered_back z r ≡ back (store_given n f starts runs upper u) n (drop (z_from n) f) → r ≡ Ok tt
       → solved S ≡ ok (record { rows = rows; z = z })
   held-solved z r e q = solved-is (ok z) (rw q at e)
 
-  pub held-stopped : (k : ℕ) (z : List Float) (r : Back) → numbered_back z r ≡ back (store_given n f starts runs upper u) n (drop (z_from n) f) → r ≡ Stopped k
+  pub held-stopped : (k : ℕ) (z : List Float) (r : Result ⊤ ℕ) → numbered_back z r ≡ back (store_given n f starts runs upper u) n (drop (z_from n) f) → r ≡ Err k
       → solved S ≡ met (overflow k)
   held-stopped k z r e q = solved-is (met (overflow k)) (rw q at e)

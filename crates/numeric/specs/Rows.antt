@@ -1,5 +1,5 @@
 -- Row k of a system, and the rows above it, as the stores hold them. Definitions only.
-use Rattle.std.specs.Prelude.{◌≡◌, Bool, true, false, cond, List, [], ◌∷◌, ◌++◌, map, ℕ, zero, suc, ◌+◌, ◌-◌, ◌<◌, length, get_or, take, drop, set, replicate, eqb, Float}
+use Rattle.std.specs.Prelude.{◌≡◌, Bool, true, false, cond, List, [], ◌∷◌, ◌++◌, map, ℕ, zero, suc, ◌+◌, ◌-◌, ◌<◌, length, get_or, take, drop, set, replicate, eqb, Result, Ok, Float}
 use Rattle.std.proofs.lemmas.List.Edits.{sets}
 use Rattle.std.specs.Float.{nan}
 use Rattle.std.specs.Float.Ieee.Scale.{finite}
@@ -8,8 +8,7 @@ use Rattle.base.specs.declared.RowSums.{RowSums}
 use Rattle.arithmetic.specs.Arith.{ok, System, Row, none}
 use Rattle.arithmetic.specs.Stopping.{row, forward}
 use Rattle.numeric.specs.Stores.{Ascending, numbered, gathered, zeroed}
-use Rattle.numeric.specs.declared.Pivot.{Pivot}
-use Rattle.numeric.specs.declared.Pivot.TheVariants.{Usable}
+use Rattle.numeric.specs.declared.RowFault.{RowFault}
 use Rattle.base.specs.Scratch.{z_from}
 
 -- the filled places of row k
@@ -60,10 +59,10 @@ abbrev pub ZeroOutside : System → ℕ → ℕ → List Float → Type 0
 ZeroOutside S n k g = (j : ℕ) → j < n → has (filled_row S k) j ≡ false → get_or g j nan ≡ nought
 
 -- what steps 1 to 3 leave: the row's answer, with its multipliers in the working row and its u in their slots; nothing else is written
-pub record Reduced (S : System) (rows : List Row) (n k : ℕ) (starts : List ℕ) (f g u v : List Float) (r : Pivot) : Type 0 where
+pub record Reduced (S : System) (rows : List Row) (n k : ℕ) (starts : List ℕ) (f g u v : List Float) (r : Result RowSums RowFault) : Type 0 where
   pub answer : numbered k (gathered (S.lower k) (take n g)) (row_of starts v k) r ≡ row S rows k
   pub kept : drop n g ≡ drop n f
-  pub stored : (t : RowSums) → r ≡ Usable t → v ≡ sets u (get_or starts k 0) (row_of starts v k)
+  pub stored : (t : RowSums) → r ≡ Ok t → v ≡ sets u (get_or starts k 0) (row_of starts v k)
   pub outside : ZeroOutside S n k g
 
 -- row k's y and reciprocal in their slots, and +0 at the filled places of the working row

@@ -1,5 +1,5 @@
 -- What the steps' contracts say of slices: where lists stand, and what each step leaves. Definitions only.
-use Rattle.std.specs.Prelude.{◌≡◌, List, [], ◌∷◌, ℕ, ◌+◌, ◌*◌, ◌<◌, ◌≤◌, length, get_or, take, drop, set, Float}
+use Rattle.std.specs.Prelude.{◌≡◌, List, [], ◌∷◌, ℕ, ◌+◌, ◌*◌, ◌<◌, ◌≤◌, length, get_or, take, drop, set, Result, Ok, Err, ⊤, Float}
 use Rattle.std.proofs.lemmas.List.Edits.{sets}
 use Rattle.std.specs.Float.{nan, binary64}
 use Rattle.std.specs.Float.Ieee.{sub, mul, eq}
@@ -12,10 +12,8 @@ use Rattle.arithmetic.specs.Arith.{Out, ok, met, zero_pivot, overflow, Row, Give
 use Rattle.arithmetic.specs.Stopping.{any, subtract, steps}
 use Rattle.arithmetic.specs.RowEnd.{products, row_end}
 use Rattle.arithmetic.specs.Sticky.{entered}
-use Rattle.numeric.specs.declared.Pivot.{Pivot}
-use Rattle.numeric.specs.declared.Pivot.TheVariants.{Usable, Zero, Overflow}
-use Rattle.numeric.specs.declared.Back.{Back}
-use Rattle.numeric.specs.declared.Back.TheVariants.{Complete, Stopped}
+use Rattle.numeric.specs.declared.RowFault.{RowFault}
+use Rattle.numeric.specs.declared.RowFault.TheVariants.{Zero, Overflow}
 
 -- ---- where lists stand
 
@@ -74,15 +72,15 @@ pub record Eliminated (n : ℕ) (lower : List ℕ) (G : Given) (f g : List Float
   pub kept : drop n g ≡ drop n f
 
 -- questions 12 and 13 for each of a row's answers, and what is kept of the row: l and u are its multipliers and its u
-abbrev pub numbered : ℕ → List Float → List Float → Pivot → Out Row
-numbered k l u (Usable s) = ok (record { l = l; d = s.reciprocal; y = s.y; u = u })
-numbered k l u Zero = met (zero_pivot k)
-numbered k l u Overflow = met (overflow k)
+abbrev pub numbered : ℕ → List Float → List Float → Result RowSums RowFault → Out Row
+numbered k l u (Ok s) = ok (record { l = l; d = s.reciprocal; y = s.y; u = u })
+numbered k l u (Err Zero) = met (zero_pivot k)
+numbered k l u (Err Overflow) = met (overflow k)
 
 -- what step 3 leaves: its answer, with the u that stand in their slots, and in a row that is kept nothing else is written
-pub record Finished (k : ℕ) (floor : Float) (above : List ℕ) (from : ℕ) (w u v : List Float) (s : Float) (r : Pivot) : Type 0 where
+pub record Finished (k : ℕ) (floor : Float) (above : List ℕ) (from : ℕ) (w u v : List Float) (s : Float) (r : Result RowSums RowFault) : Type 0 where
   pub answer : (l : List Float) → numbered k l (take (length above) (drop from v)) r ≡ row_end k floor [] above (work l w s)
-  pub stored : (t : RowSums) → r ≡ Usable t → v ≡ sets u from (products t.reciprocal w above)
+  pub stored : (t : RowSums) → r ≡ Ok t → v ≡ sets u from (products t.reciprocal w above)
 
 -- w at the listed places
 abbrev pub gathered : List ℕ → List Float → List Float
@@ -135,6 +133,6 @@ keep_columns starts w (i ∷ is) a =
 -- ---- the back steps
 
 -- question 13 for each of their answers, and z
-abbrev pub numbered_back : List Float → Back → Out (List Float)
-numbered_back z Complete = ok z
-numbered_back z (Stopped k) = met (overflow k)
+abbrev pub numbered_back : List Float → Result ⊤ ℕ → Out (List Float)
+numbered_back z (Ok t) = ok z
+numbered_back z (Err k) = met (overflow k)

@@ -3,7 +3,7 @@
 // Lower row k is lent, so that no step knows where it is kept.
 #![tactic(auto)]
 
-ghost use Rattle.std.specs.Prelude.{◌≡◌, true, ◌&&◌, List, ◌∷◌, ℕ, ◌+◌, ◌-◌, ◌*◌, ◌<◌, ◌≤◌, length, get_or, take, drop};
+ghost use Rattle.std.specs.Prelude.{◌≡◌, true, ◌&&◌, List, ◌∷◌, map, ℕ, ◌+◌, ◌-◌, ◌*◌, ◌<◌, ◌≤◌, length, get_or, take, drop};
 ghost use Rattle.std.proofs.lemmas.List.Edits.{sets};
 ghost use Rattle.std.specs.Float.{nan};
 ghost use Rattle.std.specs.Float.Ieee.Scale.{finite};
@@ -42,11 +42,9 @@ fn unset_row(w: &mut [f64], n: usize, marks: &[u32], columns: &[Index])
     ensures { w.new ≡ set_all nan (placed (order_of n marks.now) columns.now) w.old }
 {
     let none = no_value();
-    let mut p = 0;
-    while p < columns.len() {
+    for p in 0..columns.len() {
         let j = lent::entry_place(n, marks, columns, p);
         w[j] = none;
-        p += 1;
     }
 }
 
@@ -55,11 +53,9 @@ fn enter_row(w: &mut [f64], n: usize, marks: &[u32], columns: &[Index], values: 
     requires { (length w.old ≡ n) × Loadable n marks.now columns.now values.now }
     ensures { w.new ≡ entering (pairs (placed (order_of n marks.now) columns.now) values.now) w.old }
 {
-    let mut p = 0;
-    while p < columns.len() {
+    for (p, &v) in values.iter().enumerate() {
         let j = lent::entry_place(n, marks, columns, p);
-        w[j] = with_value(w[j], values[p]);
-        p += 1;
+        w[j] = with_value(w[j], v);
     }
 }
 
@@ -78,12 +74,9 @@ pub fn axpy(w: &mut [f64], columns: &[Index], u: &[f64], m: f64)
     requires { (length columns.now ≡ length u.now) × Below (length w.old) columns.now }
     ensures { subtract any m columns.now u.now w.old ≡ ok w.new }
 {
-    let n = columns.len();
-    let mut p = 0;
-    while p < n {
-        let j = base::wide(columns[p]);
-        w[j] = w[j] - m * u[p];
-        p += 1;
+    for (p, &column) in columns.iter().enumerate() {
+        let j = base::wide(column);
+        w[j] -= m * u[p];
     }
 }
 
@@ -130,11 +123,8 @@ pub fn eliminate(
         f.old f.new row result }
 {
     let mut s = row;
-    let mut p = 0;
-    while p < lower.len() {
-        let i = base::slot(lower[p]);
-        s = subtract_row(f, n, i, starts, runs, upper, u, s);
-        p += 1;
+    for &i in lower {
+        s = subtract_row(f, n, base::slot(i), starts, runs, upper, u, s);
     }
     s
 }
@@ -144,16 +134,7 @@ fn all_finite(w: &[f64], columns: &[Index]) -> bool
     requires { Below (length w.now) columns.now }
     ensures { result ≡ finite_on columns.now w.now }
 {
-    let mut p = 0;
-    while p < columns.len() {
-        let j = base::wide(columns[p]);
-        if is_finite(w[j]) {
-            p += 1;
-        } else {
-            return false;
-        }
-    }
-    true
+    columns.iter().all(|j| is_finite(w[base::wide(*j)]))
 }
 
 // Whether row k's sum, its pivot and its working row above the diagonal are finite. (A multiplier that is not makes the sum not finite.)
@@ -161,12 +142,7 @@ fn row_finite(w: &[f64], k: usize, above: &[Index], sum: f64) -> bool
     requires { (k < length w.now) × Below (length w.now) above.now }
     ensures { result ≡ (finite sum && finite_on (k ∷ above.now) w.now) }
 {
-    if is_finite(sum) {
-        if is_finite(w[k]) {
-            return all_finite(w, above);
-        }
-    }
-    false
+    is_finite(sum) && is_finite(w[k]) && all_finite(w, above)
 }
 
 // u = w at the listed places times d, from slot `from` on, up to the first that is not finite; whether all are.
@@ -175,29 +151,25 @@ fn scale(w: &[f64], columns: &[Index], u: &mut [f64], from: usize, d: f64) -> bo
     ensures { (result ≡ finite_all (products d w.now columns.now))
         × (result ≡ true → u.new ≡ sets u.old from (products d w.now columns.now)) }
 {
-    let mut p = 0;
-    while p < columns.len() {
-        let j = base::wide(columns[p]);
+    for (p, &column) in columns.iter().enumerate() {
+        let j = base::wide(column);
         let x = w[j] * d;
-        if is_finite(x) {
-            u[from + p] = x;
-            p += 1;
-        } else {
+        if !is_finite(x) {
             return false;
         }
+        u[from + p] = x;
     }
     true
 }
 
-// What a row comes to: its sums where the pivot is above the floor and every result is finite; Zero is 12, a pivot of at most the floor.
-#[derive(Clone, Copy)]
-pub enum Pivot {
-    Usable(RowSums),
+// What stops a row: Zero is 12, a pivot of at most the floor, and Overflow 13, a result that is not finite.
+#[derive(Clone, Copy, PartialEq, Eq)]
+pub enum RowFault {
     Zero,
     Overflow,
 }
 
-// Does step 3: one test of the row, the pivot under the floor, its reciprocal, y, and u into its slots.
+// Does step 3: one test of the row, the pivot under the floor, its reciprocal, y, and u into its slots. Gives the row's sums.
 pub fn finish_row(
     w: &[f64],
     k: usize,
@@ -206,31 +178,24 @@ pub fn finish_row(
     u: &mut [f64],
     from: usize,
     row: RowSums,
-) -> Pivot
+) -> Result<RowSums, RowFault>
     requires { (k < length w.now) × Below (length w.now) above.now × (from + length above.now ≤ length u.old) }
     ensures { Finished k floor above.now from w.now u.old u.new row.sum result }
 {
     let sum = row.sum;
-    if row_finite(w, k, above, sum) {
-        let p = w[k];
-        if base::at_most(p, floor) {
-            return Pivot::Zero;
-        }
-        let d = 1.0 / p;
-        if is_finite(d) {
-            let y = sum * d;
-            if is_finite(y) {
-                if scale(w, above, u, from, d) {
-                    return Pivot::Usable(RowSums {
-                        sum,
-                        reciprocal: d,
-                        y,
-                    });
-                }
-            }
-        }
+    if !row_finite(w, k, above, sum) {
+        return Err(RowFault::Overflow);
     }
-    Pivot::Overflow
+    let p = w[k];
+    if base::at_most(p, floor) {
+        return Err(RowFault::Zero);
+    }
+    let reciprocal = 1.0 / p;
+    let y = sum * reciprocal;
+    if is_finite(reciprocal) && is_finite(y) && scale(w, above, u, from, reciprocal) {
+        return Ok(RowSums { sum, reciprocal, y });
+    }
+    Err(RowFault::Overflow)
 }
 
 // Does steps 1 to 3 of row k: its own columns and values, its right side, its lower row. A kept row's multipliers stand in the working row until
@@ -249,7 +214,7 @@ pub fn reduce_row(
     runs: &[u32],
     upper: &[Index],
     u: &mut [f64],
-) -> Pivot
+) -> Result<RowSums, RowFault>
     requires { Reducible n k (length f.old) marks.now columns.now values.now lower.now starts.now runs.now upper.now (length u.old) }
     ensures { (S : System) (rows : List Row)
         → RowsHeld S rows n k f.old starts.now runs.now upper.now u.old
@@ -269,26 +234,37 @@ pub fn reduce_row(
     finish_row(&f[..n], k, floor, above, u, from, row)
 }
 
-// +0 at the listed places.
-fn clear_lower(w: &mut [f64], places: &[u32])
-    requires { Below (length w.old) places.now }
-    ensures { w.new ≡ zeroed places.now w.old }
-{
-    let mut p = 0;
-    while p < places.len() {
-        w[base::slot(places[p])] = 0.0;
-        p += 1;
+// A place as a list stores it, in 16 or in 32 bits.
+trait Stored: Copy {
+    ghost at: { Self → ℕ };
+
+    fn slot(self) -> usize
+        ensures { result ≡ at self };
+}
+
+impl Stored for u32 {
+    ghost at = { λ i. i };
+
+    fn slot(self) -> usize {
+        base::slot(self)
     }
 }
 
-fn clear_upper(w: &mut [f64], places: &[Index])
-    requires { Below (length w.old) places.now }
-    ensures { w.new ≡ zeroed places.now w.old }
+impl Stored for Index {
+    ghost at = { λ i. i };
+
+    fn slot(self) -> usize {
+        base::wide(self)
+    }
+}
+
+// +0 at the listed places.
+fn clear_places<P: Stored>(w: &mut [f64], places: &[P])
+    requires { Below (length w.old) (map P.at places.now) }
+    ensures { w.new ≡ zeroed (map P.at places.now) w.old }
 {
-    let mut p = 0;
-    while p < places.len() {
-        w[base::wide(places[p])] = 0.0;
-        p += 1;
+    for &i in places {
+        w[i.slot()] = 0.0;
     }
 }
 
@@ -310,8 +286,8 @@ pub fn close_row(
 {
     let above = lent::list_at(starts, runs, upper, k);
     f[k] = 0.0;
-    clear_lower(f, lower);
-    clear_upper(f, above);
+    clear_places(f, lower);
+    clear_places(f, above);
     f[n + k] = row.y;
     d[k] = row.reciprocal;
 }
@@ -321,10 +297,8 @@ pub fn keep_by_rows(w: &[f64], lower: &[u32], l: &mut [f64], from: usize)
     requires { (from + length lower.now ≤ length l.old) × Below (length w.now) lower.now }
     ensures { l.new ≡ sets l.old from (gathered lower.now w.now) }
 {
-    let mut p = 0;
-    while p < lower.len() {
-        l[from + p] = w[base::slot(lower[p])];
-        p += 1;
+    for (p, &i) in lower.iter().enumerate() {
+        l[from + p] = w[base::slot(i)];
     }
 }
 
@@ -334,11 +308,9 @@ pub fn subtract_products(t: f64, places: &[Index], factors: &[f64], z: &[f64]) -
     ensures { rest any t places.now factors.now z.now ≡ ok result }
 {
     let mut s = t;
-    let mut p = 0;
-    while p < places.len() {
-        let j = base::wide(places[p]);
-        s = s - factors[p] * z[j];
-        p += 1;
+    for (p, &place) in places.iter().enumerate() {
+        let j = base::wide(place);
+        s -= factors[p] * z[j];
     }
     s
 }
@@ -364,14 +336,7 @@ fn back_at(
     subtract_products(t, above, us, &f[z..])
 }
 
-// What the back steps find: every z, or the place at which a result is not finite.
-#[derive(Clone, Copy)]
-pub enum Back {
-    Complete,
-    Stopped(usize),
-}
-
-// Does the back steps, from n - 1 down to 0, and writes z(k) into its slot.
+// Does the back steps, from n - 1 down to 0, and writes z(k) into its slot; the error is the place at which a result is not finite.
 pub fn back_steps(
     f: &mut [f64],
     n: usize,
@@ -379,7 +344,7 @@ pub fn back_steps(
     runs: &[u32],
     upper: &[Index],
     u: &[f64],
-) -> Back
+) -> Result<(), usize>
     requires { (length f.old ≡ 3 * n) × StoreShape n starts.now runs.now upper.now (length u.now)
         × ((k : ℕ) → k < n → finite (get_or f.old (n + k) nan) ≡ true) }
     ensures { (numbered_back (drop (z_from n) f.new) result
@@ -387,16 +352,12 @@ pub fn back_steps(
         × (take (z_from n) f.new ≡ take (z_from n) f.old) }
 {
     let z = scratch::Z * n;
-    let mut k = n;
-    while 0 < k {
-        let i = k - 1;
-        let t = back_at(f, n, i, starts, runs, upper, u);
-        if is_finite(t) {
-            f[z + i] = t;
-            k = i;
-        } else {
-            return Back::Stopped(i);
+    for k in (0..n).rev() {
+        let t = back_at(f, n, k, starts, runs, upper, u);
+        if !is_finite(t) {
+            return Err(k);
         }
+        f[z + k] = t;
     }
-    Back::Complete
+    Ok(())
 }

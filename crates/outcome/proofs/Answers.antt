@@ -1,4 +1,5 @@
 -- The answer by the verdicts of the chain, and which numbers each verdict can give.
+use Rattle.std.specs.Prelude.{Ok, Err}
 use mathlib.Core.Path.{◌≡◌, refl, ap, ◌∙◌}
 use mathlib.Core.Bool.{Bool, true}
 use mathlib.Core.List.{List, ◌++◌}
@@ -14,10 +15,6 @@ use Rattle.matrix.specs.Questions.{bad_start, bad_column, bad_index, not_finite,
 use Rattle.arithmetic.specs.Arith.{Out, ok, met, Result}
 use Rattle.base.specs.declared.Counts.{Counts}
 use Rattle.base.specs.declared.Refusal.TheVariants.{Rows, Lengths, Starts, Column, Order, NotFinite, EmptyRow, NullPivot, LowerSlots, UpperSlots, Floor}
-use Rattle.base.specs.declared.Asked.{Asked}
-use Rattle.base.specs.declared.Asked.TheVariants.{Pass, Stop}
-use Rattle.base.specs.declared.Answer.{Answer}
-use Rattle.base.specs.declared.Answer.TheVariants.{Done, Refused}
 use Rattle.matrix.specs.Input.{Input, stored, own_order}
 use Rattle.outcome.specs.Structure.{counts, fits, ask_place, ask_places}
 use Rattle.outcome.specs.Solve.{listed, fault_of, shape, earlier, kept, left, concluded, solve}
@@ -25,7 +22,7 @@ use Rattle.base.specs.declared.Form.{Form}
 use Rattle.base.specs.declared.Form.TheVariants.{Plain, Shared, ByRow}
 use Rattle.outcome.specs.Buffers.{Buffers, sizes, matrix_tests, buffer_tests, stop, cleared, ask_shape}
 use Rattle.base.specs.declared.Sizes.{Sizes}
-use Rattle.base.specs.Answers.{number_of_answer, own, spot, and_then, holds, absent}
+use Rattle.base.specs.Answers.{number_of_answer, own, spot, and_then, holds, absent, Asked, Answer}
 use Rattle.outcome.proofs.Asking.{number-some, Within, within-wide, within-pass, within-holds, within-absent, within-then, all_append}
 use Rattle.base.specs.Limits.{rows_within}
 use Rattle.base.specs.declared.Side.TheVariants.{Lower, Upper}
@@ -33,24 +30,24 @@ use Rattle.base.specs.declared.Side.TheVariants.{Lower, Upper}
 -- ---- the answer alone
 
 abbrev pub faulted : Out Result → Counts → Answer
-faulted (ok a) c = Done c
-faulted (met q) c = Refused (fault_of q)
+faulted (ok a) c = Ok c
+faulted (met q) c = Err (fault_of q)
 
 abbrev pub answered : Asked → Answer → Answer
-answered (Stop q) rest = Refused q
-answered Pass rest = rest
+answered (Err q) rest = Err q
+answered (Ok _) rest = rest
 
 -- questions before 9, questions 9 to 11, the arithmetic
 abbrev pub verdict : Asked → Asked → Out Result → Counts → Answer
 verdict a b o c = answered a (answered b (faulted o c))
 
 chain-answer : (f : Form) (i : Input) (z : Sizes) (x : List Float) (s t u : Buffers) (a b c : Asked) (o : Out Result)
-    → (stop Refused a s (stop Refused b t (stop Refused c u (concluded f i z x o)))).answer ≡ verdict (and_then a b) c o (counts i)
-chain-answer f i z x s t u (Stop q) b c o = refl
-chain-answer f i z x s t u Pass (Stop q) c o = refl
-chain-answer f i z x s t u Pass Pass (Stop q) o = refl
-chain-answer f i z x s t u Pass Pass Pass (ok a) = refl
-chain-answer f i z x s t u Pass Pass Pass (met q) = refl
+    → (stop Err a s (stop Err b t (stop Err c u (concluded f i z x o)))).answer ≡ verdict (and_then a b) c o (counts i)
+chain-answer f i z x s t u (Err q) b c o = refl
+chain-answer f i z x s t u (Ok _) (Err q) c o = refl
+chain-answer f i z x s t u (Ok _) (Ok _) (Err q) o = refl
+chain-answer f i z x s t u (Ok _) (Ok _) (Ok _) (ok a) = refl
+chain-answer f i z x s t u (Ok _) (Ok _) (Ok _) (met q) = refl
 
 pub solve-answer : (f : Form) (i : Input) (s : Buffers)
     → (solve f i s).answer ≡ verdict (earlier f i (sizes s)) (ask_places f (stored i) i.n (sizes s) i.n) (listed i) (counts i)
@@ -67,13 +64,13 @@ left-x ByRow i z a = refl
 
 -- a solution leaves the buffers of the definition
 chain_left : (f : Form) (i : Input) (z : Sizes) (x : List Float) (s t u : Buffers) (a b c : Asked) (o : Out Result)
-    → number_of_answer (stop Refused a s (stop Refused b t (stop Refused c u (concluded f i z x o)))).answer ≡ 0
-    → (r : Result) × (o ≡ ok r) × ((stop Refused a s (stop Refused b t (stop Refused c u (concluded f i z x o)))).buffers ≡ left f i z r)
-chain_left f i z x s t u (Stop q) b c o e = absurd (number-some q e)
-chain_left f i z x s t u Pass (Stop q) c o e = absurd (number-some q e)
-chain_left f i z x s t u Pass Pass (Stop q) o e = absurd (number-some q e)
-chain_left f i z x s t u Pass Pass Pass (ok a) e = (a, refl, refl)
-chain_left f i z x s t u Pass Pass Pass (met q) e = absurd (number-some (fault_of q) e)
+    → number_of_answer (stop Err a s (stop Err b t (stop Err c u (concluded f i z x o)))).answer ≡ 0
+    → (r : Result) × (o ≡ ok r) × ((stop Err a s (stop Err b t (stop Err c u (concluded f i z x o)))).buffers ≡ left f i z r)
+chain_left f i z x s t u (Err q) b c o e = absurd (number-some q e)
+chain_left f i z x s t u (Ok _) (Err q) c o e = absurd (number-some q e)
+chain_left f i z x s t u (Ok _) (Ok _) (Err q) o e = absurd (number-some q e)
+chain_left f i z x s t u (Ok _) (Ok _) (Ok _) (ok a) e = (a, refl, refl)
+chain_left f i z x s t u (Ok _) (Ok _) (Ok _) (met q) e = absurd (number-some (fault_of q) e)
 
 pub solve-left : (f : Form) (i : Input) (s : Buffers) → number_of_answer (solve f i s).answer ≡ 0 → (r : Result) × (listed i ≡ ok r) × ((solve f i s).buffers ≡ left f i (sizes s) r)
 unfolding solve

@@ -1,4 +1,5 @@
 -- Laws of questions: what a stop tells, and the turns that a run of questions can give.
+use Rattle.std.specs.Prelude.{Some, Ok, None, Err}
 use mathlib.Core.Path.{◌≡◌, sym}
 use mathlib.Core.Bool.{Bool, true, false, cond}
 use mathlib.Core.List.{List, ◌++◌}
@@ -7,19 +8,15 @@ use native.Mathlib.Omega.{arith}
 use lib.Dec.{eqb}
 use borrow.Author.Tests.{eqb-true}
 use Rattle.base.specs.Lists.{bit}
-use Rattle.base.specs.Answers.{number_of, holds, absent, and_then}
+use Rattle.base.specs.Answers.{number_of, holds, absent, and_then, Pass, Found, Asked}
 use Rattle.base.specs.FirstLaws.{stop-pass}
 use Rattle.base.specs.All.{all}
 use Rattle.base.specs.AllLaws.{all_join}
 use Rattle.base.specs.Tests.{by-test}
-use Rattle.base.specs.declared.Found.{Found}
-use Rattle.base.specs.declared.Found.TheVariants.{At, Nothing}
 use Rattle.base.specs.declared.Refusal.{Refusal}
 use Rattle.base.specs.declared.Refusal.TheVariants.{Rows, Lengths, Starts, Column, Order, NotFinite, EmptyRow, NullPivot, LowerSlots, UpperSlots, ZeroPivot, Overflow, OtherStructure, BadFactors, FileLength, Block, FileShape, Floor, FactorShape, Products}
-use Rattle.base.specs.declared.Asked.{Asked}
-use Rattle.base.specs.declared.Asked.TheVariants.{Pass, Stop}
 
-pub stop-inj : (q r : Refusal) → Stop q ≡ Stop r → q ≡ r
+pub stop-inj : (q r : Refusal) → ◌≡◌ {A = Asked} (Err q) (Err r) → q ≡ r
 stop-inj q r e = cc
 
 -- no refusal has the number 0, and none has 8 any more
@@ -65,14 +62,14 @@ turned q =
 
 -- every refusal of a has P
 unfoldable pub Only : (Refusal → Type 0) → Asked → Type 0
-Only P a = (q : Refusal) → a ≡ Stop q → P q
+Only P a = (q : Refusal) → a ≡ Err q → P q
 
 module _ (P : Refusal → Type 0) where
   only-pass : Only P Pass
   unfolding Only
   only-pass q e = absurd (stop-pass q (sym e))
 
-  only-stop : (r : Refusal) → P r → Only P (Stop r)
+  only-stop : (r : Refusal) → P r → Only P (Err r)
   unfolding Only
   only-stop r p q e = rw (← stop-inj r q e) p
 
@@ -81,19 +78,19 @@ module _ (P : Refusal → Type 0) where
   only-holds false r p = only-stop r p
 
   pub only-absent : (o : Found) (f : ℕ → Refusal) → ((k : ℕ) → P (f k)) → Only P (absent o f)
-  only-absent (At k) f p = only-stop (f k) (p k)
-  only-absent Nothing f p = only-pass
+  only-absent (Some k) f p = only-stop (f k) (p k)
+  only-absent None f p = only-pass
 
   pub only_then : (a b : Asked) → Only P a → Only P b → Only P (and_then a b)
-  only_then (Stop q) b h g = h
-  only_then Pass b h g = g
+  only_then (Err q) b h g = h
+  only_then (Ok _) b h g = g
 
 -- a turn between lo and hi, of one refusal and of all
 abbrev Turn : ℕ → ℕ → Refusal → Type 0
 Turn lo hi q = (lo ≤ turn_of q) × (turn_of q ≤ hi)
 
 unfoldable pub Within : ℕ → ℕ → Asked → Type 0
-Within lo hi a = (q : Refusal) → a ≡ Stop q → (lo ≤ turn_of q) × (turn_of q ≤ hi)
+Within lo hi a = (q : Refusal) → a ≡ Err q → (lo ≤ turn_of q) × (turn_of q ≤ hi)
 
 pub within-wide : (lo hi lo' hi' : ℕ) (a : Asked) → lo' ≤ lo → hi ≤ hi' → Within lo hi a → Within lo' hi' a
 unfolding Within
@@ -104,7 +101,7 @@ module _ (lo hi : ℕ) where
   unfolding Within Only
   within-pass = only-pass (Turn lo hi)
 
-  pub within-stop : (r : Refusal) → lo ≤ turn_of r → turn_of r ≤ hi → Within lo hi (Stop r)
+  pub within-stop : (r : Refusal) → lo ≤ turn_of r → turn_of r ≤ hi → Within lo hi (Err r)
   unfolding Within Only
   within-stop r l h = only-stop (Turn lo hi) r (l, h)
 

@@ -1,19 +1,16 @@
 -- What each refusal leaves in the buffers, by its number, in every call.
+use Rattle.std.specs.Prelude.{Ok, Err}
 use mathlib.Core.Path.{◌≡◌, refl}
 use mathlib.Core.List.{List, ◌++◌}
 use Prim.Native.Nat.{ℕ, ◌≤◌}
 use native.Mathlib.Omega.{arith}
 use lib.Ieee.{Float}
 use Rattle.base.specs.Lists.{nought}
-use Rattle.base.specs.Answers.{number_of, number_of_answer, number_of_end, spot}
+use Rattle.base.specs.Answers.{number_of, number_of_answer, spot, Pass, Asked}
 use Rattle.base.specs.First.{first}
 use Rattle.base.specs.declared.Form.{Form}
 use Rattle.base.specs.declared.Refusal.{Refusal}
 use Rattle.base.specs.declared.Refusal.TheVariants.{OtherStructure, BadFactors}
-use Rattle.base.specs.declared.Asked.{Asked}
-use Rattle.base.specs.declared.Asked.TheVariants.{Pass, Stop}
-use Rattle.base.specs.declared.Answer.TheVariants.{Done, Refused}
-use Rattle.base.specs.declared.Ended.TheVariants as ends
 use Rattle.matrix.specs.Input.{Input, stored}
 use Rattle.matrix.specs.Questions.{ask_structure, ask_solve, ask_right}
 use Rattle.arithmetic.specs.Arith.{Fault, zero_pivot, overflow, Out, ok, met, judged, Result}
@@ -47,8 +44,8 @@ module _ {A : Type 0} (number : A → ℕ) (refuse : Refusal → A) (told : (q :
 
   stop-first : (a : Asked) (o : Outcome A) → Within 1 2 a → Ends number s t o → Ends number s t (stop refuse a s o)
   unfolding Within
-  stop-first Pass o w h = h
-  stop-first (Stop q) o w h =
+  stop-first (Ok _) o w h = h
+  stop-first (Err q) o w h =
       let r = w q refl in
       let e = told q in
       let v = turned q in
@@ -56,8 +53,8 @@ module _ {A : Type 0} (number : A → ℕ) (refuse : Refusal → A) (told : (q :
 
   stop-scratch : (a : Asked) (o : Outcome A) → Within 3 7 a → Ends number s t o → Ends number s t (stop refuse a (scratch_cleared s) o)
   unfolding Within scratch_cleared
-  stop-scratch Pass o w h = h
-  stop-scratch (Stop q) o w h =
+  stop-scratch (Ok _) o w h = h
+  stop-scratch (Err q) o w h =
       let r = w q refl in
       let e = told q in
       let v = turned q in
@@ -65,8 +62,8 @@ module _ {A : Type 0} (number : A → ℕ) (refuse : Refusal → A) (told : (q :
 
   stop-checked : (a : Asked) (o : Outcome A) → Within 14 15 a → Ends number s t o → Ends number s t (stop refuse a (scratch_cleared s) o)
   unfolding Within scratch_cleared
-  stop-checked Pass o w h = h
-  stop-checked (Stop q) o w h =
+  stop-checked (Ok _) o w h = h
+  stop-checked (Err q) o w h =
       let r = w q refl in
       let e = told q in
       let v = turned q in
@@ -74,8 +71,8 @@ module _ {A : Type 0} (number : A → ℕ) (refuse : Refusal → A) (told : (q :
 
   stop-all : (a : Asked) (o : Outcome A) → Within 9 13 a → Ends number s t o → Ends number s t (stop refuse a t o)
   unfolding Within
-  stop-all Pass o w h = h
-  stop-all (Stop q) o w h =
+  stop-all (Ok _) o w h = h
+  stop-all (Err q) o w h =
       let r = w q refl in
       let e = told q in
       let v = turned q in
@@ -85,14 +82,8 @@ fault-range : (q : Fault) → (9 ≤ turn_of (fault_of q)) × (turn_of (fault_of
 fault-range (zero_pivot k) = (omega arith, omega arith)
 fault-range (overflow k) = (omega arith, omega arith)
 
-pub fault-within : (q : Fault) → Within 9 13 (Stop (fault_of q))
+pub fault-within : (q : Fault) → Within 9 13 (Err (fault_of q))
 fault-within q = within-stop 9 13 (fault_of q) (fault-range q).0 (fault-range q).1
-
-answer-told : (q : Refusal) → number_of_answer (Refused q) ≡ number_of q
-answer-told q = refl
-
-end-told : (q : Refusal) → number_of_end (ends.Refused q) ≡ number_of q
-end-told q = refl
 
 module _ (f : Form) (i : Input) (s : Buffers) where
   places : Within 9 13 (ask_places f (stored i) i.n (sizes s) i.n)
@@ -102,59 +93,59 @@ module _ (f : Form) (i : Input) (s : Buffers) where
   unfolding structure cleared
   structure-ends =
       let u = cleared (sizes s) s.x in
-      stop-first number_of_answer Refused answer-told s u refl (ask_shape i.n (pattern_tests i ++ structure_tests f i.n (sizes s))) _ (ask-shape-within i.n (pattern_tests i ++ structure_tests f i.n (sizes s)))
-      (stop-scratch number_of_answer Refused answer-told s u refl (ask_structure i) _ (structure-within i)
-      (stop-all number_of_answer Refused answer-told s u refl (ask_places f (stored i) i.n (sizes s) i.n) _ places
-      (done number_of_answer Refused answer-told s u refl (Done (counts i)) (structured f i (sizes s)) refl)))
+      stop-first number_of_answer Err (λ q. refl) s u refl (ask_shape i.n (pattern_tests i ++ structure_tests f i.n (sizes s))) _ (ask-shape-within i.n (pattern_tests i ++ structure_tests f i.n (sizes s)))
+      (stop-scratch number_of_answer Err (λ q. refl) s u refl (ask_structure i) _ (structure-within i)
+      (stop-all number_of_answer Err (λ q. refl) s u refl (ask_places f (stored i) i.n (sizes s) i.n) _ places
+      (done number_of_answer Err (λ q. refl) s u refl (Ok (counts i)) (structured f i (sizes s)) refl)))
 
   concluded-ends : (o : Out Result) → Ends number_of_answer s (cleared (sizes s) s.x) (concluded f i (sizes s) s.x o)
   unfolding cleared
-  concluded-ends (ok a) = done number_of_answer Refused answer-told s (cleared (sizes s) s.x) refl (Done (counts i)) (left f i (sizes s) a) refl
+  concluded-ends (ok a) = done number_of_answer Err (λ q. refl) s (cleared (sizes s) s.x) refl (Ok (counts i)) (left f i (sizes s) a) refl
   concluded-ends (met q) =
-      stop-all number_of_answer Refused answer-told s (cleared (sizes s) s.x) refl (Stop (fault_of q)) (ended (Done (counts i)) s) (fault-within q)
-      (done number_of_answer Refused answer-told s (cleared (sizes s) s.x) refl (Done (counts i)) s refl)
+      stop-all number_of_answer Err (λ q. refl) s (cleared (sizes s) s.x) refl (Err (fault_of q)) (ended (Ok (counts i)) s) (fault-within q)
+      (done number_of_answer Err (λ q. refl) s (cleared (sizes s) s.x) refl (Ok (counts i)) s refl)
 
   pub solve-ends : Ends number_of_answer s (cleared (sizes s) s.x) (solve f i s)
   unfolding solve cleared
   solve-ends =
       let u = cleared (sizes s) s.x in
-      stop-first number_of_answer Refused answer-told s u refl (shape f i (sizes s)) _ (shape-within f i (sizes s))
-      (stop-scratch number_of_answer Refused answer-told s u refl (ask_solve i) _ (solve-within i)
-      (stop-all number_of_answer Refused answer-told s u refl (ask_places f (stored i) i.n (sizes s) i.n) _ places
+      stop-first number_of_answer Err (λ q. refl) s u refl (shape f i (sizes s)) _ (shape-within f i (sizes s))
+      (stop-scratch number_of_answer Err (λ q. refl) s u refl (ask_solve i) _ (solve-within i)
+      (stop-all number_of_answer Err (λ q. refl) s u refl (ask_places f (stored i) i.n (sizes s) i.n) _ places
       (concluded-ends (listed i))))
 
-  refactored-ends : (o : Out Result) → Ends number_of_end s (emptied s) (refactored f i s o)
+  refactored-ends : (o : Out Result) → Ends number_of_answer s (emptied s) (refactored f i s o)
   unfolding emptied
-  refactored-ends (ok a) = done number_of_end ends.Refused end-told s (emptied s) refl ends.Done _ refl
+  refactored-ends (ok a) = done number_of_answer Err (λ q. refl) s (emptied s) refl Pass _ refl
   refactored-ends (met q) =
-      stop-all number_of_end ends.Refused end-told s (emptied s) refl (Stop (fault_of q)) (ended ends.Done s) (fault-within q) (done number_of_end ends.Refused end-told s (emptied s) refl ends.Done s refl)
+      stop-all number_of_answer Err (λ q. refl) s (emptied s) refl (Err (fault_of q)) (ended Pass s) (fault-within q) (done number_of_answer Err (λ q. refl) s (emptied s) refl Pass s refl)
 
   presented : Within 14 15 (ask_presented f (stored i) i.n s)
   unfolding ask_presented
   presented = within-absent 14 15 (first (differs f (stored i) i.n s) i.n) (λ k. OtherStructure (spot k)) (λ k. omega arith) (λ k. omega arith)
 
-  pub refactor-ends : Ends number_of_end s (emptied s) (refactor f i s)
+  pub refactor-ends : Ends number_of_answer s (emptied s) (refactor f i s)
   unfolding refactor emptied
   refactor-ends =
-      stop-first number_of_end ends.Refused end-told s (emptied s) refl (shape f i (sizes s)) _ (shape-within f i (sizes s))
-      (stop-scratch number_of_end ends.Refused end-told s (emptied s) refl (ask_solve i) _ (solve-within i)
-      (stop-checked number_of_end ends.Refused end-told s (emptied s) refl (ask_presented f (stored i) i.n s) _ presented
+      stop-first number_of_answer Err (λ q. refl) s (emptied s) refl (shape f i (sizes s)) _ (shape-within f i (sizes s))
+      (stop-scratch number_of_answer Err (λ q. refl) s (emptied s) refl (ask_solve i) _ (solve-within i)
+      (stop-checked number_of_answer Err (λ q. refl) s (emptied s) refl (ask_presented f (stored i) i.n s) _ presented
       (refactored-ends (listed i))))
 
-  resolved-ends : (o : Out (List Float)) → Ends number_of_end s (scratch_cleared s) (resolved i s o)
+  resolved-ends : (o : Out (List Float)) → Ends number_of_answer s (scratch_cleared s) (resolved i s o)
   unfolding scratch_cleared
-  resolved-ends (ok z) = done number_of_end ends.Refused end-told s (scratch_cleared s) refl ends.Done _ refl
+  resolved-ends (ok z) = done number_of_answer Err (λ q. refl) s (scratch_cleared s) refl Pass _ refl
   resolved-ends (met q) =
-      stop-all number_of_end ends.Refused end-told s (scratch_cleared s) refl (Stop (fault_of q)) (ended ends.Done s) (fault-within q) (done number_of_end ends.Refused end-told s (scratch_cleared s) refl ends.Done s refl)
+      stop-all number_of_answer Err (λ q. refl) s (scratch_cleared s) refl (Err (fault_of q)) (ended Pass s) (fault-within q) (done number_of_answer Err (λ q. refl) s (scratch_cleared s) refl Pass s refl)
 
   pub factored : Within 14 15 (ask_factors f i.n s)
   unfolding ask_factors
   factored = within-absent 14 15 (first (bad_at f i.n s) i.n) (λ k. BadFactors (spot k)) (λ k. omega arith) (λ k. omega arith)
 
-  pub resolve-ends : Ends number_of_end s (scratch_cleared s) (resolve f i s)
+  pub resolve-ends : Ends number_of_answer s (scratch_cleared s) (resolve f i s)
   unfolding resolve scratch_cleared
   resolve-ends =
-      stop-first number_of_end ends.Refused end-told s (scratch_cleared s) refl (ask_shape i.n (right_tests i ++ buffer_tests f i.n (sizes s))) _ (ask-shape-within i.n (right_tests i ++ buffer_tests f i.n (sizes s)))
-      (stop-scratch number_of_end ends.Refused end-told s (scratch_cleared s) refl (ask_right i.n i.r i.c i.b) _ (within-wide 5 6 3 7 _ (omega arith) (omega arith) (right-within i.n i.r i.c i.b))
-      (stop-checked number_of_end ends.Refused end-told s (scratch_cleared s) refl (ask_factors f i.n s) _ factored
+      stop-first number_of_answer Err (λ q. refl) s (scratch_cleared s) refl (ask_shape i.n (right_tests i ++ buffer_tests f i.n (sizes s))) _ (ask-shape-within i.n (right_tests i ++ buffer_tests f i.n (sizes s)))
+      (stop-scratch number_of_answer Err (λ q. refl) s (scratch_cleared s) refl (ask_right i.n i.r i.c i.b) _ (within-wide 5 6 3 7 _ (omega arith) (omega arith) (right-within i.n i.r i.c i.b))
+      (stop-checked number_of_answer Err (λ q. refl) s (scratch_cleared s) refl (ask_factors f i.n s) _ factored
       (resolved-ends (judged nought (whole_again (factors_of f i s))))))

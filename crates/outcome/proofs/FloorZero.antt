@@ -1,13 +1,12 @@
 -- "f = 0 behaves as before": with a floor of zero, of either sign, each call that factors ends as without one.
+use Rattle.std.specs.Prelude.{Ok, Err}
 use mathlib.Core.Path.{◌≡◌, refl, ap}
 use mathlib.Core.Bool.{true}
 use mathlib.Core.List.{List, [], ◌∷◌}
 use lib.Ieee.{Float, eq}
 use Rattle.base.specs.Lists.{nought}
 use Rattle.base.proofs.Floors.{most-zero, zero-floor}
-use Rattle.base.specs.Answers.{and_then}
-use Rattle.base.specs.declared.Asked.{Asked}
-use Rattle.base.specs.declared.Asked.TheVariants.{Pass, Stop}
+use Rattle.base.specs.Answers.{and_then, Pass, Asked}
 use Rattle.base.specs.declared.Form.{Form}
 use Rattle.matrix.specs.Input.{Input}
 use Rattle.matrix.specs.Questions.{ask7, ask6, ask_floor, ask_numbers, ask_pattern, ask_solve}
@@ -31,8 +30,8 @@ module _ (i : Input) (z : eq i.floor nought ≡ true) where
   listed_same = first-same i.floor z (whole_run (system i)).events (whole_run (system i)).value
 
   pass-after : (a : Asked) → and_then a Pass ≡ a
-  pass-after Pass = refl
-  pass-after (Stop q) = refl
+  pass-after (Ok _) = refl
+  pass-after (Err q) = refl
 
   numbers-same : ask_numbers i.values i.b i.floor ≡ ask6 i.values i.b
   unfolding ask_numbers ask_floor

@@ -1,4 +1,5 @@
 -- Every buffer is as long at exit as at entry: what the definition says of them can be held.
+use Rattle.std.specs.Prelude.{Ok, Err}
 use mathlib.Core.Path.{◌≡◌, refl, sym, ap, ◌∙◌}
 use mathlib.Core.Bool.{true}
 use mathlib.Core.List.{List, [], ◌∷◌, ◌++◌}
@@ -8,12 +9,11 @@ use native.Mathlib.Numerals.{add-one}
 use lib.ListN.{length, get_or, length-append, length-replicate, length-map}
 use lib.Dec.{leb}
 use Rattle.base.specs.declared.Side.TheVariants.{Lower, Upper}
-use Rattle.base.specs.declared.Answer.TheVariants.{Refused}
 use Rattle.outcome.specs.Structure.{side_placed, fits, ask_places, runs_kept}
 use Rattle.outcome.specs.Solve.{values_kept, pivots_kept, system, listed, shape, multiplier, values_of, kept, left, concluded, solve}
 use Rattle.base.specs.FirstLaws.{both-pass, holds-pass}
 use Rattle.base.specs.Tests.{and_cases}
-use Rattle.base.specs.Answers.{holds}
+use Rattle.base.specs.Answers.{holds, Pass, Asked}
 use Rattle.base.specs.All.{all}
 use Rattle.base.specs.AllLaws.{all_true}
 use Rattle.base.specs.Limits.{rows_within}
@@ -28,8 +28,6 @@ use Rattle.placement.specs.Placing.{Way, after, placed, start_of}
 use Rattle.arithmetic.specs.Arith.{Out, ok, met, Row, none, Result, whole_run}
 use Rattle.arithmetic.specs.Meets.{judged-value}
 use Rattle.base.specs.declared.Refusal.TheVariants.{Rows, Lengths}
-use Rattle.base.specs.declared.Asked.{Asked}
-use Rattle.base.specs.declared.Asked.TheVariants.{Pass, Stop}
 use Rattle.matrix.specs.Input.{Input, stored, own_order}
 use Rattle.base.specs.declared.Form.{Form}
 use Rattle.base.specs.declared.Form.TheVariants.{Plain, Shared, ByRow}
@@ -157,12 +155,12 @@ left-same ByRow i z a p q e =
     cleared-same z (own_order i.c i.n a.z) (own-length i a.z ∙ sym (eqb-true _ _ (t 11)))
 
 chain_same : (f : Form) (i : Input) (s : Buffers) (a b c : Asked) (o : Out Result) → ((r : Result) → a ≡ Pass → c ≡ Pass → o ≡ ok r → sizes (left f i (sizes s) r) ≡ sizes s)
-    → sizes (stop Refused a s (stop Refused b (scratch_cleared s) (stop Refused c (cleared (sizes s) s.x) (concluded f i (sizes s) s.x o)))).buffers ≡ sizes s
-chain_same f i s (Stop q) b c o h = refl
-chain_same f i s Pass (Stop q) c o h = scratch-same s
-chain_same f i s Pass Pass (Stop q) o h = cleared-same (sizes s) s.x refl
-chain_same f i s Pass Pass Pass (ok a) h = h a refl refl refl
-chain_same f i s Pass Pass Pass (met q) h = cleared-same (sizes s) s.x refl
+    → sizes (stop Err a s (stop Err b (scratch_cleared s) (stop Err c (cleared (sizes s) s.x) (concluded f i (sizes s) s.x o)))).buffers ≡ sizes s
+chain_same f i s (Err q) b c o h = refl
+chain_same f i s (Ok _) (Err q) c o h = scratch-same s
+chain_same f i s (Ok _) (Ok _) (Err q) o h = cleared-same (sizes s) s.x refl
+chain_same f i s (Ok _) (Ok _) (Ok _) (ok a) h = h a refl refl refl
+chain_same f i s (Ok _) (Ok _) (Ok _) (met q) h = cleared-same (sizes s) s.x refl
 
 pub lengths-kept : (f : Form) (i : Input) (s : Buffers) → sizes (solve f i s).buffers ≡ sizes s
 unfolding solve

@@ -1,4 +1,5 @@
 -- M' by the inverse order, x by the column order, and the listed operations as code does them.
+use Rattle.std.specs.Prelude.{None}
 use mathlib.Core.Path.{◌≡◌, refl, sym, ap, ap₂, ◌∙◌}
 use mathlib.Core.Bool.{◌||◌}
 use mathlib.Core.List.{List, [], ◌∷◌, map}
@@ -17,7 +18,6 @@ use Rattle.base.specs.TableLaws.{get_or-table}
 use Rattle.matrix.specs.Questions.{IsOrder, bad_column}
 use Rattle.matrix.proofs.OrderLaws.{order_below, place_of, place-hits}
 use Rattle.matrix.specs.Input.{ic, Input, stored, own_order}
-use Rattle.base.specs.declared.Found.TheVariants.{Nothing}
 use Rattle.arithmetic.specs.Stopping.{solved}
 use Rattle.arithmetic.proofs.StoppingLaws.{solved-is}
 use Rattle.outcome.specs.Solve.{system, listed}
@@ -43,7 +43,7 @@ has-map f q p (x ∷ xs) e h = ap₂ (λ a b. a || b) (at (ℕ_discrete x q)) (h
     at (yes u) = eq-eqb (f x) p (ap f u ∙ e) ∙ sym (eq-eqb x q u)
     at (no u) = ne_eqb (f x) p (λ v. u (h zero (omega arith) v)) ∙ sym (ne_eqb x q u)
 
-row_below : (n a : ℕ) (s j : List ℕ) → first (bad_column j n) (length j) ≡ Nothing → (t : ℕ) → t < length (row_of s j a) → get_or (row_of s j a) t 0 < n
+row_below : (n a : ℕ) (s j : List ℕ) → first (bad_column j n) (length j) ≡ None → (t : ℕ) → t < length (row_of s j a) → get_or (row_of s j a) t 0 < n
 unfolding list_at bad_column
 row_below n a s j h t l =
     let b : t < length (take (get_or s (a + 1) 0 - get_or s a 0) (drop (get_or s a 0) j)) = l in
@@ -51,7 +51,7 @@ row_below n a s j h t l =
     rw (get_or-take (get_or s (a + 1) 0 - get_or s a 0) (drop (get_or s a 0) j) t 0 (omega arith), get_or-drop) (leb-false n (get_or j (get_or s a 0 + t) 0) (first-none (bad_column j n) (length j) h (get_or s a 0 + t) (omega arith)))
 
 -- M' has (k, p) exactly where M has (r(k), c(p))
-pub stored_is : (i : Input) (k p : ℕ) → IsOrder i.c i.n → first (bad_column i.columns i.n) (length i.columns) ≡ Nothing → p < i.n
+pub stored_is : (i : Input) (k p : ℕ) → IsOrder i.c i.n → first (bad_column i.columns i.n) (length i.columns) ≡ None → p < i.n
     → stored i k p ≡ has (row_of i.starts i.columns (get_or i.r k 0)) (get_or i.c p 0)
 unfolding stored
 stored_is i k p o h l =

@@ -1,9 +1,9 @@
 -- The buffers that the calls write, their lengths, and questions 1 and 2. Definitions only.
 -- A call that is not lent a buffer has [] for it: the plain form has no run starts, the row form no lower side, the structure call no d and no x.
-use Rattle.std.specs.Prelude.{Bool, List, [], ◌∷◌, ◌++◌, ℕ, ◌+◌, ◌*◌, length, replicate, leb, eqb, Float}
+use Rattle.std.specs.Prelude.{Bool, List, [], ◌∷◌, ◌++◌, ℕ, ◌+◌, ◌*◌, length, replicate, leb, eqb, Float, Ok, Err}
 use Rattle.base.specs.Lists.{nought}
 use Rattle.base.specs.All.{all}
-use Rattle.base.specs.Answers.{holds, and_then}
+use Rattle.base.specs.Answers.{holds, and_then, Asked}
 use Rattle.base.specs.Limits.{max_entries, max_slots, rows_within}
 use Rattle.matrix.specs.Input.{Input}
 use Rattle.base.specs.declared.Form.{Form}
@@ -14,8 +14,6 @@ use Rattle.base.specs.declared.SideSizes.{SideSizes}
 use Rattle.base.specs.declared.Sizes.{Sizes}
 use Rattle.base.specs.declared.Refusal.{Refusal}
 use Rattle.base.specs.declared.Refusal.TheVariants.{Rows, Lengths}
-use Rattle.base.specs.declared.Asked.{Asked}
-use Rattle.base.specs.declared.Asked.TheVariants.{Pass, Stop}
 
 -- "Lower and upper each have list starts (n + 1 slots), an index store and a value store; the shared form has n run starts besides for each"
 pub record SideBuffers : Type 0 where
@@ -154,5 +152,5 @@ ended a s = record { answer = a; buffers = s }
 
 -- questions, and what follows where they are passed
 abbrev pub stop : {A : Type 0} → (Refusal → A) → Asked → Buffers → Outcome A → Outcome A
-stop refuse (Stop q) s rest = ended (refuse q) s
-stop refuse Pass s rest = rest
+stop refuse (Err q) s rest = ended (refuse q) s
+stop refuse (Ok _) s rest = rest

@@ -1,9 +1,8 @@
 -- What the calls ensure, of the lists that each is lent: the input, the lists at entry in the order of the call's parameters, the answer, the lists at exit. Definitions only.
+use Rattle.base.specs.Answers.{Asked, Answer}
 use Rattle.std.specs.Prelude.{◌≡◌, List, [], ℕ, Float}
 use Rattle.matrix.specs.Input.{Input}
 use Rattle.base.specs.declared.Form.TheVariants.{Plain, Shared, ByRow}
-use Rattle.base.specs.declared.Answer.{Answer}
-use Rattle.base.specs.declared.Ended.{Ended}
 use Rattle.outcome.specs.Buffers.{plain_buffers, shared_buffers, row_buffers, ended}
 use Rattle.outcome.specs.Structure.{structure}
 use Rattle.outcome.specs.Solve.{Solves}
@@ -38,10 +37,10 @@ SolvesByRow i us ur ui uv d x w m a us' ur' ui' uv' d' x' w' m' =
     Solves ByRow i (row_buffers us ur ui uv d x w m) a (row_buffers us' ur' ui' uv' d' x' w' m')
 
 -- another right side writes x and the scratch only
-abbrev pub ResolvesPlain : Input → (ls li : List ℕ) (lv : List Float) (us ui : List ℕ) (uv d x w : List Float) (m : List ℕ) → Ended → (x' w' : List Float) (m' : List ℕ) → Type 0
+abbrev pub ResolvesPlain : Input → (ls li : List ℕ) (lv : List Float) (us ui : List ℕ) (uv d x w : List Float) (m : List ℕ) → Asked → (x' w' : List Float) (m' : List ℕ) → Type 0
 ResolvesPlain i ls li lv us ui uv d x w m a x' w' m' =
     ended a (plain_buffers ls li lv us ui uv d x' w' m') ≡ resolve Plain i (plain_buffers ls li lv us ui uv d x w m)
 
-abbrev pub ResolvesShared : Input → (ls lr li : List ℕ) (lv : List Float) (us ur ui : List ℕ) (uv d x w : List Float) (m : List ℕ) → Ended → (x' w' : List Float) (m' : List ℕ) → Type 0
+abbrev pub ResolvesShared : Input → (ls lr li : List ℕ) (lv : List Float) (us ur ui : List ℕ) (uv d x w : List Float) (m : List ℕ) → Asked → (x' w' : List Float) (m' : List ℕ) → Type 0
 ResolvesShared i ls lr li lv us ur ui uv d x w m a x' w' m' =
     ended a (shared_buffers ls lr li lv us ur ui uv d x' w' m') ≡ resolve Shared i (shared_buffers ls lr li lv us ur ui uv d x w m)

@@ -1,8 +1,8 @@
 -- Refactor: new values over a structure found before, in the plain or the shared form. Definitions only.
-use Rattle.std.specs.Prelude.{Bool, true, false, not, ◌&&◌, List, [], ℕ, suc, ◌+◌, length, get_or, take, drop, replicate, eqb, Float}
+use Rattle.std.specs.Prelude.{Bool, true, false, not, ◌&&◌, List, [], ℕ, suc, ◌+◌, length, get_or, take, drop, replicate, eqb, Float, Ok, Err}
 use Rattle.base.specs.Lists.{padded, nought}
 use Rattle.base.specs.First.{first}
-use Rattle.base.specs.Answers.{spot, absent}
+use Rattle.base.specs.Answers.{spot, absent, Pass, Asked}
 use Rattle.fill.specs.Fill.{Pattern}
 use Rattle.placement.specs.Placing.{same, run_of}
 use Rattle.matrix.specs.Input.{Input, stored, own_order}
@@ -13,10 +13,6 @@ use Rattle.base.specs.declared.Form.TheVariants.{Plain, Shared, ByRow}
 use Rattle.base.specs.declared.Side.{Side}
 use Rattle.base.specs.declared.Side.TheVariants.{Lower, Upper}
 use Rattle.base.specs.declared.Refusal.TheVariants.{OtherStructure}
-use Rattle.base.specs.declared.Asked.{Asked}
-use Rattle.base.specs.declared.Asked.TheVariants.{Pass, Stop}
-use Rattle.base.specs.declared.Ended.{Ended}
-use Rattle.base.specs.declared.Ended.TheVariants.{Done, Refused}
 use Rattle.outcome.specs.Forms.{lists_of, placed_to, value_need}
 use Rattle.outcome.specs.Buffers.{SideBuffers, side_buffers, Buffers, all_buffers, sizes, scratch_cleared, Outcome, ended, stop}
 use Rattle.outcome.specs.Structure.{ask_place}
@@ -36,8 +32,8 @@ same_at f side P n b k =
     && same (take (length (lists_of f side P n k)) (drop (run_of (placed_to f side P n n) k) b.index)) (lists_of f side P n k)
 
 abbrev pub passes : Asked → Bool
-passes Pass = true
-passes (Stop q) = false
+passes (Ok _) = true
+passes (Err q) = false
 
 -- "first k that differs or at which that call refuses"
 unfoldable pub differs : Form → Pattern → ℕ → Buffers → ℕ → Bool
@@ -63,14 +59,14 @@ emptied s =
     all_buffers (revalued s.lower []) (revalued s.upper []) (replicate (length s.d) nought) s.x
     (replicate (length s.work) nought) (replicate (length s.marks) 0)
 
-abbrev pub refactored : Form → Input → Buffers → Out Result → Outcome Ended
-refactored f i s (ok a) = ended Done (refilled f (stored i) i.n s a.rows (pivots_kept i.n a.rows) (own_order i.c i.n a.z))
-refactored f i s (met q) = ended (Refused (fault_of q)) (emptied s)
+abbrev pub refactored : Form → Input → Buffers → Out Result → Outcome Asked
+refactored f i s (ok a) = ended Pass (refilled f (stored i) i.n s a.rows (pivots_kept i.n a.rows) (own_order i.c i.n a.z))
+refactored f i s (met q) = ended (Err (fault_of q)) (emptied s)
 
 -- refactor: 1 to 6, 19, 7, 14, then 12 and 13
-unfoldable pub refactor : Form → Input → Buffers → Outcome Ended
+unfoldable pub refactor : Form → Input → Buffers → Outcome Asked
 refactor f i s =
-    stop Refused (shape f i (sizes s)) s
-    (stop Refused (ask_solve i) (scratch_cleared s)
-    (stop Refused (ask_presented f (stored i) i.n s) (scratch_cleared s)
+    stop Err (shape f i (sizes s)) s
+    (stop Err (ask_solve i) (scratch_cleared s)
+    (stop Err (ask_presented f (stored i) i.n s) (scratch_cleared s)
     (refactored f i s (listed i))))

@@ -1,10 +1,10 @@
 -- Another right side: factors found before, a new b, in the plain or the shared form. Definitions only.
-use Rattle.std.specs.Prelude.{Bool, true, not, cond, ◌&&◌, ◌||◌, List, [], ◌∷◌, ◌++◌, ℕ, suc, ◌+◌, ◌-◌, length, get_or, replicate, leb, ltb, eqb, Float}
+use Rattle.std.specs.Prelude.{Bool, true, not, cond, ◌&&◌, ◌||◌, List, [], ◌∷◌, ◌++◌, ℕ, suc, ◌+◌, ◌-◌, length, get_or, replicate, leb, ltb, eqb, Float, Err}
 use Rattle.std.specs.Float.{nan}
 use Rattle.std.specs.Float.Ieee.Scale.{finite}
 use Rattle.base.specs.Lists.{list_at, row_of, pairs, joined, nought}
 use Rattle.base.specs.First.{first}
-use Rattle.base.specs.Answers.{spot, absent}
+use Rattle.base.specs.Answers.{spot, absent, Pass, Asked}
 use Rattle.placement.specs.Placing.{first_at}
 use Rattle.matrix.specs.Input.{Input, right_at, own_order}
 use Rattle.matrix.specs.Questions.{ask_right}
@@ -16,9 +16,6 @@ use Rattle.base.specs.declared.Form.TheVariants.{Plain, Shared, ByRow}
 use Rattle.base.specs.declared.Side.{Side}
 use Rattle.base.specs.declared.Side.TheVariants.{Lower, Upper}
 use Rattle.base.specs.declared.Refusal.TheVariants.{BadFactors}
-use Rattle.base.specs.declared.Asked.{Asked}
-use Rattle.base.specs.declared.Ended.{Ended}
-use Rattle.base.specs.declared.Ended.TheVariants.{Done, Refused}
 use Rattle.outcome.specs.Buffers.{SideBuffers, Buffers, all_buffers, sizes, right_tests, buffer_tests, ask_shape, scratch_cleared, Outcome, ended, stop}
 use Rattle.outcome.specs.Solve.{fault_of}
 
@@ -91,14 +88,14 @@ factors_of f i s =
 unfoldable pub with_solution : Buffers → List Float → Buffers
 with_solution s x = all_buffers s.lower s.upper s.d x (replicate (length s.work) nought) (replicate (length s.marks) 0)
 
-abbrev pub resolved : Input → Buffers → Out (List Float) → Outcome Ended
-resolved i s (ok z) = ended Done (with_solution s (own_order i.c i.n z))
-resolved i s (met q) = ended (Refused (fault_of q)) (scratch_cleared s)
+abbrev pub resolved : Input → Buffers → Out (List Float) → Outcome Asked
+resolved i s (ok z) = ended Pass (with_solution s (own_order i.c i.n z))
+resolved i s (met q) = ended (Err (fault_of q)) (scratch_cleared s)
 
 -- "Another right side puts 1, 2, 5, 6 (b only, its index), 15, 13"; the input's matrix is not lent
-unfoldable pub resolve : Form → Input → Buffers → Outcome Ended
+unfoldable pub resolve : Form → Input → Buffers → Outcome Asked
 resolve f i s =
-    stop Refused (ask_shape i.n (right_tests i ++ buffer_tests f i.n (sizes s))) s
-    (stop Refused (ask_right i.n i.r i.c i.b) (scratch_cleared s)
-    (stop Refused (ask_factors f i.n s) (scratch_cleared s)
+    stop Err (ask_shape i.n (right_tests i ++ buffer_tests f i.n (sizes s))) s
+    (stop Err (ask_right i.n i.r i.c i.b) (scratch_cleared s)
+    (stop Err (ask_factors f i.n s) (scratch_cleared s)
     (resolved i s (judged nought (whole_again (factors_of f i s))))))

@@ -1,8 +1,8 @@
 -- The solve in its three forms: questions 1 to 6, 19, 7 and 9 to 13 in order, the answer, and what every buffer holds at the end. Definitions only.
-use Rattle.std.specs.Prelude.{◌≡◌, List, [], ◌++◌, map, ℕ, get_or, replicate, Float}
+use Rattle.std.specs.Prelude.{◌≡◌, List, [], ◌++◌, map, ℕ, get_or, replicate, Float, Ok, Err}
 use Rattle.std.specs.Float.{nan}
 use Rattle.base.specs.Lists.{table, joined, nought}
-use Rattle.base.specs.Answers.{spot, and_then}
+use Rattle.base.specs.Answers.{spot, and_then, Asked, Answer}
 use Rattle.fill.specs.Fill.{Pattern, upper_row, lower_row, flip}
 use Rattle.placement.specs.Placing.{first_at}
 use Rattle.matrix.specs.Input.{Input, stored, entries, right_at, own_order}
@@ -14,9 +14,6 @@ use Rattle.base.specs.declared.Side.{Side}
 use Rattle.base.specs.declared.Side.TheVariants.{Lower, Upper}
 use Rattle.base.specs.declared.Refusal.{Refusal}
 use Rattle.base.specs.declared.Refusal.TheVariants.{ZeroPivot, Overflow}
-use Rattle.base.specs.declared.Asked.{Asked}
-use Rattle.base.specs.declared.Answer.{Answer}
-use Rattle.base.specs.declared.Answer.TheVariants.{Done, Refused}
 use Rattle.outcome.specs.Buffers.{Buffers, all_buffers, sizes, matrix_tests, buffer_tests, ask_shape, scratch_cleared, cleared, Outcome, ended, stop}
 use Rattle.base.specs.declared.Sizes.{Sizes}
 use Rattle.outcome.specs.Structure.{ask_places, counts, side_placed}
@@ -76,8 +73,8 @@ left ByRow i z a = cleared z (own_order i.c i.n a.z)
 
 -- questions 12 and 13, and the end without a refusal
 abbrev pub concluded : Form → Input → Sizes → List Float → Out Result → Outcome Answer
-concluded f i z x (ok a) = ended (Done (counts i)) (left f i z a)
-concluded f i z x (met q) = ended (Refused (fault_of q)) (cleared z x)
+concluded f i z x (ok a) = ended (Ok (counts i)) (left f i z a)
+concluded f i z x (met q) = ended (Err (fault_of q)) (cleared z x)
 
 -- questions 1 and 2
 unfoldable pub shape : Form → Input → Sizes → Asked
@@ -90,9 +87,9 @@ earlier f i z = and_then (shape f i z) (ask_solve i)
 -- the solve in a form
 unfoldable pub solve : Form → Input → Buffers → Outcome Answer
 solve f i s =
-    stop Refused (shape f i (sizes s)) s
-    (stop Refused (ask_solve i) (scratch_cleared s)
-    (stop Refused (ask_places f (stored i) i.n (sizes s) i.n) (cleared (sizes s) s.x)
+    stop Err (shape f i (sizes s)) s
+    (stop Err (ask_solve i) (scratch_cleared s)
+    (stop Err (ask_places f (stored i) i.n (sizes s) i.n) (cleared (sizes s) s.x)
     (concluded f i (sizes s) s.x (listed i))))
 
 -- what a solve's contract ensures: of the input i and the buffers s at entry, the answer a and the buffers t at exit

@@ -1,7 +1,7 @@
 -- Questions 9 to 11, the counts, and the structure call. Definitions only.
-use Rattle.std.specs.Prelude.{Bool, ◌&&◌, List, [], ◌++◌, ℕ, zero, suc, ◌+◌, length, replicate, leb, Float}
+use Rattle.std.specs.Prelude.{Bool, ◌&&◌, List, [], ◌++◌, ℕ, zero, suc, ◌+◌, length, replicate, leb, Float, Ok, Err}
 use Rattle.base.specs.Lists.{sum, table, padded, nought}
-use Rattle.base.specs.Answers.{spot, holds, and_then}
+use Rattle.base.specs.Answers.{spot, holds, and_then, Pass, Asked, Answer}
 use Rattle.fill.specs.Fill.{Pattern, filled, upper_row, lower_row, products}
 use Rattle.placement.specs.Placing.{State}
 use Rattle.matrix.specs.Input.{Input, stored}
@@ -12,10 +12,6 @@ use Rattle.base.specs.declared.Side.{Side}
 use Rattle.base.specs.declared.Side.TheVariants.{Lower, Upper}
 use Rattle.base.specs.declared.Counts.{Counts}
 use Rattle.base.specs.declared.Refusal.TheVariants.{NullPivot, LowerSlots, UpperSlots}
-use Rattle.base.specs.declared.Asked.{Asked}
-use Rattle.base.specs.declared.Asked.TheVariants.{Pass}
-use Rattle.base.specs.declared.Answer.{Answer}
-use Rattle.base.specs.declared.Answer.TheVariants.{Done, Refused}
 use Rattle.outcome.specs.Forms.{placed_to, index_need, value_need}
 use Rattle.outcome.specs.Buffers.{SideBuffers, side_buffers, Buffers, all_buffers, sizes, side_of, pattern_tests, structure_tests, ask_shape, scratch_cleared, cleared, Outcome, ended, stop}
 use Rattle.base.specs.declared.SideSizes.{SideSizes}
@@ -67,7 +63,7 @@ structured f i z =
 -- the structure call in the plain or the shared form: "takes no values and no b, skips 6 and stops before 12"
 unfoldable pub structure : Form → Input → Buffers → Outcome Answer
 structure f i s =
-    stop Refused (ask_shape i.n (pattern_tests i ++ structure_tests f i.n (sizes s))) s
-    (stop Refused (ask_structure i) (scratch_cleared s)
-    (stop Refused (ask_places f (stored i) i.n (sizes s) i.n) (cleared (sizes s) s.x)
-    (ended (Done (counts i)) (structured f i (sizes s)))))
+    stop Err (ask_shape i.n (pattern_tests i ++ structure_tests f i.n (sizes s))) s
+    (stop Err (ask_structure i) (scratch_cleared s)
+    (stop Err (ask_places f (stored i) i.n (sizes s) i.n) (cleared (sizes s) s.x)
+    (ended (Ok (counts i)) (structured f i (sizes s)))))

@@ -1,15 +1,10 @@
 -- The calls that factor, without a floor: a pivot is refused where it is a zero of either sign, and no question is put about a floor.
 -- Definitions only; with a floor of zero they are the calls as they are now (outcome/proofs/FloorZero).
-use Rattle.std.specs.Prelude.{Bool, not, cond, List, [], ◌∷◌}
+use Rattle.std.specs.Prelude.{Bool, not, cond, List, [], ◌∷◌, Err}
 use Rattle.std.specs.Float.Ieee.{eq}
 use Rattle.std.specs.Float.Ieee.Scale.{finite}
 use Rattle.base.specs.Lists.{nought}
-use Rattle.base.specs.Answers.{and_then}
-use Rattle.base.specs.declared.Answer.{Answer}
-use Rattle.base.specs.declared.Answer.TheVariants.{Refused}
-use Rattle.base.specs.declared.Asked.{Asked}
-use Rattle.base.specs.declared.Ended.{Ended}
-use Rattle.base.specs.declared.Ended.TheVariants as ends
+use Rattle.base.specs.Answers.{and_then, Asked, Answer}
 use Rattle.base.specs.declared.Form.{Form}
 use Rattle.matrix.specs.Input.{Input, stored}
 use Rattle.matrix.specs.Questions.{ask7, ask6, ask_pattern}
@@ -37,14 +32,14 @@ ask_solve_before i = and_then (ask_pattern i) (and_then (ask6 i.values i.b) (ask
 
 unfoldable pub solve_before : Form → Input → Buffers → Outcome Answer
 solve_before f i s =
-    stop Refused (shape f i (sizes s)) s
-    (stop Refused (ask_solve_before i) (scratch_cleared s)
-    (stop Refused (ask_places f (stored i) i.n (sizes s) i.n) (cleared (sizes s) s.x)
+    stop Err (shape f i (sizes s)) s
+    (stop Err (ask_solve_before i) (scratch_cleared s)
+    (stop Err (ask_places f (stored i) i.n (sizes s) i.n) (cleared (sizes s) s.x)
     (concluded f i (sizes s) s.x (listed_before i))))
 
-unfoldable pub refactor_before : Form → Input → Buffers → Outcome Ended
+unfoldable pub refactor_before : Form → Input → Buffers → Outcome Asked
 refactor_before f i s =
-    stop ends.Refused (shape f i (sizes s)) s
-    (stop ends.Refused (ask_solve_before i) (scratch_cleared s)
-    (stop ends.Refused (ask_presented f (stored i) i.n s) (scratch_cleared s)
+    stop Err (shape f i (sizes s)) s
+    (stop Err (ask_solve_before i) (scratch_cleared s)
+    (stop Err (ask_presented f (stored i) i.n s) (scratch_cleared s)
     (refactored f i s (listed_before i))))

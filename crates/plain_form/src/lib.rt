@@ -3,21 +3,18 @@
 
 ghost use Rattle.std.specs.Prelude.{[]};
 ghost use Rattle.base.specs.declared.Form.TheVariants.{Plain};
-ghost use Rattle.matrix.specs.Input.{input_of, with_floor};
+ghost use Rattle.matrix.specs.Input.{lent, lent_pattern};
 ghost use Rattle.outcome.specs.Buffers.{plain_buffers, sizes};
 ghost use Rattle.outcome.specs.Calls.{StructuresPlain, SolvesPlain};
 ghost use Rattle.stages.specs.Stages.{Leaves};
 ghost use Rattle.stages.specs.Shaped.{SolveDue};
 
-use base::{Answer, Form, Index, SideSizes, Sizes};
+use base::{Counts, Form, Index, Refusal, SideSizes, Sizes};
+use matrix::System;
 
 // Finds the fill of M' and places it in the plain form: lower rows and T(k) one after another.
 pub fn structure_plain(
-    n: usize,
-    starts: &[u32],
-    columns: &[Index],
-    r: &[Index],
-    c: &[Index],
+    input: System<'_>,
     lower_starts: &mut [u32],
     lower_index: &mut [Index],
     lower_values: &mut [f64],
@@ -26,8 +23,8 @@ pub fn structure_plain(
     upper_values: &mut [f64],
     work: &mut [f64],
     marks: &mut [u32],
-) -> Answer
-    ensures { StructuresPlain (input_of n starts.now columns.now [] r.now c.now [])
+) -> Result<Counts, Refusal>
+    ensures { StructuresPlain (lent_pattern input.entry)
         lower_starts.old lower_index.old lower_values.old upper_starts.old upper_index.old upper_values.old work.old marks.old result
         lower_starts.new lower_index.new lower_values.new upper_starts.new upper_index.new upper_values.new work.new marks.new }
 {
@@ -51,16 +48,9 @@ pub fn structure_plain(
         work: work.len(),
         marks: marks.len(),
     };
-    let asked = stages::ask_structure(Form::Plain, n, starts, columns, r, c, sizes, work, marks);
-    if stages::stops(asked) {
-        return stages::refusal(asked);
-    }
+    stages::ask_structure(Form::Plain, input, sizes, work, marks)?;
     let a = symbolic::analyze_plain(
-        n,
-        starts,
-        columns,
-        r,
-        c,
+        input,
         lower_starts,
         lower_index,
         lower_values.len(),
@@ -69,25 +59,18 @@ pub fn structure_plain(
         upper_values.len(),
         marks,
     );
-    let refused = stages::refuses(a);
+    let refused = a.is_err();
     stages::clear_lists_if(refused, lower_starts, lower_index);
     stages::clear_lists_if(refused, upper_starts, upper_index);
-    base::clear_f64(lower_values);
-    base::clear_f64(upper_values);
+    base::clear(lower_values);
+    base::clear(upper_values);
     stages::clear_scratch(work, marks);
     a
 }
 
 // Finds the structure, factors, and writes x: what is left of the solve after the questions before 9, but for clearing.
 fn analyze_and_solve(
-    n: usize,
-    starts: &[u32],
-    columns: &[Index],
-    values: &[f64],
-    r: &[Index],
-    c: &[Index],
-    b: &[f64],
-    floor: f64,
+    input: System<'_>,
     lower_starts: &mut [u32],
     lower_index: &mut [Index],
     lower_values: &mut [f64],
@@ -98,18 +81,14 @@ fn analyze_and_solve(
     x: &mut [f64],
     work: &mut [f64],
     marks: &mut [u32],
-) -> Answer
-    requires { SolveDue Plain (with_floor floor (input_of n starts.now columns.now values.now r.now c.now b.now)) (sizes (plain_buffers lower_starts.old lower_index.old lower_values.old upper_starts.old upper_index.old upper_values.old d.old x.old work.old marks.old)) }
-    ensures { Leaves Plain (with_floor floor (input_of n starts.now columns.now values.now r.now c.now b.now))
+) -> Result<Counts, Refusal>
+    requires { SolveDue Plain (lent input) (sizes (plain_buffers lower_starts.old lower_index.old lower_values.old upper_starts.old upper_index.old upper_values.old d.old x.old work.old marks.old)) }
+    ensures { Leaves Plain (lent input.entry)
         (plain_buffers lower_starts.old lower_index.old lower_values.old upper_starts.old upper_index.old upper_values.old d.old x.old work.old marks.old) result
         (plain_buffers lower_starts.new lower_index.new lower_values.new upper_starts.new upper_index.new upper_values.new d.new x.new work.new marks.new) }
 {
-    let a = symbolic::analyze_plain(
-        n,
-        starts,
-        columns,
-        r,
-        c,
+    let counts = symbolic::analyze_plain(
+        input,
         lower_starts,
         lower_index,
         lower_values.len(),
@@ -117,21 +96,10 @@ fn analyze_and_solve(
         upper_index,
         upper_values.len(),
         marks,
-    );
-    if stages::refuses(a) {
-        return a;
-    }
-    let counts = a.counts();
-    let fault = stages::factor_and_solve(
+    )?;
+    stages::factor_and_solve(
         Form::Plain,
-        n,
-        starts,
-        columns,
-        values,
-        r,
-        c,
-        b,
-        floor,
+        input,
         lower_starts,
         lower_index,
         lower_values,
@@ -143,20 +111,13 @@ fn analyze_and_solve(
         x,
         work,
         marks,
-    );
-    stages::answer_of(fault, counts)
+    )?;
+    Ok(counts)
 }
 
 // Solves M·x = b in the plain form: structure, factors and x.
 pub fn solve_plain(
-    n: usize,
-    starts: &[u32],
-    columns: &[Index],
-    values: &[f64],
-    r: &[Index],
-    c: &[Index],
-    b: &[f64],
-    floor: f64,
+    input: System<'_>,
     lower_starts: &mut [u32],
     lower_index: &mut [Index],
     lower_values: &mut [f64],
@@ -167,8 +128,8 @@ pub fn solve_plain(
     x: &mut [f64],
     work: &mut [f64],
     marks: &mut [u32],
-) -> Answer
-    ensures { SolvesPlain (with_floor floor (input_of n starts.now columns.now values.now r.now c.now b.now))
+) -> Result<Counts, Refusal>
+    ensures { SolvesPlain (lent input.entry)
         lower_starts.old lower_index.old lower_values.old upper_starts.old upper_index.old upper_values.old d.old x.old work.old marks.old result
         lower_starts.new lower_index.new lower_values.new upper_starts.new upper_index.new upper_values.new d.new x.new work.new marks.new }
 {
@@ -192,32 +153,9 @@ pub fn solve_plain(
         work: work.len(),
         marks: marks.len(),
     };
-    let asked = stages::ask_solve(
-        Form::Plain,
-        n,
-        starts,
-        columns,
-        values,
-        r,
-        c,
-        b,
-        floor,
-        sizes,
-        work,
-        marks,
-    );
-    if stages::stops(asked) {
-        return stages::refusal(asked);
-    }
+    stages::ask_solve(Form::Plain, input, sizes, work, marks)?;
     let a = analyze_and_solve(
-        n,
-        starts,
-        columns,
-        values,
-        r,
-        c,
-        b,
-        floor,
+        input,
         lower_starts,
         lower_index,
         lower_values,
@@ -229,7 +167,7 @@ pub fn solve_plain(
         work,
         marks,
     );
-    let refused = stages::refuses(a);
+    let refused = a.is_err();
     stages::clear_lists_if(refused, lower_starts, lower_index);
     stages::clear_lists_if(refused, upper_starts, upper_index);
     stages::clear_numbers_if(refused, lower_values, upper_values, d);

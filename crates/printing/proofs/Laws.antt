@@ -1,18 +1,20 @@
--- Turns of the loops that write digits and texts, and that count digits.
+-- Turns of the loop that writes digits, how many digits a number has, and a column.
 use mathlib.Core.Path.{◌≡◌, refl, sym, ap, ◌∙◌}
 use mathlib.Core.Bool.{cond}
 use mathlib.Core.List.{List, [], ◌∷◌, ◌++◌}
-use Prim.Native.Nat.{ℕ, zero, suc, ◌+◌, ◌-◌, ◌/◌, ◌%◌, ◌^◌, ◌≤◌, ◌<◌}
+use Prim.Native.Nat.{ℕ, zero, suc, max, ◌+◌, ◌-◌, ◌*◌, ◌/◌, ◌%◌, ◌^◌, ◌≤◌, ◌<◌}
 use native.Mathlib.Nat.{pow-succ'}
 use native.Mathlib.Numerals.{add-one}
 use native.Mathlib.Omega.{arith}
-use lib.ListN.{length, get_or, set, drop, replicate, length-append, length-replicate, drop_of_length-le}
-use lib.Seq.{sets, set_comm, drop-cons}
+use lib.ListN.{length, set, replicate, length-append, length-replicate}
+use lib.Seq.{sets, set_comm}
 use lib.Dec.{ltb}
 use borrow.Author.Tests.{lt-ltb, le-ltb}
 use Rattle.base.specs.Tests.{by-test}
 use Rattle.printing.specs.Print.{digit, digits, hexadecimal, bits_end, width_in, decimal, column}
-use Rattle.printing.specs.Written.{Written, sets-append, then-written}
+use Rattle.printing.specs.declared.Printer.{Printer}
+use Rattle.printing.specs.Written.{sets-append}
+use Rattle.printing.specs.Prints.{Prints, then-prints}
 
 pub digits-length : (base w x : ℕ) → length (digits base w x) ≡ w
 unfolding digits
@@ -46,61 +48,21 @@ pub digits-none : (out : List ℕ) (at base x left : ℕ) → left ≤ 0 → out
 unfolding digits
 digits-none out at base x left h = let e : left ≡ zero = omega arith in rw e
 
--- a text, byte by byte
-pub text-turn : (out : List ℕ) (at : ℕ) (text : List ℕ) (i : ℕ) → i < length text
-    → sets (set out (at + i) (get_or text i 0)) (at + (i + 1)) (drop (i + 1) text) ≡ sets out (at + i) (drop i text)
-text-turn out at text i h = let e : at + suc i ≡ suc (at + i) = omega arith in rw (add-one i, drop-cons text i 0 h, e)
-
-pub text-end : (out : List ℕ) (at : ℕ) (text : List ℕ) (i : ℕ) → length text ≤ i → out ≡ sets out (at + i) (drop i text)
-text-end out at text i h = rw (drop_of_length-le text h)
-
--- blanks, one by one
-pub blanks-turn : (out : List ℕ) (at count i : ℕ) → i < count
-    → sets (set out (at + i) 32) (at + (i + 1)) (replicate (count - (i + 1)) 32) ≡ sets out (at + i) (replicate (count - i) 32)
-blanks-turn out at count i h =
-    let e : count - i ≡ suc (count - (i + 1)) = omega arith in
-    let f : at + (i + 1) ≡ suc (at + i) = omega arith in
-    rw (e, f)
-
-pub blanks-end : (out : List ℕ) (at count i : ℕ) → count ≤ i → out ≡ sets out (at + i) (replicate (count - i) 32)
-blanks-end out at count i h = let e : count - i ≡ 0 = omega arith in rw e
-
 -- ---- the number of digits
 
 width_in-suc : (f x : ℕ) → width_in (suc f) x ≡ cond (ltb x 10) 1 (suc (width_in f (x / 10)))
 unfolding width_in
 width_in-suc f x = refl
 
--- while x is counted: what is left has f digits at most
-pub record Counting (x rest width : ℕ) : Type 0 where
-  pub f : ℕ
-  pub some : 0 < f
-  pub below : rest < 10 ^ f
-  pub few : width + f ≤ 21
-  pub counted : width + width_in f rest ≡ width_in 20 x + 1
-
-pub counting-start : (x : ℕ) → x < 10 ^ 20 → Counting x x 1
-counting-start x h = record { f = 20; some = omega arith; below = h; few = omega arith; counted = omega arith }
-
-more_left : (rest f : ℕ) → 10 ≤ rest → rest < 10 ^ f → (g : ℕ) × (f ≡ suc g) × (0 < g) × (rest / 10 < 10 ^ g)
-more_left rest zero h l = absurd (omega arith)
-more_left rest (suc zero) h l = absurd (omega arith)
-more_left rest (suc (suc g)) h l = (suc g, refl, omega arith, omega (arith, rw (pow-succ' 10 (suc g)) at l))
-
-pub counting-turn : (x rest width : ℕ) → 10 ≤ rest → Counting x rest width → Counting x (rest / 10) (width + 1)
-counting-turn x rest width h c =
-    let g = more_left rest c.f h c.below in
-    let e : width_in c.f rest ≡ suc (width_in g.0 (rest / 10)) = ap (λ (m : ℕ). width_in m rest) g.1 ∙ width_in-suc g.0 rest ∙ rw (le-ltb rest 10 h) in
-    record { f = g.0; some = g.2; below = g.3; few = omega (arith, c.few, g.1); counted = omega (arith, c.counted, e) }
-
-one_left : (rest f : ℕ) → rest < 10 → 0 < f → width_in f rest ≡ 1
-one_left rest zero h l = absurd (omega arith)
-one_left rest (suc f) h l = rw (width_in-suc f rest, lt-ltb rest 10 h)
-
-pub counting-end : (x rest width : ℕ) → rest < 10 → Counting x rest width → (width ≡ width_in 20 x) × (width ≤ 20)
-counting-end x rest width h c =
-    let e = one_left rest c.f h c.some in
-    (omega (arith, c.counted, e), omega (arith, c.few, c.some))
+-- a number from 10^k on, below ten times that, has k + 1 digits; 0 counts as 1
+pub width-between : (f k x : ℕ) → k < f → 10 ^ k ≤ max x 1 → x < 10 * 10 ^ k → width_in f x ≡ k + 1
+width-between zero k x l g h = absurd (omega arith)
+width-between (suc f) zero x l g h = rw (width_in-suc f x, lt-ltb x 10 (omega (arith, h))) refl
+width-between (suc f) (suc k) x l g h =
+    let g' : 10 * 10 ^ k ≤ max x 1 = rw pow-succ' at g in
+    let h' : x < 10 * (10 * 10 ^ k) = rw pow-succ' at h in
+    let d = width-between f k (x / 10) (omega arith) (omega (arith, g', h')) (omega (arith, h')) in
+    rw (width_in-suc f x, le-ltb x 10 (omega (arith, g', h'))) (omega (arith, d))
 
 -- a number below 10^w has at most w digits
 pub width-most : (f w x : ℕ) → 0 < w → x < 10 ^ w → width_in f x ≤ w
@@ -125,9 +87,9 @@ column-length w x h =
     let b = length-replicate {A = ℕ} (w - length (decimal x)) 32 in
     omega (arith, a, b, decimal-length x)
 
-pub column-written : (w x d : ℕ) (out p q : List ℕ) (at a r : ℕ) → d ≡ width_in 20 x → width_in 20 x ≤ w → Written (replicate (w - d) 32) out at p a → Written (digits 10 d x) p a q r
-    → Written (column w x) out at q r × (r ≡ at + w)
+pub column-prints : (w x d : ℕ) {p q r : Printer} → d ≡ width_in 20 x → width_in 20 x ≤ w → Prints (replicate (w - d) 32) p q → Prints (digits 10 d x) q r
+    → record { prints : Prints (column w x) p r; next : r.at ≡ p.at + w }
 unfolding column decimal
-column-written w x d out p q at a r e h f g =
-    let c : Written (column w x) out at q r = rw (digits-length 10 (width_in 20 x) x, ← e) (then-written _ _ _ _ _ _ _ _ f g) in
-    (c, c.next ∙ ap (λ (m : ℕ). at + m) (column-length w x h))
+column-prints w x d {p} {q} {r} e h f g =
+    let c : Prints (column w x) p r = rw (digits-length 10 (width_in 20 x) x, ← e) (then-prints f g) in
+    record { prints = c; next = c.written.next ∙ ap (λ (m : ℕ). p.at + m) (column-length w x h) }

@@ -1,4 +1,5 @@
 -- Each record that a function asks of its caller is met by a computed value: one row, one entry.
+use Rattle.base.specs.Answers.{Pass}
 use mathlib.Core.Path.{◌≡◌, refl}
 use mathlib.Core.List.{List, [], ◌∷◌}
 use Prim.Native.Nat.{ℕ}
@@ -7,7 +8,6 @@ use lib.Ieee.{Float, lt}
 use Rattle.base.specs.Magnitude.{is_floor}
 use Rattle.base.specs.Lists.{nought, blank, list_at}
 use Rattle.base.specs.First.{first}
-use Rattle.base.specs.declared.Asked.TheVariants.{Pass}
 use Rattle.matrix.specs.Input.{input_of, is_of}
 use Rattle.matrix.specs.Questions.{bad_start, bad_column, bad_index, not_finite, empty_row, no_entry, IsOrder, ask3, ask4, ask5, ask6, ask_floor, ask_numbers, ask7, ask_finite, ask_pattern, ask_solve}
 use Rattle.questions.specs.Settled.{Settled}

@@ -2,8 +2,7 @@
 use Rattle.std.specs.Prelude.{◌≡◌, List, ◌++◌, ℕ, ◌+◌, ◌≤◌, ◌<◌, length, get_or, take, drop}
 use Rattle.base.specs.First.{first}
 use Rattle.base.specs.Lists.{table}
-use Rattle.base.specs.Answers.{absent}
-use Rattle.base.specs.declared.Asked.{Asked}
+use Rattle.base.specs.Answers.{absent, Asked}
 use Rattle.base.specs.declared.Refusal.TheVariants.{Order}
 use Rattle.base.specs.Limits.{max_rows, max_entries}
 use Rattle.lent.specs.Reading.{order_of}

@@ -1,5 +1,6 @@
 -- Marks: slot v holds 1 exactly if v is among the numbers passed. Question 5 is one loop over them.
-use Rattle.std.specs.Prelude.{◌≡◌, refl, Bool, true, false, List, ℕ, ◌+◌, ◌≤◌, ◌<◌, set}
+use Rattle.base.specs.Answers.{Found}
+use Rattle.std.specs.Prelude.{◌≡◌, refl, Bool, true, false, List, ℕ, ◌+◌, ◌≤◌, ◌<◌, set, Some, None}
 use Rattle.std.proofs.Math.Path.{sym}
 use Rattle.std.proofs.Common.{◌∙◌, arith, get_or-set_same, get_or-set_other}
 use Rattle.std.proofs.Math.Decide.{ℕ_discrete, dec_lt}
@@ -10,25 +11,23 @@ use Rattle.base.specs.First.{first, is_at, at_if, or_else}
 use Rattle.base.specs.FirstLaws.{first-zero, first-suc, first_more}
 use Rattle.base.specs.Lists.{blank}
 use Rattle.base.specs.ZerosLaws.{blank-at, blank-length}
-use Rattle.base.specs.declared.Found.{Found}
-use Rattle.base.specs.declared.Found.TheVariants.{At, Nothing}
 use Rattle.matrix.specs.Input.{is_of}
 use Rattle.matrix.specs.Questions.{bad_index}
 use Rattle.questions.specs.Lent.{Unmarked}
 
 is_at-more : (f : Found) (i : ℕ) → is_at (or_else f (at_if true i)) ≡ true
-is_at-more (At j) i = refl
-is_at-more Nothing i = refl
+is_at-more (Some j) i = refl
+is_at-more None i = refl
 
 is_at-same : (f : Found) (i : ℕ) → is_at (or_else f (at_if false i)) ≡ is_at f
-is_at-same (At j) i = refl
-is_at-same Nothing i = refl
+is_at-same (Some j) i = refl
+is_at-same None i = refl
 
 -- after p numbers of the list, with the first of them at fault not met yet
 pub record Marking (n : ℕ) (l old m : List ℕ) (p : ℕ) : Type 0 where
   pub within : p ≤ length l
   pub size : length m ≡ length old
-  pub fine : first (bad_index l n) p ≡ Nothing
+  pub fine : first (bad_index l n) p ≡ None
   pub marked : (v : ℕ) → v < length m → eqb (get_or m v 0) 1 ≡ is_at (first (is_of l v) p)
 
 -- the number at p is out of range

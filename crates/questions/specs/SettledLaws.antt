@@ -1,5 +1,5 @@
 -- What the questions settle when they are passed, and M' by the inverse order.
-use Rattle.std.specs.Prelude.{◌≡◌, false, ◌&&◌, ◌||◌, List, ℕ, zero, suc, ◌+◌, ◌-◌, ◌≤◌, ◌<◌, length, get_or, ltb, eqb, Float}
+use Rattle.std.specs.Prelude.{◌≡◌, false, ◌&&◌, ◌||◌, List, ℕ, zero, suc, ◌+◌, ◌-◌, ◌≤◌, ◌<◌, length, get_or, ltb, eqb, Float, None}
 use Rattle.std.proofs.Common.{sym, ◌∙◌, arith, leb-false, ltb-false, eq-eqb, eqb-true}
 use Rattle.std.proofs.Math.Bool.{not}
 use Rattle.std.proofs.lemmas.List.{length-map}
@@ -12,11 +12,8 @@ use Rattle.base.specs.First.{first}
 use Rattle.base.specs.FirstLaws.{first-none, absent-pass, both-pass}
 use Rattle.lent.specs.Reading.{ListIn, Below}
 use Rattle.lent.specs.ReadingLaws.{list-below}
-use Rattle.base.specs.Answers.{own, absent, and_then}
-use Rattle.base.specs.declared.Found.TheVariants.{Nothing}
+use Rattle.base.specs.Answers.{own, absent, and_then, Pass, Asked}
 use Rattle.base.specs.declared.Refusal.TheVariants.{Starts, Column, Order, NotFinite, EmptyRow}
-use Rattle.base.specs.declared.Asked.{Asked}
-use Rattle.base.specs.declared.Asked.TheVariants.{Pass}
 use Rattle.matrix.specs.Input.{Input, input_of, ic}
 use Rattle.matrix.specs.Questions.{bad_start, bad_column, bad_index, not_finite, no_entry, empty_row, IsOrder, ask3, ask4, ask5, ask6, ask_floor, ask_numbers, ask7, ask_finite, ask_pattern, ask_structure, ask_solve, ask_right}
 use Rattle.matrix.proofs.OrderLaws.{place-hits}
@@ -25,7 +22,7 @@ use Rattle.questions.specs.Lent.{Lent, PlacesLent}
 
 -- ---- 3
 
-module _ (s : List ℕ) (n e : ℕ) (good : first (bad_start s n e) n ≡ Nothing) where
+module _ (s : List ℕ) (n e : ℕ) (good : first (bad_start s n e) n ≡ None) where
   fine : (i : ℕ) → i < n → (ltb (get_or s (i + 1) 0) (get_or s i 0) ≡ false) × ((eqb (i + 1) n && not (eqb (get_or s (i + 1) 0) e)) ≡ false)
   unfolding bad_start
   fine i l =

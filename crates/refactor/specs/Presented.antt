@@ -1,8 +1,6 @@
 -- Refactor over the way of placing: what its questions settle, and what it ensures. Definitions only.
 use Rattle.std.specs.Prelude.{◌≡◌, List, ℕ, length, Float}
-use Rattle.base.specs.Answers.{and_then}
-use Rattle.base.specs.declared.Asked.{Asked}
-use Rattle.base.specs.declared.Ended.{Ended}
+use Rattle.base.specs.Answers.{and_then, Asked}
 use Rattle.matrix.specs.Input.{Input, stored}
 use Rattle.matrix.specs.Questions.{ask_solve}
 use Rattle.outcome.specs.Buffers.{sizes, ended}
@@ -22,6 +20,6 @@ PresentedAsking way i ls lr li lv us ur ui uv d x w m v t a =
     (FactorDue (form_of way) i (lists ls li us ur ui) (written lv uv d v t) (length x)) w m v t a
 
 -- the call: names as in outcome/specs/Again
-abbrev pub RefactorsBy : Way → Input → (ls lr li : List ℕ) (lv : List Float) (us ur ui : List ℕ) (uv d x w : List Float) (m : List ℕ) → Ended → (lv' uv' d' x' w' : List Float) (m' : List ℕ) → Type 0
+abbrev pub RefactorsBy : Way → Input → (ls lr li : List ℕ) (lv : List Float) (us ur ui : List ℕ) (uv d x w : List Float) (m : List ℕ) → Asked → (lv' uv' d' x' w' : List Float) (m' : List ℕ) → Type 0
 RefactorsBy way i ls lr li lv us ur ui uv d x w m a lv' uv' d' x' w' m' =
     ended a (buffers_by way ls lr li lv' us ur ui uv' d' x' w' m') ≡ refactor (form_of way) i (buffers_by way ls lr li lv us ur ui uv d x w m)

@@ -3,12 +3,14 @@
 #![tactic(auto)]
 
 ghost use Rattle.std.specs.Prelude.{◌≡◌, length};
-ghost use Rattle.matrix.specs.Input.{input_of, with_floor};
+ghost use Rattle.matrix.specs.Input.{lent};
 ghost use Rattle.outcome.specs.Again.{RefactorsPlain, RefactorsShared};
 ghost use Rattle.comparison.specs.Comparing.{form_of, RunsBy, runs_lent};
 ghost use Rattle.refactor.specs.Presented.{PresentedAsking, RefactorsBy};
 
-use base::{Asked, Ended, Form, Index, SideSizes, Sizes};
+use base::{Form, Index, Refusal, SideSizes, Sizes};
+use comparison::Presented;
+use matrix::System;
 use storing::Way;
 
 // Gives the form that places its lists so.
@@ -34,14 +36,7 @@ fn runs_lent(way: Way, runs: &[u32]) -> usize
 // Asks the questions before 9, then 14. Where they are passed, scratch holds what the arithmetic needs; where one behind 2 stops the call, it is cleared.
 fn ask(
     way: Way,
-    n: usize,
-    starts: &[u32],
-    columns: &[Index],
-    values: &[f64],
-    r: &[Index],
-    c: &[Index],
-    b: &[f64],
-    floor: f64,
+    input: System<'_>,
     lower_starts: &[u32],
     lower_runs: &[u32],
     lower_index: &[Index],
@@ -54,9 +49,9 @@ fn ask(
     x: &[f64],
     work: &mut [f64],
     marks: &mut [u32],
-) -> Asked
+) -> Result<(), Refusal>
     requires { RunsBy way lower_starts.now lower_runs.now × RunsBy way upper_starts.now upper_runs.now }
-    ensures { PresentedAsking way (with_floor floor (input_of n starts.now columns.now values.now r.now c.now b.now))
+    ensures { PresentedAsking way (lent input.entry)
         lower_starts.now lower_runs.now lower_index.now lower_values.now upper_starts.now upper_runs.now upper_index.now upper_values.now d.now x.now work.old marks.old
         work.new marks.new result }
 {
@@ -83,32 +78,22 @@ fn ask(
         work: work.len(),
         marks: marks.len(),
     };
-    let asked = stages::ask_solve(
-        form, n, starts, columns, values, r, c, b, floor, sizes, work, marks,
-    );
-    if stages::stops(asked) {
-        return asked;
-    }
-    let same = comparison::compare(
-        way,
-        n,
-        starts,
-        columns,
-        r,
-        c,
-        lower_starts,
-        lower_runs,
-        lower_index,
-        lower_values.len(),
-        upper_starts,
-        upper_runs,
-        upper_index,
-        upper_values.len(),
-        marks,
-    );
-    if stages::stops(same) {
+    stages::ask_solve(form, input, sizes, work, marks)?;
+    let lower_lists = Presented {
+        starts: lower_starts,
+        runs: lower_runs,
+        index: lower_index,
+        values: lower_values.len(),
+    };
+    let upper_lists = Presented {
+        starts: upper_starts,
+        runs: upper_runs,
+        index: upper_index,
+        values: upper_values.len(),
+    };
+    let same = comparison::compare(way, input, lower_lists, upper_lists, marks);
+    if same.is_err() {
         stages::clear_scratch(work, marks);
-        return same;
     }
     same
 }
@@ -116,14 +101,7 @@ fn ask(
 // Refactors: asks, computes, and clears what a fault leaves.
 fn refactor_in(
     way: Way,
-    n: usize,
-    starts: &[u32],
-    columns: &[Index],
-    values: &[f64],
-    r: &[Index],
-    c: &[Index],
-    b: &[f64],
-    floor: f64,
+    input: System<'_>,
     lower_starts: &[u32],
     lower_runs: &[u32],
     lower_index: &[Index],
@@ -136,22 +114,15 @@ fn refactor_in(
     x: &mut [f64],
     work: &mut [f64],
     marks: &mut [u32],
-) -> Ended
+) -> Result<(), Refusal>
     requires { RunsBy way lower_starts.now lower_runs.now × RunsBy way upper_starts.now upper_runs.now }
-    ensures { RefactorsBy way (with_floor floor (input_of n starts.now columns.now values.now r.now c.now b.now))
+    ensures { RefactorsBy way (lent input.entry)
         lower_starts.now lower_runs.now lower_index.now lower_values.old upper_starts.now upper_runs.now upper_index.now upper_values.old d.old x.old work.old marks.old result
         lower_values.new upper_values.new d.new x.new work.new marks.new }
 {
-    let asked = ask(
+    ask(
         way,
-        n,
-        starts,
-        columns,
-        values,
-        r,
-        c,
-        b,
-        floor,
+        input,
         lower_starts,
         lower_runs,
         lower_index,
@@ -164,21 +135,11 @@ fn refactor_in(
         x,
         work,
         marks,
-    );
-    if stages::stops(asked) {
-        return stages::end_of(asked);
-    }
+    )?;
     let form = form_of(way);
     let fault = stages::factor_and_solve(
         form,
-        n,
-        starts,
-        columns,
-        values,
-        r,
-        c,
-        b,
-        floor,
+        input,
         lower_starts,
         lower_index,
         lower_values,
@@ -191,22 +152,15 @@ fn refactor_in(
         work,
         marks,
     );
-    let refused = stages::stops(fault);
+    let refused = fault.is_err();
     stages::clear_numbers_if(refused, lower_values, upper_values, d);
     stages::clear_scratch(work, marks);
-    stages::end_of(fault)
+    fault
 }
 
 // Computes factors and x of new values over a structure that the plain form's structure call or solve has left.
 pub fn refactor_plain(
-    n: usize,
-    starts: &[u32],
-    columns: &[Index],
-    values: &[f64],
-    r: &[Index],
-    c: &[Index],
-    b: &[f64],
-    floor: f64,
+    input: System<'_>,
     lower_starts: &[u32],
     lower_index: &[Index],
     lower_values: &mut [f64],
@@ -217,21 +171,14 @@ pub fn refactor_plain(
     x: &mut [f64],
     work: &mut [f64],
     marks: &mut [u32],
-) -> Ended
-    ensures { RefactorsPlain (with_floor floor (input_of n starts.now columns.now values.now r.now c.now b.now))
+) -> Result<(), Refusal>
+    ensures { RefactorsPlain (lent input.entry)
         lower_starts.now lower_index.now lower_values.old upper_starts.now upper_index.now upper_values.old d.old x.old work.old marks.old result
         lower_values.new upper_values.new d.new x.new work.new marks.new }
 {
     refactor_in(
         Way::OneAfterAnother,
-        n,
-        starts,
-        columns,
-        values,
-        r,
-        c,
-        b,
-        floor,
+        input,
         lower_starts,
         lower_starts,
         lower_index,
@@ -249,14 +196,7 @@ pub fn refactor_plain(
 
 // Computes factors and x of new values over a structure that the shared form's structure call or solve has left.
 pub fn refactor_shared(
-    n: usize,
-    starts: &[u32],
-    columns: &[Index],
-    values: &[f64],
-    r: &[Index],
-    c: &[Index],
-    b: &[f64],
-    floor: f64,
+    input: System<'_>,
     lower_starts: &[u32],
     lower_runs: &[u32],
     lower_index: &[Index],
@@ -269,21 +209,14 @@ pub fn refactor_shared(
     x: &mut [f64],
     work: &mut [f64],
     marks: &mut [u32],
-) -> Ended
-    ensures { RefactorsShared (with_floor floor (input_of n starts.now columns.now values.now r.now c.now b.now))
+) -> Result<(), Refusal>
+    ensures { RefactorsShared (lent input.entry)
         lower_starts.now lower_runs.now lower_index.now lower_values.old upper_starts.now upper_runs.now upper_index.now upper_values.old d.old x.old work.old marks.old result
         lower_values.new upper_values.new d.new x.new work.new marks.new }
 {
     refactor_in(
         Way::Sharing,
-        n,
-        starts,
-        columns,
-        values,
-        r,
-        c,
-        b,
-        floor,
+        input,
         lower_starts,
         lower_runs,
         lower_index,

@@ -1,20 +1,15 @@
 -- What a call through the C interface tells: its number, the slots of its report as far as they go, and its buffers. Definitions only.
-use Rattle.std.specs.Prelude.{◌≡◌, cond, List, [], ◌∷◌, ℕ, ◌-◌, eqb, ltb, Float}
+use Rattle.matrix.specs.Shape.{Shaped}
+use Rattle.std.specs.Prelude.{◌≡◌, cond, List, [], ◌∷◌, ℕ, ◌-◌, eqb, ltb, Float, Ok, Err}
 use Rattle.std.proofs.lemmas.List.Edits.{sets}
 use Rattle.matrix.specs.Input.{Input}
-use Rattle.base.specs.Answers.{number_of, place_of, number_of_answer, place_of_answer, counts_of, number_of_end, place_of_end, number_of_made, place_of_made, entries_of, place_of_kept, sizes_of_kept, spot, Left, left}
+use Rattle.base.specs.Answers.{number_of, place_of, number_of_answer, place_of_answer, counts_of, entries_of, sizes_of_kept, spot, Left, left, Made, Kept, Asked, Answer}
 use Rattle.base.specs.Limits.{max_rows}
-use Rattle.base.specs.declared.Answer.{Answer}
-use Rattle.base.specs.declared.Ended.{Ended}
 use Rattle.base.specs.declared.Form.{Form}
-use Rattle.base.specs.declared.Kept.{Kept}
-use Rattle.base.specs.declared.Made.{Made}
 use Rattle.base.specs.declared.OwnNumber.{OwnNumber}
 use Rattle.base.specs.declared.Place.{Place}
 use Rattle.base.specs.declared.Side.{Side}
 use Rattle.base.specs.declared.Side.TheVariants.{Lower, Upper}
-use Rattle.matrix.specs.declared.Shaped.{Shaped}
-use Rattle.matrix.specs.declared.Shaped.TheVariants.{Shape, Unshaped}
 use Rattle.outcome.specs.Buffers.{Buffers, Outcome}
 use Rattle.residual.specs.Answer.{number_of_checked, place_of_checked, checked}
 use Rattle.residual.specs.Promise.{KeptBy}
@@ -46,24 +41,24 @@ abbrev pub Told : Outcome Answer → List ℕ → List ℕ → Buffers → ℕ �
 Told o = ToldRead (as_left o)
 
 -- the place alone
-abbrev pub end_slots : Ended → List ℕ
-end_slots a = place_of_end a ∷ []
+abbrev pub end_slots : Asked → List ℕ
+end_slots a = place_of_answer a ∷ []
 
 -- a call without counts: reading or writing a file, refactor, another right side
-abbrev pub ToldEnd : {A : Type 0} → Left Ended A → List ℕ → List ℕ → A → ℕ → Type 0
-ToldEnd o = Reported number_of_end end_slots o
+abbrev pub ToldEnd : {A : Type 0} → Left Asked A → List ℕ → List ℕ → A → ℕ → Type 0
+ToldEnd o = Reported number_of_answer end_slots o
 
 -- place and entries
 unfoldable pub made_slots : Made → List ℕ
-made_slots a = place_of_made a ∷ entries_of a ∷ []
+made_slots a = place_of_answer a ∷ entries_of a ∷ []
 
 -- a call that makes a matrix
 abbrev pub ToldMade : {A : Type 0} → Left Made A → List ℕ → List ℕ → A → ℕ → Type 0
-ToldMade o = Reported number_of_made made_slots o
+ToldMade o = Reported number_of_answer made_slots o
 
 -- the sizes of a factor file: place, n, lower and upper
 unfoldable pub kept_slots : Kept → List ℕ
-kept_slots a = place_of_kept a ∷ (sizes_of_kept a).n ∷ (sizes_of_kept a).lower ∷ (sizes_of_kept a).upper ∷ []
+kept_slots a = place_of_answer a ∷ (sizes_of_kept a).n ∷ (sizes_of_kept a).lower ∷ (sizes_of_kept a).upper ∷ []
 
 -- the place alone
 abbrev pub checked_slots : Checked → List ℕ
@@ -81,12 +76,12 @@ pub record ToldRow (i : Input) (x : List Float) (k : OwnNumber) (pair₀ pair : 
 
 -- the shape of a file
 abbrev pub number_of_shape : Shaped → ℕ
-number_of_shape (Shape m) = 0
-number_of_shape (Unshaped q) = number_of q
+number_of_shape (Ok m) = 0
+number_of_shape (Err q) = number_of q
 
 abbrev pub shape_slots : Shaped → List ℕ
-shape_slots (Shape m) = 0 ∷ m.rows ∷ m.entries ∷ []
-shape_slots (Unshaped q) = place_of q ∷ 0 ∷ 0 ∷ []
+shape_slots (Ok m) = 0 ∷ m.rows ∷ m.entries ∷ []
+shape_slots (Err q) = place_of q ∷ 0 ∷ 0 ∷ []
 
 -- a list: its offset in the store and its length
 unfoldable pub span_slots : Span → List ℕ

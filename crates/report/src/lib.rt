@@ -1,97 +1,64 @@
 // What the C interface adds to a call: the report's slots filled as far as they go, and numbers that stand for a side and a place.
 #![tactic(auto)]
 
-ghost use Rattle.std.specs.Prelude.{◌≡◌, ◌≤◌, set, []};
+ghost use Rattle.std.specs.Prelude.{◌≡◌, ◌≤◌, [], ◌∷◌};
 ghost use Rattle.std.proofs.lemmas.List.Edits.{sets};
-ghost use Rattle.base.specs.Answers.{number_of_answer, number_of_end, number_of_made, number_of_kept, own};
+ghost use Rattle.base.specs.Answers.{number_of_answer, own};
 ghost use Rattle.base.specs.declared.Form.{Form};
 ghost use Rattle.matrix.specs.Input.{input_of};
 ghost use Rattle.lookup.specs.Lookup.{side_lists};
 ghost use Rattle.load.specs.Load.{load_outcome};
 ghost use Rattle.matrix.specs.Lists.{matrix_lists};
 ghost use Rattle.matrix_file.specs.MatrixFile.{opened, read_outcome, write_outcome};
-ghost use Rattle.residual.specs.Answer.{number_of_checked};
-ghost use Rattle.report.specs.Report.{answer_slots, end_slots, made_slots, kept_slots, checked_slots, pair_after, ToldEnd, ToldMade, ToldRow, number_of_shape, shape_slots, span_slots, side_numbered, place_in, list_slots};
+ghost use Rattle.report.specs.Report.{answer_slots, end_slots, kept_slots, pair_after, ToldEnd, ToldMade, ToldRow, number_of_shape, shape_slots, span_slots, side_numbered, place_in, list_slots};
 
-use base::{Answer, Ended, Index, Kept, Made, OwnNumber, Place, Side};
+use base::{Counts, FactorSizes, Index, Numbered, OwnNumber, Place, Refusal, Side};
 use lookup::Span;
-use matrix::{Matrix, Shaped};
+use matrix::{Matrix, System};
 use residual::Checked;
 
 // ---- the slots
 
-// A slot that the report has.
-fn put(report: &mut [u64], at: usize, v: u64)
-    ensures { report.new ≡ set report.old at v }
+// Puts the place of how a call ends and the slots behind it into the report, as far as this goes, and gives its number.
+fn put_told<A: Numbered + Copy>(report: &mut [u64], a: A, rest: &[u64]) -> u32
+    ensures value { result ≡ A.number_in a }
+    ensures report_after { report.new ≡ sets report.old 0 (A.place_in a ∷ rest.now) }
 {
-    if at < report.len() {
-        report[at] = v;
+    base::put(report, 0, a.place() as u64);
+    for (i, v) in rest.iter().enumerate() {
+        base::put(report, i + 1, *v);
     }
-}
-
-// As many of the values as the report has slots.
-fn put_all(report: &mut [u64], values: &[u64])
-    ensures { report.new ≡ sets report.old 0 values.now }
-{
-    let mut i = 0;
-    while i < values.len() {
-        put(report, i, values[i]);
-        i += 1;
-    }
+    a.number()
 }
 
 // Writes place and counts of a structure call or a solve, and returns its number.
-pub fn put_answer(report: &mut [u64], a: Answer) -> u32
+pub fn put_answer(report: &mut [u64], a: Result<Counts, Refusal>) -> u32
     ensures value { result ≡ number_of_answer a }
     ensures report_after { report.new ≡ sets report.old 0 (answer_slots a) }
 {
-    let counts = a.counts();
-    put_all(
-        report,
-        &[
-            a.place() as u64,
-            counts.lower,
-            counts.upper,
-            counts.products,
-        ],
-    );
-    a.number()
+    let counts = base::counts_of(a);
+    put_told(report, a, &[counts.lower, counts.upper, counts.products])
 }
 
 // Puts the place of a call without counts into the report, and gives its number.
-pub fn put_end(report: &mut [u64], a: Ended) -> u32
-    ensures value { result ≡ number_of_end a }
+pub fn put_end(report: &mut [u64], a: Result<(), Refusal>) -> u32
+    ensures value { result ≡ number_of_answer a }
     ensures report_after { report.new ≡ sets report.old 0 (end_slots a) }
 {
-    put_all(report, &[a.place() as u64]);
-    a.number()
-}
-
-// Puts place and entries of a call that makes a matrix into the report, and gives its number.
-fn put_made(report: &mut [u64], a: Made) -> u32
-    ensures value { result ≡ number_of_made a }
-    ensures report_after { report.new ≡ sets report.old 0 (made_slots a) }
-{
-    put_all(report, &[a.place() as u64, a.entries() as u64]);
-    a.number()
+    put_told(report, a, &[])
 }
 
 // Writes place and sizes of what a factor file holds, and returns the number.
-pub fn put_kept(report: &mut [u64], a: Kept) -> u32
-    ensures value { result ≡ number_of_kept a }
+pub fn put_kept(report: &mut [u64], a: Result<FactorSizes, Refusal>) -> u32
+    ensures value { result ≡ number_of_answer a }
     ensures report_after { report.new ≡ sets report.old 0 (kept_slots a) }
 {
-    let sizes = a.sizes();
-    put_all(
+    let sizes = base::sizes_of(a);
+    put_told(
         report,
-        &[
-            a.place() as u64,
-            sizes.n as u64,
-            sizes.lower as u64,
-            sizes.upper as u64,
-        ],
-    );
-    a.number()
+        a,
+        &[sizes.n as u64, sizes.lower as u64, sizes.upper as u64],
+    )
 }
 
 // Offset and length of a list.
@@ -100,39 +67,19 @@ fn put_span(report: &mut [u64], s: Span) -> u32
     ensures value { result ≡ 0 }
     ensures report_after { report.new ≡ sets report.old 0 (span_slots s) }
 {
-    put_all(report, &[s.from as u64, (s.to - s.from) as u64]);
+    base::put(report, 0, s.from as u64);
+    base::put(report, 1, (s.to - s.from) as u64);
     0
-}
-
-// A slot that the pair has.
-fn put_number(pair: &mut [f64], at: usize, v: f64)
-    ensures { pair.new ≡ set pair.old at v }
-{
-    if at < pair.len() {
-        pair[at] = v;
-    }
 }
 
 // Residual and width, where there are such.
 fn put_pair(pair: &mut [f64], a: Checked)
     ensures { pair.new ≡ pair_after a pair.old }
 {
-    match a {
-        Checked::Pair(r, w) => {
-            put_number(pair, 0, r);
-            put_number(pair, 1, w);
-        }
-        Checked::Refused(_, _) => {}
+    if let Checked::Pair(r, w) = a {
+        base::put(pair, 0, r);
+        base::put(pair, 1, w);
     }
-}
-
-// The place of a row that was checked, and its number.
-fn put_checked(report: &mut [u64], a: Checked) -> u32
-    ensures value { result ≡ number_of_checked a }
-    ensures report_after { report.new ≡ sets report.old 0 (checked_slots a) }
-{
-    put_all(report, &[a.place() as u64]);
-    a.number()
 }
 
 // ---- lists
@@ -148,10 +95,7 @@ fn side_of(side: u32) -> Side
 fn place_of(place: usize) -> Place
     ensures { result ≡ place_in place }
 {
-    if place < Matrix::MAX_ROWS {
-        return Place(place as u32);
-    }
-    Place(Matrix::MAX_ROWS as u32)
+    Place(place.min(Matrix::MAX_ROWS) as u32)
 }
 
 // Writes the list of a side at a place in the plain form, as an offset in its store and a length.
@@ -218,16 +162,11 @@ pub fn file_shape(file: &[u8], report: &mut [u64]) -> u32
     ensures report_after { report.new ≡ sets report.old 0 (shape_slots (opened file.now)) }
 {
     let found = matrix_file::matrix_file_shape(file);
-    match found {
-        Shaped::Shape(m) => {
-            put_all(report, &[0, m.rows as u64, m.entries as u64]);
-            0
-        }
-        Shaped::Unshaped(q) => {
-            put_all(report, &[q.place() as u64, 0, 0]);
-            q.number()
-        }
-    }
+    let m = found.unwrap_or(Matrix {
+        rows: 0,
+        entries: 0,
+    });
+    put_told(report, found, &[m.rows as u64, m.entries as u64])
 }
 
 // Reads a file into lent buffers.
@@ -285,7 +224,8 @@ pub fn test_load(
         report.old report.new (matrix_lists starts.new columns.new values.new r.new c.new b.new) result }
 {
     let a = load::test_load(n, seed, starts, columns, values, r, c, b);
-    put_made(report, a)
+    let entries = base::entries_of(a);
+    put_told(report, a, &[entries as u64])
 }
 
 // ---- residuals
@@ -305,7 +245,20 @@ pub fn residual(
     ensures { ToldRow (input_of n starts.now columns.now values.now [] [] b.now) x.now (own row)
         pair.old pair.new report.old report.new result }
 {
-    let a = residual::residual(n, starts, columns, values, b, x, OwnNumber(row));
+    let a = residual::residual(
+        System {
+            n,
+            starts,
+            columns,
+            values,
+            r: &[],
+            c: &[],
+            b,
+            floor: 0.0,
+        },
+        x,
+        OwnNumber(row),
+    );
     put_pair(pair, a);
-    put_checked(report, a)
+    put_told(report, a, &[])
 }

@@ -1,4 +1,5 @@
 -- Laws of the call's questions: each from the tests that the code makes, and what they settle when they are passed.
+use Rattle.std.specs.Prelude.{Err}
 use mathlib.Core.Path.{◌≡◌, refl, sym, ◌∙◌}
 use mathlib.Core.Bool.{Bool, true, false, not, ◌&&◌}
 use mathlib.Core.List.{List, [], ◌∷◌}
@@ -12,13 +13,11 @@ use Rattle.base.specs.All.{all}
 use Rattle.base.specs.AllLaws.{all_true}
 use Rattle.base.specs.Tests.{and_cases}
 use Rattle.base.specs.Limits.{max_rows, max_entries}
-use Rattle.base.specs.Answers.{holds, and_then}
+use Rattle.base.specs.Answers.{holds, and_then, Pass, Asked}
 use Rattle.base.specs.FirstLaws.{both-pass, holds-pass}
 use Rattle.base.specs.declared.OwnNumber.{OwnNumber}
 use Rattle.base.specs.declared.Refusal.{Refusal}
 use Rattle.base.specs.declared.Refusal.TheVariants.{Order, EmptyRow}
-use Rattle.base.specs.declared.Asked.{Asked}
-use Rattle.base.specs.declared.Asked.TheVariants.{Pass, Stop}
 use Rattle.matrix.specs.Input.{Input, input_of}
 use Rattle.matrix.specs.Questions.{no_entry, ask3, ask4, ask6, ask_finite}
 use Rattle.questions.specs.Settled.{Finite}
@@ -39,13 +38,13 @@ e-first n s j v b x = by_cases (leb j max_entries)
 
 -- ---- 5 and 7, of the own row
 
-pub out-stop : (n i : ℕ) (next r : Asked) (q : Refusal) → n ≤ i → r ≡ Stop q → r ≡ and_then (holds (ltb i n) q) next
+pub out-stop : (n i : ℕ) (next r : Asked) (q : Refusal) → n ≤ i → r ≡ Err q → r ≡ and_then (holds (ltb i n) q) next
 out-stop n i next r q h e = rw (le-ltb i n h) e
 
 pub out-pass : (n i : ℕ) (next r : Asked) (q : Refusal) → i < n → r ≡ next → r ≡ and_then (holds (ltb i n) q) next
 out-pass n i next r q h e = rw (lt-ltb i n h) e
 
-pub entry-stop : (s : List ℕ) (i : ℕ) (b : Bool) (r : Asked) (q : Refusal) → b ≡ no_entry s i → b ≡ true → r ≡ Stop q → r ≡ holds (not (no_entry s i)) q
+pub entry-stop : (s : List ℕ) (i : ℕ) (b : Bool) (r : Asked) (q : Refusal) → b ≡ no_entry s i → b ≡ true → r ≡ Err q → r ≡ holds (not (no_entry s i)) q
 entry-stop s i b r q e h g = rw (← e, h) g
 
 pub entry-pass : (s : List ℕ) (i : ℕ) (b : Bool) (r : Asked) (q : Refusal) → b ≡ no_entry s i → b ≡ false → r ≡ Pass → r ≡ holds (not (no_entry s i)) q

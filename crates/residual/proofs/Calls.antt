@@ -1,13 +1,12 @@
 -- The call from its two stages, by what the questions answered.
+use Rattle.std.specs.Prelude.{Err}
 use mathlib.Core.Path.{◌≡◌, sym, ◌∙◌}
 use mathlib.Core.List.{List}
 use Prim.Native.Nat.{ℕ}
 use lib.Ieee.{Float}
-use Rattle.base.specs.Answers.{number_of, place_of}
+use Rattle.base.specs.Answers.{number_of, place_of, Pass, Asked}
 use Rattle.base.specs.declared.OwnNumber.{OwnNumber}
 use Rattle.base.specs.declared.Refusal.{Refusal}
-use Rattle.base.specs.declared.Asked.{Asked}
-use Rattle.base.specs.declared.Asked.TheVariants.{Pass, Stop}
 use Rattle.matrix.specs.Input.{Input}
 use Rattle.residual.specs.Answer.{ask_row, answered}
 use Rattle.residual.specs.Lent.{Readable}
@@ -15,7 +14,7 @@ use Rattle.residual.specs.declared.Checked.{Checked}
 use Rattle.residual.specs.declared.Checked.TheVariants.{Refused}
 use Rattle.residual.proofs.Asking.{passed}
 
-pub answer-stop : (a : Asked) (q : Refusal) (o : Asked) (x y : ℕ) (r : Checked) → o ≡ a → o ≡ Stop q → x ≡ number_of q → y ≡ place_of q → Refused x y ≡ answered a r
+pub answer-stop : (a : Asked) (q : Refusal) (o : Asked) (x y : ℕ) (r : Checked) → o ≡ a → o ≡ Err q → x ≡ number_of q → y ≡ place_of q → Refused x y ≡ answered a r
 answer-stop a q o x y r e h f g = rw (← e, h, f, g)
 
 pub answer-pass : (a o : Asked) (z r : Checked) → o ≡ a → o ≡ Pass → z ≡ r → z ≡ answered a r

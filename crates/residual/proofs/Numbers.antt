@@ -1,4 +1,5 @@
 -- The numbers that the call can give: 0 with a pair, 1 to 7, and 22. It takes no floor, so 19 is not among them. 1 is given for an n out of its limits only.
+use Rattle.std.specs.Prelude.{Ok, Err}
 use mathlib.Core.Path.{◌≡◌, refl}
 use mathlib.Core.Bool.{true, not}
 use mathlib.Core.Logic.{◌⊎◌, inl, inr, ⊎_elim}
@@ -12,12 +13,10 @@ use Rattle.base.specs.All.{all}
 use Rattle.base.specs.First.{first}
 use Rattle.base.specs.Tests.{by-test}
 use Rattle.base.specs.Limits.{max_entries, rows_within}
-use Rattle.base.specs.Answers.{own, number_of}
+use Rattle.base.specs.Answers.{own, number_of, Asked}
 use Rattle.base.specs.declared.OwnNumber.{OwnNumber}
 use Rattle.base.specs.declared.Refusal.{Refusal}
 use Rattle.base.specs.declared.Refusal.TheVariants.{Lengths, Starts, Column, Order, NotFinite, EmptyRow}
-use Rattle.base.specs.declared.Asked.{Asked}
-use Rattle.base.specs.declared.Asked.TheVariants.{Pass, Stop}
 use Rattle.matrix.specs.Input.{Input}
 use Rattle.matrix.specs.Questions.{bad_start, bad_column, not_finite, no_entry, ask3, ask4, ask6, ask_finite}
 use Rattle.arithmetic.specs.RowEnd.{finite_all}
@@ -60,9 +59,9 @@ Later z = (z ≡ 0) ⊎ (((2 ≤ z) × (z ≤ 7)) ⊎ (z ≡ 22))
 
 answered-later : (a : Asked) (c : Checked) → Only (From 2) a → (number_of_checked c ≡ 0) ⊎ (number_of_checked c ≡ 22) → Later (number_of_checked (answered a c))
 unfolding Only
-answered-later (Stop q) c w h = inr (inl (w q refl))
-answered-later Pass c w (inl h) = inl h
-answered-later Pass c w (inr h) = inr (inr h)
+answered-later (Err q) c w h = inr (inl (w q refl))
+answered-later (Ok _) c w (inl h) = inl h
+answered-later (Ok _) c w (inr h) = inr (inr h)
 
 module _ (i : Input) (x : List Float) (k : OwnNumber) where
   checked-later : rows_within i.n ≡ true → Later (number_of_checked (checked i x k))

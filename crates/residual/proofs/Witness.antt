@@ -4,8 +4,7 @@ use mathlib.Core.List.{List, [], ◌∷◌}
 use lib.Ieee.{Float}
 use Rattle.base.specs.First.{first}
 use Rattle.base.specs.Lists.{nought, list_at}
-use Rattle.base.specs.Answers.{own}
-use Rattle.base.specs.declared.Asked.TheVariants.{Pass}
+use Rattle.base.specs.Answers.{own, Pass}
 use Rattle.matrix.specs.Input.{Input, input_of}
 use Rattle.matrix.specs.Questions.{bad_start, bad_column, not_finite, no_entry, ask3, ask4, ask6, ask_finite}
 use Rattle.outcome.specs.Buffers.{ask_shape}

@@ -1,13 +1,11 @@
 -- What the call is asked and what it answers. Definitions only.
-use Rattle.std.specs.Prelude.{ℕ, ◌+◌, Bool, not, cond, List, [], ◌∷◌, map, length, get_or, leb, ltb, eqb, Float}
+use Rattle.std.specs.Prelude.{ℕ, ◌+◌, Bool, not, cond, List, [], ◌∷◌, map, length, get_or, leb, ltb, eqb, Float, Ok, Err}
 use Rattle.std.specs.Float.{nan}
 use Rattle.base.specs.Lists.{nought, row_of, pairs}
 use Rattle.base.specs.Limits.{max_entries}
-use Rattle.base.specs.Answers.{number_of, place_of, holds, and_then}
+use Rattle.base.specs.Answers.{number_of, place_of, holds, and_then, Asked}
 use Rattle.base.specs.declared.OwnNumber.{OwnNumber}
 use Rattle.base.specs.declared.Refusal.TheVariants.{Order, EmptyRow}
-use Rattle.base.specs.declared.Asked.{Asked}
-use Rattle.base.specs.declared.Asked.TheVariants.{Pass, Stop}
 use Rattle.matrix.specs.Input.{Input}
 use Rattle.matrix.specs.Questions.{no_entry, ask3, ask4, ask6, ask_finite}
 use Rattle.outcome.specs.Buffers.{ask_shape}
@@ -76,8 +74,8 @@ unfoldable pub row_answer : Float → List Entry → OwnNumber → Checked
 row_answer b l k = cond (finite_all (results b l)) (Pair (residual_from b l) (width_of b l)) (Refused 22 k.0)
 
 abbrev pub answered : Asked → Checked → Checked
-answered (Stop q) a = Refused (number_of q) (place_of q)
-answered Pass a = a
+answered (Err q) a = Refused (number_of q) (place_of q)
+answered (Ok _) a = a
 
 -- "The answer is either the pair of numbers or the refusal"
 unfoldable pub checked : Input → List Float → OwnNumber → Checked

@@ -1,10 +1,10 @@
 -- What the stage after 1, 2, 5 and 6 requires is met by computed values: one place with empty lists, in the shared form.
+use Rattle.base.specs.Answers.{Pass}
 use mathlib.Core.Path.{◌≡◌, refl}
 use mathlib.Core.List.{List, [], ◌∷◌}
 use Prim.Native.Nat.{ℕ}
 use Rattle.base.specs.First.{first}
 use Rattle.base.specs.declared.Form.TheVariants.{Shared}
-use Rattle.base.specs.declared.Asked.TheVariants.{Pass}
 use Rattle.matrix.specs.Input.{input_of, is_of}
 use Rattle.matrix.specs.Questions.{bad_index, not_finite, ask5, ask_finite, ask_right}
 use Rattle.factors.proofs.Witness.{starts, runs, d, shared}

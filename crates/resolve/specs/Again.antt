@@ -1,12 +1,9 @@
 -- The stages of another right side: what each asks for, and what it leaves. Definitions only.
-use Rattle.std.specs.Prelude.{◌≡◌, List, ◌++◌, ℕ, ◌+◌, ◌*◌, ◌≤◌, length, Float}
+use Rattle.base.specs.Answers.{Pass, Asked}
+use Rattle.std.specs.Prelude.{◌≡◌, List, ◌++◌, ℕ, ◌+◌, ◌*◌, ◌≤◌, length, Float, Ok, Err}
 use Rattle.base.specs.Limits.{max_rows}
 use Rattle.base.specs.declared.Form.{Form}
 use Rattle.base.specs.declared.Sizes.{Sizes}
-use Rattle.base.specs.declared.Asked.{Asked}
-use Rattle.base.specs.declared.Asked.TheVariants.{Pass, Stop}
-use Rattle.base.specs.declared.Ended.{Ended}
-use Rattle.base.specs.declared.Ended.TheVariants.{Done, Refused}
 use Rattle.matrix.specs.Input.{Input, own_order}
 use Rattle.matrix.specs.Questions.{ask_right}
 use Rattle.arithmetic.specs.Arith.{Out, ok, met}
@@ -17,11 +14,6 @@ use Rattle.outcome.specs.Resolve.{ask_factors, factors_of}
 use Rattle.factors.specs.Presented.{FactorsLent, presented}
 use Rattle.stages.specs.Shaped.{SideFits, LowerFits}
 use Rattle.stages.specs.Asking.{Asking}
-
--- how a call ends whose questions answer so
-abbrev pub end_of : Asked → Ended
-end_of Pass = Done
-end_of (Stop q) = Refused q
 
 -- ---- questions 1, 2, 5 and 6
 
@@ -63,9 +55,9 @@ pub record AgainReady (f : Form) (i : Input) (ls lr us ur : List ℕ) (d x work 
 
 -- where 15 answers the first and the arithmetic comes to the second: the answer a, and x' over x
 abbrev pub Settles : Input → List Float → Asked → Out (List Float) → Asked → List Float → Type 0
-Settles i x (Stop q) o a x' = (a ≡ Stop q) × (x' ≡ x)
-Settles i x Pass (met q) a x' = (a ≡ Stop (fault_of q)) × (x' ≡ x)
-Settles i x Pass (ok z) a x' = (a ≡ Pass) × (x' ≡ own_order i.c i.n z)
+Settles i x (Err q) o a x' = (a ≡ Err q) × (x' ≡ x)
+Settles i x (Ok _) (met q) a x' = (a ≡ Err (fault_of q)) × (x' ≡ x)
+Settles i x (Ok _) (ok z) a x' = (a ≡ Pass) × (x' ≡ own_order i.c i.n z)
 
 abbrev pub Again : Form → Input → SideBuffers → SideBuffers → List Float → List Float → Asked → List Float → Type 0
 Again f i l u d x a x' = Settles i x (ask_factors f i.n (presented l u d)) (solved_again (factors_of f i (presented l u d))) a x'

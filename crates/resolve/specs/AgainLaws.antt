@@ -1,5 +1,6 @@
 -- The stages of another right side hand on to each other, and come to the call's outcome.
-use Rattle.std.specs.Prelude.{◌≡◌, refl, Bool, true, false, ◌&&◌, List, [], ◌++◌, ℕ, ◌≤◌, length, leb, Float}
+use Rattle.base.specs.Answers.{Pass, Asked}
+use Rattle.std.specs.Prelude.{◌≡◌, refl, Bool, true, false, ◌&&◌, List, [], ◌++◌, ℕ, ◌≤◌, length, leb, Float, Ok, Err, is_err}
 use Rattle.std.proofs.Math.Path.{sym}
 use Rattle.std.proofs.Common.{ap, ◌∙◌, arith, eqb-true, leb-true}
 use Rattle.base.specs.All.{all}
@@ -11,11 +12,7 @@ use Rattle.base.specs.declared.Form.{Form}
 use Rattle.base.specs.declared.Form.TheVariants.{Plain, Shared}
 use Rattle.base.specs.declared.SideSizes.{SideSizes}
 use Rattle.base.specs.declared.Sizes.{Sizes}
-use Rattle.base.specs.declared.Asked.{Asked}
-use Rattle.base.specs.declared.Asked.TheVariants.{Pass, Stop}
 use Rattle.base.specs.declared.Refusal.TheVariants.{Rows, Lengths}
-use Rattle.base.specs.declared.Ended.{Ended}
-use Rattle.base.specs.declared.Ended.TheVariants.{Refused}
 use Rattle.matrix.specs.Input.{Input, input_of, right_at, own_order}
 use Rattle.matrix.specs.Questions.{ask_right}
 use Rattle.matrix.proofs.OrderLaws.{order_below}
@@ -35,10 +32,9 @@ use Rattle.outcome.proofs.Making.{passed}
 use Rattle.stages.specs.LengthLaws.{all-next}
 use Rattle.stages.specs.Shaped.{side_of, sizes_of, SolutionDue}
 use Rattle.stages.specs.ShapedLaws.{split, sides-fit}
-use Rattle.stages.specs.Stages.{is_stop}
 use Rattle.stages.specs.Branches.{never, pass_of}
 use Rattle.stages.specs.Asking.{Blanked, stops_call, goes_on, as-was, blank-scratch}
-use Rattle.resolve.specs.Again.{end_of, again_shape, AgainShaped, AgainDue, AgainAsking, AgainReady, Settles, Again}
+use Rattle.resolve.specs.Again.{again_shape, AgainShaped, AgainDue, AgainAsking, AgainReady, Settles, Again}
 
 -- ---- questions 1 and 2
 
@@ -51,7 +47,7 @@ module _ (f : Form) (i : Input) (z : Sizes) where
       (all-next (list_tests f i.n z ++ vector_tests i.n z) (scratch_tests i.n z) (l && v) s (all-next (list_tests f i.n z) (vector_tests i.n z) l v el ev) es)
 
   module _ (b : Bool) (e : b ≡ rows_within i.n) where
-    pub shape-rows : b ≡ false → Stop Rows ≡ again_shape f i z
+    pub shape-rows : b ≡ false → Err Rows ≡ again_shape f i z
     unfolding ask_shape
     shape-rows h = rw (sym e ∙ h)
 
@@ -64,7 +60,7 @@ module _ (f : Form) (i : Input) (z : Sizes) where
         unfolding ask_shape
         shape-pass g = rw (sym e ∙ h, sym (again-tests p l v s ep el ev es) ∙ g)
 
-        pub shape-lengths : (p && (l && v && s)) ≡ false → Stop Lengths ≡ again_shape f i z
+        pub shape-lengths : (p && (l && v && s)) ≡ false → Err Lengths ≡ again_shape f i z
         unfolding ask_shape
         shape-lengths g = rw (sym e ∙ h, sym (again-tests p l v s ep el ev es) ∙ g)
 
@@ -150,7 +146,7 @@ shared-ready i ls lr us ur li lv ui uv d x w m h w₁ e =
 -- ---- 15 is passed
 
 module _ (f : Form) (i : Input) (ls lr li : List ℕ) (lv : List Float) (us ur ui : List ℕ) (uv d : List Float) (x work : ℕ) (h : AgainReady f i ls lr us ur (length d) x work) where
-  pub solvable : (o : Asked) → o ≡ ask_factors f i.n (presented (side_buffers ls lr li lv) (side_buffers us ur ui uv) d) → is_stop o ≡ false
+  pub solvable : (o : Asked) → o ≡ ask_factors f i.n (presented (side_buffers ls lr li lv) (side_buffers us ur ui uv) d) → is_err o ≡ false
       → Solvable f i.n i.r i.b (side_buffers ls lr li lv) (side_buffers us ur ui uv) (length d) work
   unfolding Finite
   solvable o e g =
@@ -186,27 +182,27 @@ module _ (f : Form) (i : Input) (ls lr li : List ℕ) (lv : List Float) (us ur u
 -- ---- the answers of 15 and 13
 
 module _ (i : Input) (x : List Float) (first : Asked) (o : Out (List Float)) (a₁ : Asked) (e₁ : a₁ ≡ first) where
-  pub settles-15 : is_stop a₁ ≡ true → Settles i x first o a₁ x
+  pub settles-15 : is_err a₁ ≡ true → Settles i x first o a₁ x
   settles-15 h = rw (← e₁) (by a₁ h)
     where
-      by : (a : Asked) → is_stop a ≡ true → Settles i x a o a x
-      by Pass g = never false refl g
-      by (Stop q) g = (refl, refl)
+      by : (a : Asked) → is_err a ≡ true → Settles i x a o a x
+      by (Ok _) g = never false refl g
+      by (Err q) g = (refl, refl)
 
-  module _ (h : is_stop a₁ ≡ false) (a : Asked) (z : List Float) (s : Solved o a z) where
-    pub settles-13 : is_stop a ≡ true → Settles i x first o a x
+  module _ (h : is_err a₁ ≡ false) (a : Asked) (z : List Float) (s : Solved o a z) where
+    pub settles-13 : is_err a ≡ true → Settles i x first o a x
     settles-13 g = rw (← e₁, pass_of a₁ h) (by o s)
       where
         by : (o : Out (List Float)) → Solved o a z → Settles i x Pass o a x
-        by (ok y) t = never (is_stop a) (ap is_stop t.0) g
+        by (ok y) t = never (is_err a) (ap is_err t.0) g
         by (met q) t = (t, refl)
 
-    pub settles-x : is_stop a ≡ false → (x' : List Float) → x' ≡ own_order i.c i.n z → Settles i x first o a x'
+    pub settles-x : is_err a ≡ false → (x' : List Float) → x' ≡ own_order i.c i.n z → Settles i x first o a x'
     settles-x g x' e = rw (← e₁, pass_of a₁ h) (by o s)
       where
         by : (o : Out (List Float)) → Solved o a z → Settles i x Pass o a x'
         by (ok y) t = (t.0, e ∙ ap (own_order i.c i.n) t.1)
-        by (met q) t = never (is_stop a) g (ap is_stop t)
+        by (met q) t = never (is_err a) g (ap is_err t)
 
 -- the arithmetic does not see the column order
 given-any : (f : Form) (n : ℕ) (r c : List ℕ) (b : List Float) (s : Buffers) → factors_of f (input_of n [] [] [] r [] b) s ≡ factors_of f (input_of n [] [] [] r c b) s
@@ -214,11 +210,11 @@ unfolding factors_of right_at
 given-any f n r c b s = refl
 
 -- what the stage after 1, 2, 5 and 6 leaves: t is the test of 15's answer, v that of 13's
-module _ (f : Form) (n : ℕ) (r c : List ℕ) (b : List Float) (l u : SideBuffers) (d x : List Float) (a₁ : Asked) (e₁ : a₁ ≡ ask_factors f n (presented l u d)) (t : Bool) (et : t ≡ is_stop a₁) where
+module _ (f : Form) (n : ℕ) (r c : List ℕ) (b : List Float) (l u : SideBuffers) (d x : List Float) (a₁ : Asked) (e₁ : a₁ ≡ ask_factors f n (presented l u d)) (t : Bool) (et : t ≡ is_err a₁) where
   pub again-15 : t ≡ true → Again f (input_of n [] [] [] r c b) l u d x a₁ x
   again-15 h = settles-15 (input_of n [] [] [] r c b) x (ask_factors f n (presented l u d)) (solved_again (factors_of f (input_of n [] [] [] r c b) (presented l u d))) a₁ e₁ (sym et ∙ h)
 
-  module _ (h : t ≡ false) (a : Asked) (z : List Float) (s : Solved (solved_again (factors_of f (input_of n [] [] [] r [] b) (presented l u d))) a z) (v : Bool) (ev : v ≡ is_stop a) where
+  module _ (h : t ≡ false) (a : Asked) (z : List Float) (s : Solved (solved_again (factors_of f (input_of n [] [] [] r [] b) (presented l u d))) a z) (v : Bool) (ev : v ≡ is_err a) where
     known : Solved (solved_again (factors_of f (input_of n [] [] [] r c b) (presented l u d))) a z
     known = rw (given-any f n r c b (presented l u d)) at s
 
@@ -231,17 +227,17 @@ module _ (f : Form) (n : ℕ) (r c : List ℕ) (b : List Float) (l u : SideBuffe
         settles-x (input_of n [] [] [] r c b) x (ask_factors f n (presented l u d)) (solved_again (factors_of f (input_of n [] [] [] r c b) (presented l u d))) a₁ e₁ (sym et ∙ h) a z known (sym ev ∙ g) x' e
 
 -- c is what the answer is found to be
-pub end-as : (a c : Asked) (r : Ended) → a ≡ c → r ≡ end_of c → r ≡ end_of a
-end-as a c r e h = rw e h
+pub end-as : (a c r : Asked) → a ≡ c → r ≡ c → r ≡ a
+end-as a c r e h = h ∙ sym e
 
 -- ---- the outcome
 
 settled-as : (i : Input) (s : Buffers) (first : Asked) (o : Out (List Float)) (a : Asked) (x' : List Float) → Settles i s.x first o a x'
-    → ended (end_of a) (with_solution s x') ≡ stop Refused first (scratch_cleared s) (resolved i s o)
+    → ended a (with_solution s x') ≡ stop Err first (scratch_cleared s) (resolved i s o)
 unfolding with_solution scratch_cleared
-settled-as i s (Stop q) o a x' h = rw (h.0, h.1)
-settled-as i s Pass (met q) a x' h = rw (h.0, h.1)
-settled-as i s Pass (ok z) a x' h = rw (h.0, h.1)
+settled-as i s (Err q) o a x' h = rw (h.0, h.1)
+settled-as i s (Ok _) (met q) a x' h = rw (h.0, h.1)
+settled-as i s (Ok _) (ok z) a x' h = rw (h.0, h.1)
 
 -- 15 and the factors see the lists and d only, and in the plain form no run starts
 factors-alone : (f : Form) (n : ℕ) (l u : SideBuffers) (d x w : List Float) (m : List ℕ) → ask_factors f n (all_buffers l u d x w m) ≡ ask_factors f n (presented l u d)
@@ -268,21 +264,21 @@ plain-again i ls li lv us ui uv d x x' a h = rw (plain-15 i.n ls li lv us ui uv 
 
 -- the call ends with a refusal of 1, 2, 5 or 6, or goes on
 module _ (f : Form) (i : Input) (l u : SideBuffers) (d x w v : List Float) (m t : List ℕ) (a : Asked) (g : AgainAsking f i (sizes (all_buffers l u d x w m)) w m v t a) where
-  pub resolve-stops : (r : Ended) → is_stop a ≡ true → r ≡ end_of a → ended r (all_buffers l u d x v t) ≡ resolve f i (all_buffers l u d x w m)
+  pub resolve-stops : (r : Asked) → is_err a ≡ true → r ≡ a → ended r (all_buffers l u d x v t) ≡ resolve f i (all_buffers l u d x w m)
   unfolding resolve
-  resolve-stops r h e = stops_call Refused end_of (λ q. refl) _ _ a r _ _ _ _ g.answer h e (λ y. as-was l u d x w v m t (g.untouched y)) (λ y k. blank-scratch l u d x w v m t (g.blanked y k))
+  resolve-stops r h e = stops_call Err (λ y. y) (λ q. refl) _ _ a r _ _ _ _ g.answer h e (λ y. as-was l u d x w v m t (g.untouched y)) (λ y k. blank-scratch l u d x w v m t (g.blanked y k))
 
   -- scratch is w₁ and m₁ as the later stages leave it, and then cleared
-  module _ (h : is_stop a ≡ false) (k : Asked) (x' w₁ w₂ : List Float) (m₁ m₂ : List ℕ) (lw : length w₁ ≡ length w) (lm : length m₁ ≡ length m) (c : Blanked w₁ m₁ w₂ m₂) where
+  module _ (h : is_err a ≡ false) (k : Asked) (x' w₁ w₂ : List Float) (m₁ m₂ : List ℕ) (lw : length w₁ ≡ length w) (lm : length m₁ ≡ length m) (c : Blanked w₁ m₁ w₂ m₂) where
     ends_as : Settles i x (ask_factors f i.n (all_buffers l u d x w m)) (judged nought (whole_again (factors_of f i (all_buffers l u d x w m)))) k x'
-        → ended (end_of k) (all_buffers l u d x' w₂ m₂) ≡ resolve f i (all_buffers l u d x w m)
+        → ended k (all_buffers l u d x' w₂ m₂) ≡ resolve f i (all_buffers l u d x w m)
     unfolding resolve with_solution blank
     ends_as e =
         rw (c.0, c.1, lw, lm)
-        (goes_on Refused (again_shape f i (sizes (all_buffers l u d x w m))) (ask_right i.n i.r i.c i.b) a _ (scratch_cleared (all_buffers l u d x w m)) _ _ g.answer (pass_of a h)
+        (goes_on Err (again_shape f i (sizes (all_buffers l u d x w m))) (ask_right i.n i.r i.c i.b) a _ (scratch_cleared (all_buffers l u d x w m)) _ _ g.answer (pass_of a h)
         (settled-as i (all_buffers l u d x w m) (ask_factors f i.n (all_buffers l u d x w m)) (judged nought (whole_again (factors_of f i (all_buffers l u d x w m)))) k x' e))
 
-    pub resolve-ends : Settles i x (ask_factors f i.n (presented l u d)) (solved_again (factors_of f i (presented l u d))) k x' → (r : Ended) → r ≡ end_of k
+    pub resolve-ends : Settles i x (ask_factors f i.n (presented l u d)) (solved_again (factors_of f i (presented l u d))) k x' → (r : Asked) → r ≡ k
         → ended r (all_buffers l u d x' w₂ m₂) ≡ resolve f i (all_buffers l u d x w m)
     resolve-ends e r q =
         rw q (ends_as (rw (factors-alone f i.n l u d x w m, solved_again-is, given-alone f i l u d x w m) e))

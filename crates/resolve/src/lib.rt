@@ -7,9 +7,9 @@ ghost use Rattle.matrix.specs.Input.{input_of};
 ghost use Rattle.outcome.specs.Buffers.{side_buffers, right_tests};
 ghost use Rattle.outcome.specs.Calls.{ResolvesPlain, ResolvesShared};
 ghost use Rattle.stages.specs.Shaped.{side_of};
-ghost use Rattle.resolve.specs.Again.{again_shape, AgainAsking, AgainReady, Again, end_of};
+ghost use Rattle.resolve.specs.Again.{again_shape, AgainAsking, AgainReady, Again};
 
-use base::{Asked, Ended, Form, Index, Refusal, SideSizes, Sizes};
+use base::{Form, Index, Refusal, SideSizes, Sizes};
 use matrix::Matrix;
 
 // ---- questions 1, 2, 5 and 6
@@ -34,7 +34,14 @@ fn right_fits(n: usize, r: &[Index], c: &[Index], b: &[f64]) -> bool
 }
 
 // Asks 1 and 2, with `sizes` for all other buffers.
-fn ask_shape(form: Form, n: usize, r: &[Index], c: &[Index], b: &[f64], sizes: Sizes) -> Asked
+fn ask_shape(
+    form: Form,
+    n: usize,
+    r: &[Index],
+    c: &[Index],
+    b: &[f64],
+    sizes: Sizes,
+) -> Result<(), Refusal>
     ensures { result ≡ again_shape form (input_of n [] [] [] r.now c.now b.now) sizes }
 {
     if Matrix::rows_within(n) {
@@ -43,11 +50,11 @@ fn ask_shape(form: Form, n: usize, r: &[Index], c: &[Index], b: &[f64], sizes: S
         let vectors = stages::vectors_fit(n, sizes);
         let slots = stages::scratch_fits(n, sizes);
         if right & (lists & vectors & slots) {
-            return Asked::Pass;
+            return Ok(());
         }
-        return Asked::Stop(Refusal::Lengths);
+        return Err(Refusal::Lengths);
     }
-    Asked::Stop(Refusal::Rows)
+    Err(Refusal::Rows)
 }
 
 // Asks 1, 2, 5 and 6. 1 and 2 write nothing; where 5 or 6 stops the call, scratch is cleared.
@@ -60,16 +67,16 @@ fn ask_right(
     sizes: Sizes,
     work: &mut [f64],
     marks: &mut [u32],
-) -> Asked
+) -> Result<(), Refusal>
     requires { sizes.marks ≡ length marks.old }
     ensures { AgainAsking form (input_of n [] [] [] r.now c.now b.now) sizes work.old marks.old work.new marks.new result }
 {
     let shape = ask_shape(form, n, r, c, b, sizes);
-    if stages::stops(shape) {
+    if shape.is_err() {
         return shape;
     }
     let a = questions::ask_right(n, r, c, b, marks);
-    if stages::stops(a) {
+    if a.is_err() {
         stages::clear_scratch(work, marks);
         return a;
     }
@@ -96,7 +103,7 @@ fn solve_again(
     d: &[f64],
     x: &mut [f64],
     work: &mut [f64],
-) -> Asked
+) -> Result<(), Refusal>
     requires { AgainReady form (input_of n [] [] [] r.now c.now b.now) lower_starts.now lower_runs.now upper_starts.now upper_runs.now (length d.now) (length x.old) (length work.old) }
     ensures { Again form (input_of n [] [] [] r.now c.now b.now)
         (side_buffers lower_starts.now lower_runs.now lower_index.now lower_values.now)
@@ -115,7 +122,7 @@ fn solve_again(
         upper_values,
         d,
     );
-    if stages::stops(good) {
+    if good.is_err() {
         return good;
     }
     let solved = substitution::substitute(
@@ -134,21 +141,11 @@ fn solve_again(
         d,
         work,
     );
-    if stages::stops(solved) {
+    if solved.is_err() {
         return solved;
     }
     stages::write_x(n, c, work, x);
     solved
-}
-
-// Gives the end of a call whose questions answer so.
-fn end_of(a: Asked) -> Ended
-    ensures { result ≡ end_of a }
-{
-    match a {
-        Asked::Pass => Ended::Done,
-        Asked::Stop(q) => Ended::Refused(q),
-    }
 }
 
 // ---- the calls
@@ -169,7 +166,7 @@ pub fn resolve_plain(
     x: &mut [f64],
     work: &mut [f64],
     marks: &mut [u32],
-) -> Ended
+) -> Result<(), Refusal>
     ensures { ResolvesPlain (input_of n [] [] [] r.now c.now b.now)
         lower_starts.now lower_index.now lower_values.now upper_starts.now upper_index.now upper_values.now d.now x.old work.old marks.old result
         x.new work.new marks.new }
@@ -185,8 +182,8 @@ pub fn resolve_plain(
         marks: marks.len(),
     };
     let asked = ask_right(Form::Plain, n, r, c, b, sizes, work, marks);
-    if stages::stops(asked) {
-        return end_of(asked);
+    if asked.is_err() {
+        return asked;
     }
     let a = solve_again(
         Form::Plain,
@@ -207,7 +204,7 @@ pub fn resolve_plain(
         work,
     );
     stages::clear_scratch(work, marks);
-    end_of(a)
+    a
 }
 
 // Solves M·x = b for a new b with the factors of a shared solve.
@@ -228,7 +225,7 @@ pub fn resolve_shared(
     x: &mut [f64],
     work: &mut [f64],
     marks: &mut [u32],
-) -> Ended
+) -> Result<(), Refusal>
     ensures { ResolvesShared (input_of n [] [] [] r.now c.now b.now)
         lower_starts.now lower_runs.now lower_index.now lower_values.now upper_starts.now upper_runs.now upper_index.now upper_values.now d.now x.old work.old marks.old result
         x.new work.new marks.new }
@@ -244,8 +241,8 @@ pub fn resolve_shared(
         marks: marks.len(),
     };
     let asked = ask_right(Form::Shared, n, r, c, b, sizes, work, marks);
-    if stages::stops(asked) {
-        return end_of(asked);
+    if asked.is_err() {
+        return asked;
     }
     let a = solve_again(
         Form::Shared,
@@ -266,5 +263,5 @@ pub fn resolve_shared(
         work,
     );
     stages::clear_scratch(work, marks);
-    end_of(a)
+    a
 }

@@ -1,4 +1,6 @@
 -- The same by the lists that the calls are lent, as their contracts name them.
+use Rattle.base.specs.Answers.{Pass, Asked, Answer}
+use Rattle.std.specs.Prelude.{Ok, Err}
 use mathlib.Core.Path.{◌≡◌, refl, sym, ap}
 use mathlib.Core.List.{List, [], ◌++◌}
 use Prim.Native.Nat.{ℕ, ◌≤◌}
@@ -9,10 +11,6 @@ use Rattle.base.specs.Lists.{nought}
 use Rattle.base.specs.declared.Form.{Form}
 use Rattle.base.specs.declared.Form.TheVariants.{Plain, Shared}
 use Rattle.base.specs.declared.Counts.{Counts}
-use Rattle.base.specs.declared.Answer.{Answer}
-use Rattle.base.specs.declared.Answer.TheVariants.{Done}
-use Rattle.base.specs.declared.Ended.{Ended}
-use Rattle.base.specs.declared.Ended.TheVariants as ends
 use Rattle.matrix.specs.Input.{Input, right_at}
 use Rattle.matrix.specs.Questions.{ask_right}
 use Rattle.arithmetic.specs.Arith.{Out, ok, met, judged}
@@ -39,38 +37,38 @@ same_lists starts runs index before now l = record { starts = refl; runs = refl;
 
 -- the lists that a structure call or a solve left are presented
 pub structure-presents-plain : (i : Input) (c : Counts) (ls₀ li₀ us₀ ui₀ m₀ ls li us ui m₁ m : List ℕ) (lv₀ uv₀ w₀ lv₁ uv₁ w₁ lv uv d x w : List Float)
-    → StructuresPlain i ls₀ li₀ lv₀ us₀ ui₀ uv₀ w₀ m₀ (Done c) ls li lv₁ us ui uv₁ w₁ m₁ → length lv₁ ≤ length lv → length uv₁ ≤ length uv
+    → StructuresPlain i ls₀ li₀ lv₀ us₀ ui₀ uv₀ w₀ m₀ (Ok c) ls li lv₁ us ui uv₁ w₁ m₁ → length lv₁ ≤ length lv → length uv₁ ≤ length uv
     → Presented Plain i (plain_buffers ls li lv us ui uv d x w m)
 structure-presents-plain i c ls₀ li₀ us₀ ui₀ m₀ ls li us ui m₁ m lv₀ uv₀ w₀ lv₁ uv₁ w₁ lv uv d x w h l u =
     record { u = _; left = after-structure _ c (sym h); lower = same_lists ls [] li lv₁ lv l; upper = same_lists us [] ui uv₁ uv u }
 
 pub solve-presents-plain : (i : Input) (c : Counts) (ls₀ li₀ us₀ ui₀ m₀ ls li us ui m₁ m : List ℕ) (lv₀ uv₀ d₀ x₀ w₀ lv₁ uv₁ d₁ x₁ w₁ lv uv d x w : List Float)
-    → SolvesPlain i ls₀ li₀ lv₀ us₀ ui₀ uv₀ d₀ x₀ w₀ m₀ (Done c) ls li lv₁ us ui uv₁ d₁ x₁ w₁ m₁ → length lv₁ ≤ length lv → length uv₁ ≤ length uv
+    → SolvesPlain i ls₀ li₀ lv₀ us₀ ui₀ uv₀ d₀ x₀ w₀ m₀ (Ok c) ls li lv₁ us ui uv₁ d₁ x₁ w₁ m₁ → length lv₁ ≤ length lv → length uv₁ ≤ length uv
     → Presented Plain i (plain_buffers ls li lv us ui uv d x w m)
 solve-presents-plain i c ls₀ li₀ us₀ ui₀ m₀ ls li us ui m₁ m lv₀ uv₀ d₀ x₀ w₀ lv₁ uv₁ d₁ x₁ w₁ lv uv d x w h l u =
     record { u = _; left = after-solve _ c (sym h); lower = same_lists ls [] li lv₁ lv l; upper = same_lists us [] ui uv₁ uv u }
 
 pub structure-presents-shared : (i : Input) (c : Counts) (ls₀ lr₀ li₀ us₀ ur₀ ui₀ m₀ ls lr li us ur ui m₁ m : List ℕ) (lv₀ uv₀ w₀ lv₁ uv₁ w₁ lv uv d x w : List Float)
-    → StructuresShared i ls₀ lr₀ li₀ lv₀ us₀ ur₀ ui₀ uv₀ w₀ m₀ (Done c) ls lr li lv₁ us ur ui uv₁ w₁ m₁ → length lv₁ ≤ length lv → length uv₁ ≤ length uv
+    → StructuresShared i ls₀ lr₀ li₀ lv₀ us₀ ur₀ ui₀ uv₀ w₀ m₀ (Ok c) ls lr li lv₁ us ur ui uv₁ w₁ m₁ → length lv₁ ≤ length lv → length uv₁ ≤ length uv
     → Presented Shared i (shared_buffers ls lr li lv us ur ui uv d x w m)
 structure-presents-shared i c ls₀ lr₀ li₀ us₀ ur₀ ui₀ m₀ ls lr li us ur ui m₁ m lv₀ uv₀ w₀ lv₁ uv₁ w₁ lv uv d x w h l u =
     record { u = _; left = after-structure _ c (sym h); lower = same_lists ls lr li lv₁ lv l; upper = same_lists us ur ui uv₁ uv u }
 
 pub solve-presents-shared : (i : Input) (c : Counts) (ls₀ lr₀ li₀ us₀ ur₀ ui₀ m₀ ls lr li us ur ui m₁ m : List ℕ) (lv₀ uv₀ d₀ x₀ w₀ lv₁ uv₁ d₁ x₁ w₁ lv uv d x w : List Float)
-    → SolvesShared i ls₀ lr₀ li₀ lv₀ us₀ ur₀ ui₀ uv₀ d₀ x₀ w₀ m₀ (Done c) ls lr li lv₁ us ur ui uv₁ d₁ x₁ w₁ m₁ → length lv₁ ≤ length lv → length uv₁ ≤ length uv
+    → SolvesShared i ls₀ lr₀ li₀ lv₀ us₀ ur₀ ui₀ uv₀ d₀ x₀ w₀ m₀ (Ok c) ls lr li lv₁ us ur ui uv₁ d₁ x₁ w₁ m₁ → length lv₁ ≤ length lv → length uv₁ ≤ length uv
     → Presented Shared i (shared_buffers ls lr li lv us ur ui uv d x w m)
 solve-presents-shared i c ls₀ lr₀ li₀ us₀ ur₀ ui₀ m₀ ls lr li us ur ui m₁ m lv₀ uv₀ d₀ x₀ w₀ lv₁ uv₁ d₁ x₁ w₁ lv uv d x w h l u =
     record { u = _; left = after-solve _ c (sym h); lower = same_lists ls lr li lv₁ lv l; upper = same_lists us ur ui uv₁ uv u }
 
 -- refactor over them is a solve
-pub refactors-plain : (i : Input) (v b : List Float) (floor : Float) (a : Ended) (p : Answer) (ls li us ui m m' ls'' li'' us'' ui'' m'' : List ℕ) (lv uv d x w lv' uv' d' x' w' lv'' uv'' d'' x'' w'' : List Float)
+pub refactors-plain : (i : Input) (v b : List Float) (floor : Float) (a : Asked) (p : Answer) (ls li us ui m m' ls'' li'' us'' ui'' m'' : List ℕ) (lv uv d x w lv' uv' d' x' w' lv'' uv'' d'' x'' w'' : List Float)
     → Presented Plain i (plain_buffers ls li lv us ui uv d x w m)
     → RefactorsPlain (with_numbers i v b floor) ls li lv us ui uv d x w m a lv' uv' d' x' w' m'
     → SolvesPlain (with_numbers i v b floor) ls li lv us ui uv d x w m p ls'' li'' lv'' us'' ui'' uv'' d'' x'' w'' m''
     → RefactorsAs (plain_buffers ls li lv us ui uv d x w m) (ended a (plain_buffers ls li lv' us ui uv' d' x' w' m')) (ended p (plain_buffers ls'' li'' lv'' us'' ui'' uv'' d'' x'' w'' m''))
 refactors-plain i v b floor a p ls li us ui m m' ls'' li'' us'' ui'' m'' lv uv d x w lv' uv' d' x' w' lv'' uv'' d'' x'' w'' h e g = rw (e, g) (refactoring Plain plain-keeps i v b floor _ h)
 
-pub refactors-shared : (i : Input) (v b : List Float) (floor : Float) (a : Ended) (p : Answer) (ls lr li us ur ui m m' ls'' lr'' li'' us'' ur'' ui'' m'' : List ℕ) (lv uv d x w lv' uv' d' x' w' lv'' uv'' d'' x'' w'' : List Float)
+pub refactors-shared : (i : Input) (v b : List Float) (floor : Float) (a : Asked) (p : Answer) (ls lr li us ur ui m m' ls'' lr'' li'' us'' ur'' ui'' m'' : List ℕ) (lv uv d x w lv' uv' d' x' w' lv'' uv'' d'' x'' w'' : List Float)
     → Presented Shared i (shared_buffers ls lr li lv us ur ui uv d x w m)
     → RefactorsShared (with_numbers i v b floor) ls lr li lv us ur ui uv d x w m a lv' uv' d' x' w' m'
     → SolvesShared (with_numbers i v b floor) ls lr li lv us ur ui uv d x w m p ls'' lr'' li'' lv'' us'' ur'' ui'' uv'' d'' x'' w'' m''
@@ -78,7 +76,7 @@ pub refactors-shared : (i : Input) (v b : List Float) (floor : Float) (a : Ended
 refactors-shared i v b floor a p ls lr li us ur ui m m' ls'' lr'' li'' us'' ur'' ui'' m'' lv uv d x w lv' uv' d' x' w' lv'' uv'' d'' x'' w'' h e g = rw (e, g) (refactoring Shared shared_keeps i v b floor _ h)
 
 -- with 1 the plain form's lists, with 2 the shared form's
-pub refactors-alike : (i : Input) (v b : List Float) (floor : Float) (a₁ a₂ : Ended) (ls₁ li₁ us₁ ui₁ m₁ m₁' ls₂ lr₂ li₂ us₂ ur₂ ui₂ m₂ m₂' : List ℕ) (lv₁ uv₁ d₁ x₁ w₁ lv₁' uv₁' d₁' x₁' w₁' lv₂ uv₂ d₂ x₂ w₂ lv₂' uv₂' d₂' x₂' w₂' : List Float)
+pub refactors-alike : (i : Input) (v b : List Float) (floor : Float) (a₁ a₂ : Asked) (ls₁ li₁ us₁ ui₁ m₁ m₁' ls₂ lr₂ li₂ us₂ ur₂ ui₂ m₂ m₂' : List ℕ) (lv₁ uv₁ d₁ x₁ w₁ lv₁' uv₁' d₁' x₁' w₁' lv₂ uv₂ d₂ x₂ w₂ lv₂' uv₂' d₂' x₂' w₂' : List Float)
     → Presented Plain i (plain_buffers ls₁ li₁ lv₁ us₁ ui₁ uv₁ d₁ x₁ w₁ m₁) → Stated Plain i (plain_buffers ls₁ li₁ lv₁ us₁ ui₁ uv₁ d₁ x₁ w₁ m₁)
     → Presented Shared i (shared_buffers ls₂ lr₂ li₂ lv₂ us₂ ur₂ ui₂ uv₂ d₂ x₂ w₂ m₂) → Stated Shared i (shared_buffers ls₂ lr₂ li₂ lv₂ us₂ ur₂ ui₂ uv₂ d₂ x₂ w₂ m₂)
     → RefactorsPlain (with_numbers i v b floor) ls₁ li₁ lv₁ us₁ ui₁ uv₁ d₁ x₁ w₁ m₁ a₁ lv₁' uv₁' d₁' x₁' w₁' m₁'
@@ -94,43 +92,43 @@ resolved-right i b s (met q) = refl
 pub right-only : (f : Form) (i : Input) (b : List Float) (s : Buffers) → resolve f (right_of i b) s ≡ resolve f (with_right i b) s
 unfolding resolve factors_of right_at
 right-only f i b s =
-    ap (λ (o : Outcome Ended). stop ends.Refused (ask_shape i.n (right_tests (right_of i b) ++ buffer_tests f i.n (sizes s))) s
-    (stop ends.Refused (ask_right i.n i.r i.c b) (scratch_cleared s) (stop ends.Refused (ask_factors f i.n s) (scratch_cleared s) o)))
+    ap (λ (o : Outcome Asked). stop Err (ask_shape i.n (right_tests (right_of i b) ++ buffer_tests f i.n (sizes s))) s
+    (stop Err (ask_right i.n i.r i.c b) (scratch_cleared s) (stop Err (ask_factors f i.n s) (scratch_cleared s) o)))
     (resolved-right i b s (judged nought (whole_again (factors_of f (right_of i b) s))))
 
 -- another right side after a solve and after a refactor
-pub solve-resolves-plain : (i : Input) (b : List Float) (c : Counts) (a : Ended) (p : Answer) (x' w' : List Float) (m' : List ℕ) (ls₀ li₀ us₀ ui₀ m₀ ls li us ui m ls'' li'' us'' ui'' m'' : List ℕ) (lv₀ uv₀ d₀ x₀ w₀ lv uv d x w lv'' uv'' d'' x'' w'' : List Float)
-    → SolvesPlain i ls₀ li₀ lv₀ us₀ ui₀ uv₀ d₀ x₀ w₀ m₀ (Done c) ls li lv us ui uv d x w m → FiniteRight i.n b
+pub solve-resolves-plain : (i : Input) (b : List Float) (c : Counts) (a : Asked) (p : Answer) (x' w' : List Float) (m' : List ℕ) (ls₀ li₀ us₀ ui₀ m₀ ls li us ui m ls'' li'' us'' ui'' m'' : List ℕ) (lv₀ uv₀ d₀ x₀ w₀ lv uv d x w lv'' uv'' d'' x'' w'' : List Float)
+    → SolvesPlain i ls₀ li₀ lv₀ us₀ ui₀ uv₀ d₀ x₀ w₀ m₀ (Ok c) ls li lv us ui uv d x w m → FiniteRight i.n b
     → ResolvesPlain (right_of i b) ls li lv us ui uv d x w m a x' w' m'
     → SolvesPlain (with_right i b) ls₀ li₀ lv₀ us₀ ui₀ uv₀ d₀ x₀ w₀ m₀ p ls'' li'' lv'' us'' ui'' uv'' d'' x'' w'' m''
     → ResolvesAs (plain_buffers ls li lv us ui uv d x w m) (ended a (plain_buffers ls li lv us ui uv d x' w' m')) (ended p (plain_buffers ls'' li'' lv'' us'' ui'' uv'' d'' x'' w'' m''))
 solve-resolves-plain i b c a p x' w' m' ls₀ li₀ us₀ ui₀ m₀ ls li us ui m ls'' li'' us'' ui'' m'' lv₀ uv₀ d₀ x₀ w₀ lv uv d x w lv'' uv'' d'' x'' w'' h n e g = rw (e, right-only Plain i b (plain_buffers ls li lv us ui uv d x w m), g) (resolving Plain plain-keeps i _ _ (by-solve c (sym h)) b n)
 
-pub refactor-resolves-plain : (i : Input) (b : List Float) (a : Ended) (p : Answer) (x' w' : List Float) (m' : List ℕ) (ls li us ui m₀ m ls'' li'' us'' ui'' m'' : List ℕ) (lv₀ uv₀ d₀ x₀ w₀ lv uv d x w lv'' uv'' d'' x'' w'' : List Float)
-    → RefactorsPlain i ls li lv₀ us ui uv₀ d₀ x₀ w₀ m₀ ends.Done lv uv d x w m → FiniteRight i.n b
+pub refactor-resolves-plain : (i : Input) (b : List Float) (a : Asked) (p : Answer) (x' w' : List Float) (m' : List ℕ) (ls li us ui m₀ m ls'' li'' us'' ui'' m'' : List ℕ) (lv₀ uv₀ d₀ x₀ w₀ lv uv d x w lv'' uv'' d'' x'' w'' : List Float)
+    → RefactorsPlain i ls li lv₀ us ui uv₀ d₀ x₀ w₀ m₀ Pass lv uv d x w m → FiniteRight i.n b
     → ResolvesPlain (right_of i b) ls li lv us ui uv d x w m a x' w' m'
     → SolvesPlain (with_right i b) ls li lv₀ us ui uv₀ d₀ x₀ w₀ m₀ p ls'' li'' lv'' us'' ui'' uv'' d'' x'' w'' m''
     → ResolvesAs (plain_buffers ls li lv us ui uv d x w m) (ended a (plain_buffers ls li lv us ui uv d x' w' m')) (ended p (plain_buffers ls'' li'' lv'' us'' ui'' uv'' d'' x'' w'' m''))
 refactor-resolves-plain i b a p x' w' m' ls li us ui m₀ m ls'' li'' us'' ui'' m'' lv₀ uv₀ d₀ x₀ w₀ lv uv d x w lv'' uv'' d'' x'' w'' h n e g = rw (e, right-only Plain i b (plain_buffers ls li lv us ui uv d x w m), g) (resolving Plain plain-keeps i _ _ (by-refactor (sym h)) b n)
 
-pub solve-resolves-shared : (i : Input) (b : List Float) (c : Counts) (a : Ended) (p : Answer) (x' w' : List Float) (m' : List ℕ) (ls₀ lr₀ li₀ us₀ ur₀ ui₀ m₀ ls lr li us ur ui m ls'' lr'' li'' us'' ur'' ui'' m'' : List ℕ) (lv₀ uv₀ d₀ x₀ w₀ lv uv d x w lv'' uv'' d'' x'' w'' : List Float)
-    → SolvesShared i ls₀ lr₀ li₀ lv₀ us₀ ur₀ ui₀ uv₀ d₀ x₀ w₀ m₀ (Done c) ls lr li lv us ur ui uv d x w m → FiniteRight i.n b
+pub solve-resolves-shared : (i : Input) (b : List Float) (c : Counts) (a : Asked) (p : Answer) (x' w' : List Float) (m' : List ℕ) (ls₀ lr₀ li₀ us₀ ur₀ ui₀ m₀ ls lr li us ur ui m ls'' lr'' li'' us'' ur'' ui'' m'' : List ℕ) (lv₀ uv₀ d₀ x₀ w₀ lv uv d x w lv'' uv'' d'' x'' w'' : List Float)
+    → SolvesShared i ls₀ lr₀ li₀ lv₀ us₀ ur₀ ui₀ uv₀ d₀ x₀ w₀ m₀ (Ok c) ls lr li lv us ur ui uv d x w m → FiniteRight i.n b
     → ResolvesShared (right_of i b) ls lr li lv us ur ui uv d x w m a x' w' m'
     → SolvesShared (with_right i b) ls₀ lr₀ li₀ lv₀ us₀ ur₀ ui₀ uv₀ d₀ x₀ w₀ m₀ p ls'' lr'' li'' lv'' us'' ur'' ui'' uv'' d'' x'' w'' m''
     → ResolvesAs (shared_buffers ls lr li lv us ur ui uv d x w m) (ended a (shared_buffers ls lr li lv us ur ui uv d x' w' m')) (ended p (shared_buffers ls'' lr'' li'' lv'' us'' ur'' ui'' uv'' d'' x'' w'' m''))
 solve-resolves-shared i b c a p x' w' m' ls₀ lr₀ li₀ us₀ ur₀ ui₀ m₀ ls lr li us ur ui m ls'' lr'' li'' us'' ur'' ui'' m'' lv₀ uv₀ d₀ x₀ w₀ lv uv d x w lv'' uv'' d'' x'' w'' h n e g = rw (e, right-only Shared i b (shared_buffers ls lr li lv us ur ui uv d x w m), g) (resolving Shared shared_keeps i _ _ (by-solve c (sym h)) b n)
 
-pub refactor-resolves-shared : (i : Input) (b : List Float) (a : Ended) (p : Answer) (x' w' : List Float) (m' : List ℕ) (ls lr li us ur ui m₀ m ls'' lr'' li'' us'' ur'' ui'' m'' : List ℕ) (lv₀ uv₀ d₀ x₀ w₀ lv uv d x w lv'' uv'' d'' x'' w'' : List Float)
-    → RefactorsShared i ls lr li lv₀ us ur ui uv₀ d₀ x₀ w₀ m₀ ends.Done lv uv d x w m → FiniteRight i.n b
+pub refactor-resolves-shared : (i : Input) (b : List Float) (a : Asked) (p : Answer) (x' w' : List Float) (m' : List ℕ) (ls lr li us ur ui m₀ m ls'' lr'' li'' us'' ur'' ui'' m'' : List ℕ) (lv₀ uv₀ d₀ x₀ w₀ lv uv d x w lv'' uv'' d'' x'' w'' : List Float)
+    → RefactorsShared i ls lr li lv₀ us ur ui uv₀ d₀ x₀ w₀ m₀ Pass lv uv d x w m → FiniteRight i.n b
     → ResolvesShared (right_of i b) ls lr li lv us ur ui uv d x w m a x' w' m'
     → SolvesShared (with_right i b) ls lr li lv₀ us ur ui uv₀ d₀ x₀ w₀ m₀ p ls'' lr'' li'' lv'' us'' ur'' ui'' uv'' d'' x'' w'' m''
     → ResolvesAs (shared_buffers ls lr li lv us ur ui uv d x w m) (ended a (shared_buffers ls lr li lv us ur ui uv d x' w' m')) (ended p (shared_buffers ls'' lr'' li'' lv'' us'' ur'' ui'' uv'' d'' x'' w'' m''))
 refactor-resolves-shared i b a p x' w' m' ls lr li us ur ui m₀ m ls'' lr'' li'' us'' ur'' ui'' m'' lv₀ uv₀ d₀ x₀ w₀ lv uv d x w lv'' uv'' d'' x'' w'' h n e g = rw (e, right-only Shared i b (shared_buffers ls lr li lv us ur ui uv d x w m), g) (resolving Shared shared_keeps i _ _ (by-refactor (sym h)) b n)
 
 -- with 1 the plain form's lists, with 2 the shared form's; two dashes mark what another right side leaves
-pub resolves-alike : (i : Input) (b : List Float) (c₁ c₂ : Counts) (a₁ a₂ : Ended) (m₁'' m₂'' : List ℕ) (x₁'' w₁'' x₂'' w₂'' : List Float) (ls₁ li₁ us₁ ui₁ m₁ ls₁' li₁' us₁' ui₁' m₁' ls₂ lr₂ li₂ us₂ ur₂ ui₂ m₂ ls₂' lr₂' li₂' us₂' ur₂' ui₂' m₂' : List ℕ) (lv₁ uv₁ d₁ x₁ w₁ lv₁' uv₁' d₁' x₁' w₁' lv₂ uv₂ d₂ x₂ w₂ lv₂' uv₂' d₂' x₂' w₂' : List Float)
-    → SolvesPlain i ls₁ li₁ lv₁ us₁ ui₁ uv₁ d₁ x₁ w₁ m₁ (Done c₁) ls₁' li₁' lv₁' us₁' ui₁' uv₁' d₁' x₁' w₁' m₁'
-    → SolvesShared i ls₂ lr₂ li₂ lv₂ us₂ ur₂ ui₂ uv₂ d₂ x₂ w₂ m₂ (Done c₂) ls₂' lr₂' li₂' lv₂' us₂' ur₂' ui₂' uv₂' d₂' x₂' w₂' m₂'
+pub resolves-alike : (i : Input) (b : List Float) (c₁ c₂ : Counts) (a₁ a₂ : Asked) (m₁'' m₂'' : List ℕ) (x₁'' w₁'' x₂'' w₂'' : List Float) (ls₁ li₁ us₁ ui₁ m₁ ls₁' li₁' us₁' ui₁' m₁' ls₂ lr₂ li₂ us₂ ur₂ ui₂ m₂ ls₂' lr₂' li₂' us₂' ur₂' ui₂' m₂' : List ℕ) (lv₁ uv₁ d₁ x₁ w₁ lv₁' uv₁' d₁' x₁' w₁' lv₂ uv₂ d₂ x₂ w₂ lv₂' uv₂' d₂' x₂' w₂' : List Float)
+    → SolvesPlain i ls₁ li₁ lv₁ us₁ ui₁ uv₁ d₁ x₁ w₁ m₁ (Ok c₁) ls₁' li₁' lv₁' us₁' ui₁' uv₁' d₁' x₁' w₁' m₁'
+    → SolvesShared i ls₂ lr₂ li₂ lv₂ us₂ ur₂ ui₂ uv₂ d₂ x₂ w₂ m₂ (Ok c₂) ls₂' lr₂' li₂' lv₂' us₂' ur₂' ui₂' uv₂' d₂' x₂' w₂' m₂'
     → ResolvesPlain (right_of i b) ls₁' li₁' lv₁' us₁' ui₁' uv₁' d₁' x₁' w₁' m₁' a₁ x₁'' w₁'' m₁''
     → ResolvesShared (right_of i b) ls₂' lr₂' li₂' lv₂' us₂' ur₂' ui₂' uv₂' d₂' x₂' w₂' m₂' a₂ x₂'' w₂'' m₂''
     → Alike (ended a₁ (plain_buffers ls₁' li₁' lv₁' us₁' ui₁' uv₁' d₁' x₁'' w₁'' m₁'')) (ended a₂ (shared_buffers ls₂' lr₂' li₂' lv₂' us₂' ur₂' ui₂' uv₂' d₂' x₂'' w₂'' m₂''))

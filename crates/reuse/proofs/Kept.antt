@@ -1,4 +1,5 @@
 -- The factors that a solve or a refactor leaves: the s, y and back steps over them are those of the whole elimination, and question 15 is passed.
+use Rattle.std.specs.Prelude.{Ok, None, Err}
 use mathlib.Core.Path.{◌≡◌, refl, sym, ap, subst, ◌∙◌}
 use mathlib.Core.Bool.{Bool, true, false, not, ◌||◌}
 use mathlib.Core.List.{List}
@@ -11,18 +12,12 @@ use Rattle.base.specs.Lists.{padded, pairs, nought}
 use Rattle.base.specs.First.{first}
 use Rattle.base.specs.FirstLaws.{first-all}
 use Rattle.base.specs.TableLaws.{get_or-table}
-use Rattle.base.specs.Answers.{number_of_answer, number_of_end}
+use Rattle.base.specs.Answers.{number_of_answer, Pass, Asked, Answer}
 use Rattle.base.specs.declared.Form.{Form}
 use Rattle.base.specs.declared.Form.TheVariants.{Plain, Shared, ByRow}
 use Rattle.base.specs.declared.Side.{Side}
 use Rattle.base.specs.declared.Side.TheVariants.{Lower, Upper}
 use Rattle.base.specs.declared.Counts.{Counts}
-use Rattle.base.specs.declared.Found.TheVariants.{Nothing}
-use Rattle.base.specs.declared.Asked.TheVariants.{Pass}
-use Rattle.base.specs.declared.Answer.{Answer}
-use Rattle.base.specs.declared.Answer.TheVariants.{Done, Refused}
-use Rattle.base.specs.declared.Ended.{Ended}
-use Rattle.base.specs.declared.Ended.TheVariants as ends
 use Rattle.base.specs.declared.Sizes.{Sizes}
 use Rattle.fill.specs.Fill.{Pattern, filled, lower_row}
 use Rattle.placement.specs.Placing.{start_of}
@@ -46,7 +41,7 @@ use Rattle.outcome.proofs.Lengths.{room_at, values-long, long-listed, left-same}
 use Rattle.outcome.proofs.Meaning.{listed-stops}
 use Rattle.reuse.specs.Reuse.{Keeps, with_right, Factored, by-solve, by-refactor}
 use Rattle.reuse.proofs.Standing.{PlaceStands, placed-laid, laid-stands, places-all, presented-at}
-use Rattle.reuse.proofs.Refactoring.{stop-done, answer-told, end-told}
+use Rattle.reuse.proofs.Refactoring.{stop-done}
 use Rattle.reuse.proofs.OtherRight.{Tame, LowerBelow, RowsStored, other, z_of, solved-tame, solved-right}
 use Rattle.reuse.proofs.Stored.{list-is, values-are, lower-plain, lower-shared, lists-rise, values-finite, well-placed}
 
@@ -71,13 +66,13 @@ left-kept Plain v i z a = refl
 left-kept Shared v i z a = refl
 left-kept ByRow v i z a = absurd (v refl)
 
-concluded-ok : (f : Form) (i : Input) (z : Sizes) (x : List Float) (c : Counts) (t : Buffers) (o : Out Result) → concluded f i z x o ≡ ended (Done c) t → (a : Result) × (o ≡ ok a) × (t ≡ left f i z a)
+concluded-ok : (f : Form) (i : Input) (z : Sizes) (x : List Float) (c : Counts) (t : Buffers) (o : Out Result) → concluded f i z x o ≡ ended (Ok c) t → (a : Result) × (o ≡ ok a) × (t ≡ left f i z a)
 concluded-ok f i z x c t (ok a) e = (a, refl, ap (λ (o : Outcome Answer). o.buffers) (sym e))
 concluded-ok f i z x c t (met q) e = absurd (number-some (fault_of q) (ap (λ (o : Outcome Answer). number_of_answer o.answer) e))
 
-pub refactored-ok : (f : Form) (i : Input) (s t : Buffers) (o : Out Result) → refactored f i s o ≡ ended ends.Done t → (a : Result) × (o ≡ ok a) × (t ≡ (refactored f i s (ok a)).buffers)
-refactored-ok f i s t (ok a) e = (a, refl, ap (λ (o : Outcome Ended). o.buffers) (sym e))
-refactored-ok f i s t (met q) e = absurd (number-some (fault_of q) (ap (λ (o : Outcome Ended). number_of_end o.answer) e))
+pub refactored-ok : (f : Form) (i : Input) (s t : Buffers) (o : Out Result) → refactored f i s o ≡ ended Pass t → (a : Result) × (o ≡ ok a) × (t ≡ (refactored f i s (ok a)).buffers)
+refactored-ok f i s t (ok a) e = (a, refl, ap (λ (o : Outcome Asked). o.buffers) (sym e))
+refactored-ok f i s t (met q) e = absurd (number-some (fault_of q) (ap (λ (o : Outcome Asked). number_of_answer o.answer) e))
 
 pub zeros-again : {A : Type 0} (v : A) (m : ℕ) → replicate m v ≡ replicate (length (replicate m v)) v
 zeros-again v m = ap (λ (k : ℕ). replicate k v) (sym (length-replicate m v))
@@ -161,15 +156,15 @@ module _ (f : Form) (v : Keeps f) (i : Input) (s : Buffers) (a : Result) (run : 
 pub factors-kept : (f : Form) → Keeps f → (i : Input) (s t : Buffers) → Factored f i s t → (a : Result) × FactorsKept f i s t a
 unfolding solve refactor
 factors-kept f v i s t (by-solve c e) =
-    let p = stop-done number_of_answer Refused answer-told (Done c) refl (shape f i (sizes s)) s t _ e in
-    let q = stop-done number_of_answer Refused answer-told (Done c) refl (ask_solve i) _ t _ p.1 in
-    let r = stop-done number_of_answer Refused answer-told (Done c) refl (ask_places f (stored i) i.n (sizes s) i.n) _ t _ q.1 in
+    let p = stop-done number_of_answer Err (λ q. refl) (Ok c) refl (shape f i (sizes s)) s t _ e in
+    let q = stop-done number_of_answer Err (λ q. refl) (Ok c) refl (ask_solve i) _ t _ p.1 in
+    let r = stop-done number_of_answer Err (λ q. refl) (Ok c) refl (ask_places f (stored i) i.n (sizes s) i.n) _ t _ q.1 in
     let o = concluded-ok f i (sizes s) s.x c t (listed i) r.1 in
     (o.0, subst (λ t. FactorsKept f i s t o.0) (sym (o.2 ∙ left-kept f v i (sizes s) o.0)) (solve-kept f v i s o.0 o.1 p.0 q.0 r.0))
 factors-kept f v i s t (by-refactor e) =
-    let p = stop-done number_of_end ends.Refused end-told ends.Done refl (shape f i (sizes s)) s t _ e in
-    let q = stop-done number_of_end ends.Refused end-told ends.Done refl (ask_solve i) _ t _ p.1 in
-    let r = stop-done number_of_end ends.Refused end-told ends.Done refl (ask_presented f (stored i) i.n s) _ t _ q.1 in
+    let p = stop-done number_of_answer Err (λ q. refl) Pass refl (shape f i (sizes s)) s t _ e in
+    let q = stop-done number_of_answer Err (λ q. refl) Pass refl (ask_solve i) _ t _ p.1 in
+    let r = stop-done number_of_answer Err (λ q. refl) Pass refl (ask_presented f (stored i) i.n s) _ t _ q.1 in
     let o = refactored-ok f i s t (listed i) r.1 in
     let h = presented-at f (stored i) i.n s r.0 in
     let room = places-all f (stored i) i.n (sizes s) i.n (λ k l. (h k l).0) in
@@ -270,4 +265,4 @@ module _ (f : Form) (v : Keeps f) (i : Input) (s t : Buffers) (a : Result) (h : 
 
   pub factors-pass : ask_factors f i.n t ≡ Pass
   unfolding ask_factors
-  factors-pass = let e : first (bad_at f i.n t) i.n ≡ Nothing = first-all (bad_at f i.n t) i.n place-good in rw e
+  factors-pass = let e : first (bad_at f i.n t) i.n ≡ None = first-all (bad_at f i.n t) i.n place-good in rw e

@@ -1,4 +1,5 @@
 -- Refactor over lists found before is a solve.
+use Rattle.std.specs.Prelude.{Ok, Err}
 use mathlib.Core.Path.{◌≡◌, refl, sym, ap, ap₂, ◌∙◌}
 use mathlib.Core.List.{List}
 use Prim.Native.Nat.{ℕ, ◌≤◌, ◌<◌}
@@ -6,7 +7,7 @@ use native.Mathlib.Omega.{arith}
 use lib.ListN.{length}
 use lib.Ieee.{Float}
 use Rattle.base.specs.Lists.{nought}
-use Rattle.base.specs.Answers.{number_of, number_of_answer, number_of_end}
+use Rattle.base.specs.Answers.{number_of, number_of_answer, Pass, Asked, Answer}
 use Rattle.base.specs.declared.Form.{Form}
 use Rattle.base.specs.declared.Form.TheVariants.{Plain, Shared, ByRow}
 use Rattle.base.specs.declared.Side.{Side}
@@ -16,11 +17,6 @@ use lib.Dec.{eqb}
 use borrow.Author.Tests.{eqb-true}
 use Rattle.base.specs.Tests.{by-test}
 use Rattle.base.specs.declared.Refusal.{Refusal}
-use Rattle.base.specs.declared.Asked.{Asked}
-use Rattle.base.specs.declared.Asked.TheVariants.{Pass, Stop}
-use Rattle.base.specs.declared.Answer.{Answer}
-use Rattle.base.specs.declared.Answer.TheVariants.{Done, Refused}
-use Rattle.base.specs.declared.Ended.TheVariants as ends
 use Rattle.base.specs.declared.SideSizes.{SideSizes}
 use Rattle.base.specs.declared.Sizes.{Sizes}
 use Rattle.fill.specs.Fill.{Pattern}
@@ -45,14 +41,8 @@ use Rattle.reuse.proofs.Standing.{Laid, placed-laid, padded-long, laid-stands, l
 -- no question stopped it
 pub stop-done : {A : Type 0} (number : A → ℕ) (refuse : Refusal → A) (told : (q : Refusal) → number (refuse q) ≡ number_of q) (o : A) → number o ≡ 0
     → (a : Asked) (s t : Buffers) (rest : Outcome A) → stop refuse a s rest ≡ ended o t → (a ≡ Pass) × (rest ≡ ended o t)
-stop-done number refuse told o z Pass s t rest e = (refl, e)
-stop-done number refuse told o z (Stop q) s t rest e = absurd (number-some q (sym (told q) ∙ ap (λ p. number p.answer) e ∙ z))
-
-pub answer-told : (q : Refusal) → number_of_answer (Refused q) ≡ number_of q
-answer-told q = refl
-
-pub end-told : (q : Refusal) → number_of_end (ends.Refused q) ≡ number_of q
-end-told q = refl
+stop-done number refuse told o z (Ok _) s t rest e = (refl, e)
+stop-done number refuse told o z (Err q) s t rest e = absurd (number-some q (sym (told q) ∙ ap (λ p. number p.answer) e ∙ z))
 
 -- ---- a side as a call left it
 
@@ -72,7 +62,7 @@ record LeftBoth (f : Form) (i : Input) (u : Buffers) : Type 0 where
   places : ask_places f (stored i) i.n z i.n ≡ Pass
   sides : (side : Side) → LeftSide f side (stored i) i.n (side_of side z) (buffers_of side u)
 
-concluded-left : (f : Form) → Keeps f → (i : Input) (z : Sizes) (x : List Float) (u : Buffers) (c : Counts) (o : Out Result) → concluded f i z x o ≡ ended (Done c) u
+concluded-left : (f : Form) → Keeps f → (i : Input) (z : Sizes) (x : List Float) (u : Buffers) (c : Counts) (o : Out Result) → concluded f i z x o ≡ ended (Ok c) u
     → (side : Side) → LeftSide f side (stored i) i.n (side_of side z) (buffers_of side u)
 unfolding kept
 concluded-left Plain v i z x u c (ok a) e Lower = rw (← ap (λ (o : Outcome Answer). o.buffers) e) (left-side Plain v Lower _ _ _ _)
@@ -82,7 +72,7 @@ concluded-left Shared v i z x u c (ok a) e Upper = rw (← ap (λ (o : Outcome A
 concluded-left ByRow v i z x u c (ok a) e side = absurd (v refl)
 concluded-left f v i z x u c (met q) e side = absurd (number-some (fault_of q) (ap (λ (o : Outcome Answer). number_of_answer o.answer) e))
 
-structured-left : (f : Form) → Keeps f → (i : Input) (z : Sizes) (u : Buffers) (c k : Counts) → ended (Done k) (structured f i z) ≡ ended (Done c) u
+structured-left : (f : Form) → Keeps f → (i : Input) (z : Sizes) (u : Buffers) (c k : Counts) → ended {A = Answer} (Ok k) (structured f i z) ≡ ended (Ok c) u
     → (side : Side) → LeftSide f side (stored i) i.n (side_of side z) (buffers_of side u)
 unfolding structured
 structured-left f v i z u c k e Lower = rw (← ap (λ (o : Outcome Answer). o.buffers) e) (left-side f v Lower _ _ _ _)
@@ -91,14 +81,14 @@ structured-left f v i z u c k e Upper = rw (← ap (λ (o : Outcome Answer). o.b
 both_left : (f : Form) → Keeps f → (i : Input) (u : Buffers) → ListsLeft f i u → LeftBoth f i u
 unfolding structure solve
 both_left f v i u (after-structure s c e) =
-    let p = stop-done number_of_answer Refused answer-told (Done c) refl (ask_shape i.n _) s u _ e in
-    let q = stop-done number_of_answer Refused answer-told (Done c) refl (ask_structure i) _ u _ p.1 in
-    let r = stop-done number_of_answer Refused answer-told (Done c) refl (ask_places f (stored i) i.n (sizes s) i.n) _ u _ q.1 in
+    let p = stop-done number_of_answer Err (λ q. refl) (Ok c) refl (ask_shape i.n _) s u _ e in
+    let q = stop-done number_of_answer Err (λ q. refl) (Ok c) refl (ask_structure i) _ u _ p.1 in
+    let r = stop-done number_of_answer Err (λ q. refl) (Ok c) refl (ask_places f (stored i) i.n (sizes s) i.n) _ u _ q.1 in
     record { z = sizes s; places = r.0; sides = structured-left f v i (sizes s) u c _ r.1 }
 both_left f v i u (after-solve s c e) =
-    let p = stop-done number_of_answer Refused answer-told (Done c) refl (shape f i (sizes s)) s u _ e in
-    let q = stop-done number_of_answer Refused answer-told (Done c) refl (ask_solve i) _ u _ p.1 in
-    let r = stop-done number_of_answer Refused answer-told (Done c) refl (ask_places f (stored i) i.n (sizes s) i.n) _ u _ q.1 in
+    let p = stop-done number_of_answer Err (λ q. refl) (Ok c) refl (shape f i (sizes s)) s u _ e in
+    let q = stop-done number_of_answer Err (λ q. refl) (Ok c) refl (ask_solve i) _ u _ p.1 in
+    let r = stop-done number_of_answer Err (λ q. refl) (Ok c) refl (ask_places f (stored i) i.n (sizes s) i.n) _ u _ q.1 in
     record { z = sizes s; places = r.0; sides = concluded-left f v i (sizes s) s.x u c (listed i) r.1 }
 
 -- ---- the same lists again
@@ -143,13 +133,13 @@ turn-late q l w = by-test (eqb (number_of q) 19) (λ t. eqb-true (number_of q) 1
 
 chain-alike : (f : Form) (j : Input) (t : Buffers) (a b c d : Asked) (o : Out Result) → Within 1 2 a → Within 3 7 b → c ≡ Pass → d ≡ Pass
     → ((r : Result) → (refactored f j t (ok r)).buffers ≡ left f j (sizes t) r)
-    → RefactorsAs t (stop ends.Refused a t (stop ends.Refused b (scratch_cleared t) (stop ends.Refused c (scratch_cleared t) (refactored f j t o))))
-    (stop Refused a t (stop Refused b (scratch_cleared t) (stop Refused d (cleared (sizes t) t.x) (concluded f j (sizes t) t.x o))))
+    → RefactorsAs t (stop Err a t (stop Err b (scratch_cleared t) (stop Err c (scratch_cleared t) (refactored f j t o))))
+    (stop Err a t (stop Err b (scratch_cleared t) (stop Err d (cleared (sizes t) t.x) (concluded f j (sizes t) t.x o))))
 unfolding Within
-chain-alike f j t (Stop q) b c d o u w g h e = record { answer = refl; buffers = λ l. refl; floored = λ l. refl; empties = λ l h. absurd (omega (arith, u q refl, turned q)) }
-chain-alike f j t Pass (Stop q) c d o u w g h e = record { answer = refl; buffers = λ l. refl; floored = λ l. refl; empties = λ l h. absurd (h (turn-late q l (w q refl))) }
-chain-alike f j t Pass Pass c d (ok a) u w g h e = rw (g, h) (record { answer = refl; buffers = λ l. e a; floored = λ l. absurd (omega arith); empties = λ l h. absurd (omega arith) })
-chain-alike f j t Pass Pass c d (met q) u w g h e = rw (g, h) (record { answer = refl; buffers = λ l. absurd (omega (arith, fault-late q)); floored = λ l. absurd (omega (arith, fault-late q)); empties = λ l h. refl })
+chain-alike f j t (Err q) b c d o u w g h e = record { answer = refl; buffers = λ l. refl; floored = λ l. refl; empties = λ l h. absurd (omega (arith, u q refl, turned q)) }
+chain-alike f j t (Ok _) (Err q) c d o u w g h e = record { answer = refl; buffers = λ l. refl; floored = λ l. refl; empties = λ l h. absurd (h (turn-late q l (w q refl))) }
+chain-alike f j t (Ok _) (Ok _) c d (ok a) u w g h e = rw (g, h) (record { answer = refl; buffers = λ l. e a; floored = λ l. absurd (omega arith); empties = λ l h. absurd (omega arith) })
+chain-alike f j t (Ok _) (Ok _) c d (met q) u w g h e = rw (g, h) (record { answer = refl; buffers = λ l. absurd (omega (arith, fault-late q)); floored = λ l. absurd (omega (arith, fault-late q)); empties = λ l h. refl })
 
 both-same : (l l' u u' : SideBuffers) (d x w : List Float) (m : List ℕ) → l ≡ l' → u ≡ u'
     → ◌≡◌ {A = Buffers} (record { lower = l; upper = u; d = d; x = x; work = w; marks = m }) (record { lower = l'; upper = u'; d = d; x = x; work = w; marks = m })
@@ -181,12 +171,12 @@ refactored-still f i j t (ok a) h = record { u = h.u; left = h.left; lower = sam
 refactored-still f i j t (met q) h = record { u = h.u; left = h.left; lower = same-still h.u.lower t.lower _ h.lower; upper = same-still h.u.upper t.upper _ h.upper }
 
 chain-still : (f : Form) (i j : Input) (t : Buffers) (a b c : Asked) (o : Out Result) → Presented f i t
-    → Presented f i (stop ends.Refused a t (stop ends.Refused b (scratch_cleared t) (stop ends.Refused c (scratch_cleared t) (refactored f j t o)))).buffers
+    → Presented f i (stop Err a t (stop Err b (scratch_cleared t) (stop Err c (scratch_cleared t) (refactored f j t o)))).buffers
 unfolding scratch_cleared
-chain-still f i j t (Stop q) b c o h = h
-chain-still f i j t Pass (Stop q) c o h = record { u = h.u; left = h.left; lower = h.lower; upper = h.upper }
-chain-still f i j t Pass Pass (Stop q) o h = record { u = h.u; left = h.left; lower = h.lower; upper = h.upper }
-chain-still f i j t Pass Pass Pass o h = refactored-still f i j t o h
+chain-still f i j t (Err q) b c o h = h
+chain-still f i j t (Ok _) (Err q) c o h = record { u = h.u; left = h.left; lower = h.lower; upper = h.upper }
+chain-still f i j t (Ok _) (Ok _) (Err q) o h = record { u = h.u; left = h.left; lower = h.lower; upper = h.upper }
+chain-still f i j t (Ok _) (Ok _) (Ok _) o h = refactored-still f i j t o h
 
 pub refactoring-on : RefactoringOn
 unfolding refactor
@@ -196,9 +186,9 @@ refactoring-on f i v b floor t h =
 
 -- ---- the two forms
 
-end-number : (a : Answer) → number_of_end (end_of a) ≡ number_of_answer a
-end-number (Done c) = refl
-end-number (Refused q) = refl
+end-number : (a : Answer) → number_of_answer (end_of a) ≡ number_of_answer a
+end-number (Ok c) = refl
+end-number (Err q) = refl
 
 -- what is answered over lists found before, by the numbers alone
 refactor-answer : (f : Form) → Keeps f → (i : Input) (w b : List Float) (floor : Float) (t : Buffers) → Presented f i t → Stated f i t
@@ -209,12 +199,12 @@ refactor-answer f v i w b floor t h e =
     (refactoring f v i w b floor t h).answer
     ∙ ap end_of (solve-answer f j t ∙ ap₂ (λ a c. verdict a c (listed j) (counts j)) (earlier-stated f j (sizes t) e) (room-again f v i t h))
 
-refactor-x : (f : Form) → Keeps f → (i : Input) (w b : List Float) (floor : Float) (t : Buffers) → Presented f i t → number_of_end (refactor f (with_numbers i w b floor) t).answer ≡ 0
+refactor-x : (f : Form) → Keeps f → (i : Input) (w b : List Float) (floor : Float) (t : Buffers) → Presented f i t → number_of_answer (refactor f (with_numbers i w b floor) t).answer ≡ 0
     → (r : Result) × (listed (with_numbers i w b floor) ≡ ok r) × ((refactor f (with_numbers i w b floor) t).buffers.x ≡ own_order i.c i.n r.z)
 refactor-x f v i w b floor t h e =
     let j = with_numbers i w b floor in
     let p = refactoring f v i w b floor t h in
-    let q = solve-x f j t (sym (end-number (solve f j t).answer) ∙ ap number_of_end (sym p.answer) ∙ e) in
+    let q = solve-x f j t (sym (end-number (solve f j t).answer) ∙ ap number_of_answer (sym p.answer) ∙ e) in
     (q.0, q.1, ap (λ (t : Buffers). t.x) (p.buffers (omega (arith, e))) ∙ q.2)
 
 pub refactoring-alike : RefactoringAlike
@@ -224,6 +214,6 @@ refactoring-alike f g v w i n b floor s t h k p q =
       answer = same;
       x = λ e.
           let l = refactor-x f v i n b floor s h e in
-          let r = refactor-x g w i n b floor t k (ap number_of_end (sym same) ∙ e) in
+          let r = refactor-x g w i n b floor t k (ap number_of_answer (sym same) ∙ e) in
           l.2 ∙ ap (λ (a : Result). own_order i.c i.n a.z) (ok-inj (sym l.1 ∙ r.1)) ∙ sym r.2;
     }

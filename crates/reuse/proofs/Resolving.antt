@@ -1,4 +1,5 @@
 -- Another right side over factors found before gives a solve's x, or its 13.
+use Rattle.std.specs.Prelude.{Ok, None, Err}
 use mathlib.Core.Path.{◌≡◌, refl, sym, ap, ◌∙◌}
 use mathlib.Core.Bool.{Bool, true}
 use mathlib.Core.List.{List, [], ◌∷◌, ◌++◌, map}
@@ -16,18 +17,12 @@ use Rattle.base.specs.All.{all}
 use Rattle.base.specs.AllLaws.{all_join, all_true}
 use Rattle.base.specs.Tests.{and_cases}
 use Rattle.base.specs.Limits.{rows_within}
-use Rattle.base.specs.Answers.{number_of, number_of_answer, number_of_end, holds, and_then}
+use Rattle.base.specs.Answers.{number_of, number_of_answer, holds, and_then, Pass, Asked, Answer}
 use Rattle.base.specs.declared.Form.{Form}
 use Rattle.base.specs.declared.Form.TheVariants.{Plain, Shared, ByRow}
 use Rattle.base.specs.declared.Side.{Side}
 use Rattle.base.specs.declared.Side.TheVariants.{Lower, Upper}
 use Rattle.base.specs.declared.Refusal.TheVariants.{Rows, Lengths}
-use Rattle.base.specs.declared.Found.TheVariants.{Nothing}
-use Rattle.base.specs.declared.Asked.{Asked}
-use Rattle.base.specs.declared.Asked.TheVariants.{Pass, Stop}
-use Rattle.base.specs.declared.Answer.{Answer}
-use Rattle.base.specs.declared.Answer.TheVariants.{Done}
-use Rattle.base.specs.declared.Ended.TheVariants as ends
 use Rattle.base.specs.declared.Sizes.{Sizes}
 use Rattle.fill.specs.Fill.{Pattern, flip, lower_row, upper_row}
 use Rattle.placement.specs.Placing.{first_at}
@@ -47,7 +42,7 @@ use Rattle.outcome.proofs.Answers.{left-x, solve-left}
 use Rattle.outcome.proofs.Meaning.{listed-stops}
 use Rattle.reuse.specs.Reuse.{Keeps, with_right, Factored, by-solve, by-refactor, FiniteRight, ResolvesAs, Resolving, ResolvesOn, ResolvingOn, ResolvingSame, Alike, ResolvingAlike}
 use Rattle.reuse.proofs.Standing.{absent-pass}
-use Rattle.reuse.proofs.Refactoring.{stop-done, end-told}
+use Rattle.reuse.proofs.Refactoring.{stop-done}
 use Rattle.reuse.proofs.OtherRight.{z_of, SameFactors, solved-factors, Overflows, solved_again-over}
 use Rattle.reuse.proofs.Stored.{joined_same}
 use Rattle.reuse.proofs.Kept.{FactorsKept, left-kept, filled_in, refactored-ok, factors-kept, below, run-stops, stored-rows, other-is, again-is, factors-pass}
@@ -67,7 +62,7 @@ shape-by n a b e f g = rw (e, all_join a b, f, g)
 
 finite-pass : (n : ℕ) (b : List Float) (from : ℕ) → FiniteRight n b → ask_finite b from ≡ Pass
 unfolding ask_finite not_finite
-finite-pass n b from h = let e : first (not_finite b) (length b) ≡ Nothing = first-all (not_finite b) (length b) (λ k l. rw (h.all k (omega (arith, h.long)))) in rw e
+finite-pass n b from h = let e : first (not_finite b) (length b) ≡ None = first-all (not_finite b) (length b) (λ k l. rw (h.all k (omega (arith, h.long)))) in rw e
 
 module _ (i : Input) (b : List Float) (g : FiniteRight i.n b) where
   right-tests : all (matrix_tests i) ≡ true → all (right_tests (with_right i b)) ≡ true
@@ -97,8 +92,8 @@ module _ (i : Input) (b : List Float) (g : FiniteRight i.n b) where
 
 -- over factors found before only the right side is judged, and the answer is that of the whole elimination
 resolve-is : (f : Form) → Keeps f → (i : Input) (s t : Buffers) (a : Result) → FactorsKept f i s t a → (b : List Float)
-    → resolve f (with_right i b) t ≡ stop ends.Refused (ask_shape i.n (right_tests (with_right i b) ++ buffer_tests f i.n (sizes t))) t
-    (stop ends.Refused (ask_right i.n i.r i.c b) (scratch_cleared t) (resolved (with_right i b) t (z_of (listed (with_right i b)))))
+    → resolve f (with_right i b) t ≡ stop Err (ask_shape i.n (right_tests (with_right i b) ++ buffer_tests f i.n (sizes t))) t
+    (stop Err (ask_right i.n i.r i.c b) (scratch_cleared t) (resolved (with_right i b) t (z_of (listed (with_right i b)))))
 unfolding resolve
 resolve-is f v i s t a h b = rw (factors-pass f v i s t a h, again-is f v i s t a h b)
 
@@ -163,12 +158,12 @@ module _ (f : Form) (i : Input) (b : List Float) (s : Buffers) (a c : Result) (h
 whole : (t : Buffers) (x w : List Float) (m : List ℕ) → t.x ≡ x → t.work ≡ w → t.marks ≡ m → all_buffers t.lower t.upper t.d x w m ≡ t
 whole t x w m e f g = rw (← e, ← f, ← g)
 
-refactor-parts : (f : Form) (i : Input) (s t : Buffers) → refactor f i s ≡ ended ends.Done t → (ask_presented f (stored i) i.n s ≡ Pass) × ((a : Result) × (listed i ≡ ok a) × (t ≡ filled_in f i s a))
+refactor-parts : (f : Form) (i : Input) (s t : Buffers) → refactor f i s ≡ ended Pass t → (ask_presented f (stored i) i.n s ≡ Pass) × ((a : Result) × (listed i ≡ ok a) × (t ≡ filled_in f i s a))
 unfolding refactor
 refactor-parts f i s t e =
-    let p = stop-done number_of_end ends.Refused end-told ends.Done refl (shape f i (sizes s)) s t _ e in
-    let q = stop-done number_of_end ends.Refused end-told ends.Done refl (ask_solve i) _ t _ p.1 in
-    let r = stop-done number_of_end ends.Refused end-told ends.Done refl (ask_presented f (stored i) i.n s) _ t _ q.1 in
+    let p = stop-done number_of_answer Err (λ q. refl) Pass refl (shape f i (sizes s)) s t _ e in
+    let q = stop-done number_of_answer Err (λ q. refl) Pass refl (ask_solve i) _ t _ p.1 in
+    let r = stop-done number_of_answer Err (λ q. refl) Pass refl (ask_presented f (stored i) i.n s) _ t _ q.1 in
     (r.0, refactored-ok f i s t (listed i) r.1)
 
 module _ (f : Form) (v : Keeps f) (i : Input) (s t : Buffers) (a : Result) (h : FactorsKept f i s t a) (b : List Float) (g : FiniteRight i.n b) (c : Result) (e : listed (with_right i b) ≡ ok c) where
@@ -178,7 +173,7 @@ module _ (f : Form) (v : Keeps f) (i : Input) (s t : Buffers) (a : Result) (h : 
       solved-factors (system i) (right_at j) (factors_of f j t) a c (below f v i s t a h) (run-stops f v i s t a h) (stored-rows f v i s t a h b)
       (ap solved (sym (other-is f v i s t a h b)) ∙ sym (listed-stops j) ∙ e)
 
-  refactor-end : ask_presented f (stored i) i.n s ≡ Pass → refactor f (with_right i b) s ≡ ended ends.Done (filled_in f (with_right i b) s c)
+  refactor-end : ask_presented f (stored i) i.n s ≡ Pass → refactor f (with_right i b) s ≡ ended Pass (filled_in f (with_right i b) s c)
   unfolding refactor shape stored
   refactor-end q =
       let l = shape-all f i (sizes s) h.lengths in
@@ -191,12 +186,12 @@ module _ (f : Form) (v : Keeps f) (i : Input) (s t : Buffers) (a : Result) (h : 
       let same : t ≡ kept f i (sizes s) a = ap (λ (o : Outcome Answer). o.buffers) (sym m) ∙ q.2 ∙ ap (left f i (sizes s)) (ok-inj (sym q.1 ∙ h.run)) ∙ left-kept f v i (sizes s) a in
       by-solve (counts j)
       (solve-end f v i s t a h b g ∙ ap (concluded f j (sizes s) s.x) e
-      ∙ ap (ended (Done (counts j))) (left-kept f v j (sizes s) c ∙ sym (solve-same f i b s a c factors-same) ∙ ap (λ (t : Buffers). with_solution t (own_order i.c i.n c.z)) (sym same)))
+      ∙ ap (ended (Ok (counts j))) (left-kept f v j (sizes s) c ∙ sym (solve-same f i b s a c factors-same) ∙ ap (λ (t : Buffers). with_solution t (own_order i.c i.n c.z)) (sym same)))
   factored-on (by-refactor m) =
       let q = refactor-parts f i s t m in
       let same : t ≡ filled_in f i s a = q.1.2 ∙ ap (filled_in f i s) (ok-inj (sym q.1.1 ∙ h.run)) in
       by-refactor
-      (refactor-end q.0 ∙ ap (ended ends.Done) (sym (refactor-same f i b s a c factors-same) ∙ ap (λ (t : Buffers). with_solution t (own_order i.c i.n c.z)) (sym same)))
+      (refactor-end q.0 ∙ ap (ended Pass) (sym (refactor-same f i b s a c factors-same) ∙ ap (λ (t : Buffers). with_solution t (own_order i.c i.n c.z)) (sym same)))
 
 ends_on : (f : Form) (v : Keeps f) (i : Input) (s t : Buffers) (a : Result) (h : FactorsKept f i s t a) (b : List Float) (g : FiniteRight i.n b) → Factored f i s t → (o : Out Result) → listed (with_right i b) ≡ o
     → ResolvesOn f (with_right i b) s t (resolved (with_right i b) t (z_of o))
@@ -228,7 +223,7 @@ resolving-same f v i s t c =
     let k = factors-kept f v i s t c in
     let h = k.1 in
     resolve-end f v i s t k.0 h i.b (own-finite i (shape-all f i (sizes s) h.lengths).1 h.questions)
-    ∙ rw h.run (ap (ended ends.Done) (whole t _ _ _ h.x h.work h.marks))
+    ∙ rw h.run (ap (ended Pass) (whole t _ _ _ h.x h.work h.marks))
 
 -- ---- the two forms
 
@@ -241,12 +236,12 @@ right-shape f i s t a h b =
     (all_append (right_tests (with_right i b)) (buffer_tests f i.n (sizes t)) (ap (λ (z : Sizes). all (buffer_tests f i.n z)) h.long ∙ (shape-all f i (sizes s) h.lengths).2))
 
 chain-alike : (j : Input) (p q : Buffers) (a b : Asked) (o : Out (List Float))
-    → Alike (stop ends.Refused a p (stop ends.Refused b (scratch_cleared p) (resolved j p o))) (stop ends.Refused a q (stop ends.Refused b (scratch_cleared q) (resolved j q o)))
+    → Alike (stop Err a p (stop Err b (scratch_cleared p) (resolved j p o))) (stop Err a q (stop Err b (scratch_cleared q) (resolved j q o)))
 unfolding with_solution
-chain-alike j p q (Stop r) b o = record { answer = refl; x = λ e. absurd (number-some r e) }
-chain-alike j p q Pass (Stop r) o = record { answer = refl; x = λ e. absurd (number-some r e) }
-chain-alike j p q Pass Pass (ok z) = record { answer = refl; x = λ e. refl }
-chain-alike j p q Pass Pass (met r) = record { answer = refl; x = λ e. absurd (number-some (fault_of r) e) }
+chain-alike j p q (Err r) b o = record { answer = refl; x = λ e. absurd (number-some r e) }
+chain-alike j p q (Ok _) (Err r) o = record { answer = refl; x = λ e. absurd (number-some r e) }
+chain-alike j p q (Ok _) (Ok _) (ok z) = record { answer = refl; x = λ e. refl }
+chain-alike j p q (Ok _) (Ok _) (met r) = record { answer = refl; x = λ e. absurd (number-some (fault_of r) e) }
 
 pub resolving-alike : ResolvingAlike
 resolving-alike f g v w i s p t q c d b =

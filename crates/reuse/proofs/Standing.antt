@@ -1,4 +1,5 @@
 -- The lists of a side, place by place: as a structure call or a solve leaves them, and as question 14 asks for them.
+use Rattle.std.specs.Prelude.{Some, Ok, None, Err}
 use mathlib.Core.Path.{◌≡◌, refl, sym, ap, ◌∙◌}
 use mathlib.Core.Bool.{true, false≢true}
 use mathlib.Core.List.{List, [], ◌∷◌, ◌++◌}
@@ -14,16 +15,12 @@ use Rattle.base.specs.First.{first}
 use Rattle.base.specs.FirstLaws.{first-all, first-none, stop-pass}
 use Rattle.base.specs.TableLaws.{get_or-table}
 use Rattle.base.specs.Tests.{and_cases}
-use Rattle.base.specs.Answers.{absent}
+use Rattle.base.specs.Answers.{absent, Pass, Found, Asked}
 use Rattle.base.specs.declared.Form.{Form}
 use Rattle.base.specs.declared.Form.TheVariants.{Plain, Shared, ByRow}
 use Rattle.base.specs.declared.Side.{Side}
 use Rattle.base.specs.declared.Side.TheVariants.{Lower, Upper}
 use Rattle.base.specs.declared.Refusal.{Refusal}
-use Rattle.base.specs.declared.Asked.{Asked}
-use Rattle.base.specs.declared.Asked.TheVariants.{Pass, Stop}
-use Rattle.base.specs.declared.Found.{Found}
-use Rattle.base.specs.declared.Found.TheVariants.{At, Nothing}
 use Rattle.base.specs.declared.SideSizes.{SideSizes}
 use Rattle.base.specs.declared.Sizes.{Sizes}
 use Rattle.fill.specs.Fill.{Pattern}
@@ -177,19 +174,19 @@ places-all f P n z (suc m) h = rw (places-all f P n z m (λ k l. h k (omega arit
 
 -- ---- question 14
 
-pub absent-pass : (o : Found) (g : ℕ → Refusal) → absent o g ≡ Pass → o ≡ Nothing
-absent-pass Nothing g e = refl
-absent-pass (At k) g e = absurd (stop-pass (g k) e)
+pub absent-pass : (o : Found) (g : ℕ → Refusal) → absent o g ≡ Pass → o ≡ None
+absent-pass None g e = refl
+absent-pass (Some k) g e = absurd (stop-pass (g k) e)
 
 passes-pass : (a : Asked) → passes a ≡ true → a ≡ Pass
-passes-pass Pass e = refl
-passes-pass (Stop q) e = absurd (false≢true e)
+passes-pass (Ok _) e = refl
+passes-pass (Err q) e = absurd (false≢true e)
 
 module _ (f : Form) (P : Pattern) (n : ℕ) (t : Buffers) where
   pub presented-pass : ((k : ℕ) → k < n → ask_place f P n (sizes t) k ≡ Pass) → ((side : Side) (k : ℕ) → k < n → PlaceStands f side P n (buffers_of side t) k) → ask_presented f P n t ≡ Pass
   unfolding ask_presented differs
   presented-pass g h =
-      let none : first (differs f P n t) n ≡ Nothing =
+      let none : first (differs f P n t) n ≡ None =
       first-all (differs f P n t) n (λ k l. rw (g k l, stands_same f Lower P n t.lower k (h Lower k l), stands_same f Upper P n t.upper k (h Upper k l))) in
       rw none
 

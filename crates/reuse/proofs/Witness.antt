@@ -1,4 +1,5 @@
 -- The premises of specs/Reuse can be met, with every kind of end: done, 12 and 13.
+use Rattle.std.specs.Prelude.{Ok, Err}
 use mathlib.Core.Path.{◌≡◌, refl, ap, ◌∙◌}
 use mathlib.Core.Bool.{true}
 use mathlib.Core.List.{List, [], ◌∷◌, map}
@@ -10,12 +11,10 @@ use lib.Ieee.{Float, nan, binary64, of_bits, sub, mul, div, lt, eq, le}
 use Rattle.base.specs.Magnitude.{at_most, is_floor}
 use Rattle.base.specs.Lists.{asc, sum, count, has, table, list_at, pairs, padded, nought}
 use Rattle.base.specs.First.{first}
-use Rattle.base.specs.Answers.{spot}
+use Rattle.base.specs.Answers.{spot, Pass}
 use Rattle.base.specs.declared.Form.TheVariants.{Plain, Shared}
 use Rattle.base.specs.declared.Counts.{Counts}
 use Rattle.base.specs.declared.Refusal.TheVariants.{ZeroPivot, Overflow}
-use Rattle.base.specs.declared.Answer.TheVariants.{Done}
-use Rattle.base.specs.declared.Ended.TheVariants as ends
 use Rattle.fill.specs.Fill.{reach, filled, upper, upper_row, lower_row, lower_column, products}
 use Rattle.matrix.specs.Input.{Input, input_of, is_of, ic, stored, entries, right_at}
 use Rattle.matrix.specs.Questions.{bad_start, bad_column, bad_index, not_finite, no_entry, empty_row, ask3, ask4, ask5, ask_finite, ask6, ask_floor, ask_numbers, ask7, ask_pattern, ask_structure, ask_solve}
@@ -58,7 +57,7 @@ lent =
     shared_buffers (replicate 4 77) (replicate 3 78) (replicate 2 79) (replicate 3 nan) (replicate 4 77) (replicate 3 78) (replicate 2 79) (replicate 3 nan) [] []
     (replicate 9 nan) (replicate 32 80)
 
-arrow-done : ended (Done (counted 3 3 5)) (shared_buffers starts runs index (replicate 3 nought) starts runs index (replicate 3 nought) [] [] (replicate 9 nought) (replicate 32 0)) ≡ structure Shared arrow lent
+arrow-done : ended (Ok (counted 3 3 5)) (shared_buffers starts runs index (replicate 3 nought) starts runs index (replicate 3 nought) [] [] (replicate 9 nought) (replicate 32 0)) ≡ structure Shared arrow lent
 unfolding arrow lent structure ask_shape ask_structure ask_pattern ask3 ask4 ask5 ask7 first bad_start bad_column bad_index is_of empty_row no_entry list_at ask_places ask_place filled reach stored ic has fits index_need value_need placed_to placed after shared append_all fresh meets overlap tail_or tails best_from count_above first_at agree start_of upper_row lower_row asc upper counts sum count lower_column products table structured side_placed padded
 arrow-done = refl
 
@@ -74,7 +73,7 @@ arrow-presented = structure-presents-shared arrow (counted 3 3 5) _ _ _ _ _ _ _ 
 unfoldable pub lent-plain : Buffers
 lent-plain = plain_buffers (replicate 4 77) (replicate 3 79) (replicate 3 nan) (replicate 4 77) (replicate 4 79) (replicate 3 nan) [] [] (replicate 9 nan) (replicate 32 80)
 
-plain_done : ended (Done (counted 3 3 5))
+plain_done : ended (Ok (counted 3 3 5))
     (plain_buffers (0 ∷ 0 ∷ 1 ∷ 3 ∷ []) (0 ∷ 0 ∷ 1 ∷ []) (replicate 3 nought) (0 ∷ 2 ∷ 3 ∷ 3 ∷ []) (1 ∷ 2 ∷ 2 ∷ 0 ∷ []) (replicate 3 nought) [] [] (replicate 9 nought) (replicate 32 0))
     ≡ structure Plain arrow lent-plain
 unfolding arrow lent-plain structure ask_shape ask_structure ask_pattern ask3 ask4 ask5 ask7 first bad_start bad_column bad_index is_of empty_row no_entry list_at ask_places ask_place filled reach stored ic has fits index_need value_need placed_to placed after plain append_all start_of upper_row lower_row asc upper counts sum count lower_column products table structured side_placed padded
@@ -98,14 +97,14 @@ right = floats (0x4010000000000000 ∷ 0x4008000000000000 ∷ 0x4008000000000000
 abbrev ones : List Float
 ones = replicate 7 (of_bits binary64 0x3ff0000000000000)
 
-arrow-solves : (end_of (solve Shared (with_numbers arrow values right nought) dirty).answer ≡ ends.Done) × (end_of (solve Shared (with_numbers arrow ones right nought) dirty).answer ≡ ends.Refused (ZeroPivot (spot 1)))
+arrow-solves : (end_of (solve Shared (with_numbers arrow values right nought) dirty).answer ≡ Pass) × (end_of (solve Shared (with_numbers arrow ones right nought) dirty).answer ≡ Err (ZeroPivot (spot 1)))
 unfolding floats arrow dirty solve shape ask_shape ask_solve ask_pattern ask3 ask4 ask5 ask6 ask7 ask_finite first bad_start bad_column bad_index is_of not_finite empty_row no_entry list_at pairs ask_places ask_place filled reach stored has fits index_need value_need placed_to placed after shared append_all fresh meets overlap tail_or tails best_from count_above first_at agree start_of upper_row lower_row asc upper listed system entries right_at ic judged whole_run load_run step1 subtract_run step_run step2 scaled_run step3 row_run forward_run rest_run back_run of_bits sub mul div ask_numbers ask_floor is_floor at_most lt eq le
 arrow-solves = (refl, refl)
 
-pub arrow-refactored : (refactor Shared (with_numbers arrow values right nought) dirty).answer ≡ ends.Done
+pub arrow-refactored : (refactor Shared (with_numbers arrow values right nought) dirty).answer ≡ Pass
 arrow-refactored = (refactoring Shared shared_keeps arrow values right nought dirty arrow-presented).answer ∙ arrow-solves.0
 
-pub arrow-refused : (refactor Shared (with_numbers arrow ones right nought) dirty).answer ≡ ends.Refused (ZeroPivot (spot 1))
+pub arrow-refused : (refactor Shared (with_numbers arrow ones right nought) dirty).answer ≡ Err (ZeroPivot (spot 1))
 arrow-refused = (refactoring Shared shared_keeps arrow ones right nought dirty arrow-presented).answer ∙ arrow-solves.1
 
 -- the factors found so are those that another right side takes
@@ -113,7 +112,7 @@ pub arrow-factored : Factored Shared (with_numbers arrow values right nought) di
 arrow-factored = by-refactor (ap (λ a. ended a (refactor Shared (with_numbers arrow values right nought) dirty).buffers) arrow-refactored)
 
 -- and the plain form answers as the shared one does
-pub arrow-alike : (refactor Plain (with_numbers arrow ones right nought) dirty-plain).answer ≡ ends.Refused (ZeroPivot (spot 1))
+pub arrow-alike : (refactor Plain (with_numbers arrow ones right nought) dirty-plain).answer ≡ Err (ZeroPivot (spot 1))
 unfolding arrow dirty dirty-plain Stated
 arrow-alike = (refactoring-alike Plain Shared plain-keeps shared_keeps arrow ones right nought dirty-plain dirty plain-presented arrow-presented refl refl).answer ∙ arrow-refused
 
@@ -132,7 +131,7 @@ given =
 abbrev huge : List Float
 huge = floats (0x7fefffffffffffff ∷ 0xffefffffffffffff ∷ [])
 
-two-solves : ((solve Plain two given).answer ≡ Done (counted 1 1 1)) × (end_of (solve Plain (with_right two huge) given).answer ≡ ends.Refused (Overflow (spot 1)))
+two-solves : ((solve Plain two given).answer ≡ Ok (counted 1 1 1)) × (end_of (solve Plain (with_right two huge) given).answer ≡ Err (Overflow (spot 1)))
 unfolding floats two given solve shape ask_shape ask_solve ask_pattern ask3 ask4 ask5 ask6 ask7 ask_finite first bad_start bad_column bad_index is_of not_finite empty_row no_entry list_at pairs ask_places ask_place filled reach stored has fits index_need value_need placed_to placed after plain append_all start_of upper_row lower_row asc upper listed system entries right_at ic judged whole_run load_run step1 subtract_run step_run step2 scaled_run step3 row_run forward_run rest_run back_run counts sum count lower_column products of_bits sub mul div ask_numbers ask_floor is_floor at_most lt eq le
 two-solves = (refl, refl)
 
@@ -140,7 +139,7 @@ pub two-factored : Factored Plain two given (solve Plain two given).buffers
 two-factored = by-solve (counted 1 1 1) (ap (λ a. ended a (solve Plain two given).buffers) two-solves.0)
 
 -- the same b: all buffers are as they were
-pub two-same : resolve Plain two (solve Plain two given).buffers ≡ ended ends.Done (solve Plain two given).buffers
+pub two-same : resolve Plain two (solve Plain two given).buffers ≡ ended Pass (solve Plain two given).buffers
 two-same = resolving-same Plain plain-keeps two given (solve Plain two given).buffers two-factored
 
 huge-each : (k : ℕ) → k < 2 → finite (get_or huge k nan) ≡ true
@@ -153,5 +152,5 @@ huge-finite : FiniteRight two.n huge
 unfolding two floats
 huge-finite = record { long = refl; all = huge-each }
 
-pub two-over : (resolve Plain (with_right two huge) (solve Plain two given).buffers).answer ≡ ends.Refused (Overflow (spot 1))
+pub two-over : (resolve Plain (with_right two huge) (solve Plain two given).buffers).answer ≡ Err (Overflow (spot 1))
 two-over = (resolving Plain plain-keeps two given (solve Plain two given).buffers two-factored huge huge-finite).answer ∙ two-solves.1

@@ -1,15 +1,11 @@
 -- What refactor and another right side owe the solve, over what earlier calls left. Definitions only.
-use Rattle.std.specs.Prelude.{◌≡◌, List, [], ℕ, ◌≤◌, ◌<◌, length, get_or, Float, true, ◌≢◌}
+use Rattle.std.specs.Prelude.{◌≡◌, List, [], ℕ, ◌≤◌, ◌<◌, length, get_or, Float, true, ◌≢◌, Ok, Err}
 use Rattle.std.specs.Float.{nan}
 use Rattle.std.specs.Float.Ieee.Scale.{finite}
-use Rattle.base.specs.Answers.{number_of_end}
+use Rattle.base.specs.Answers.{number_of_answer, Pass, Asked, Answer}
 use Rattle.base.specs.declared.Form.{Form}
 use Rattle.base.specs.declared.Form.TheVariants.{ByRow}
 use Rattle.base.specs.declared.Counts.{Counts}
-use Rattle.base.specs.declared.Answer.{Answer}
-use Rattle.base.specs.declared.Answer.TheVariants.{Done, Refused}
-use Rattle.base.specs.declared.Ended.{Ended}
-use Rattle.base.specs.declared.Ended.TheVariants as ends
 use Rattle.matrix.specs.Input.{Input, input_of, with_floor}
 use Rattle.outcome.specs.Buffers.{SideBuffers, Buffers, scratch_cleared, Outcome, ended}
 use Rattle.outcome.specs.Structure.{structure}
@@ -25,9 +21,9 @@ abbrev pub Keeps : Form → Type 0
 Keeps f = f ≢ ByRow
 
 -- an answer without its counts
-abbrev pub end_of : Answer → Ended
-end_of (Done c) = ends.Done
-end_of (Refused q) = ends.Refused q
+abbrev pub end_of : Answer → Asked
+end_of (Ok c) = Pass
+end_of (Err q) = Err q
 
 -- the same matrix and orders, other values, another right side, another floor
 abbrev pub with_numbers : Input → List Float → List Float → Float → Input
@@ -45,8 +41,8 @@ right_of i b = input_of i.n [] [] [] i.r i.c b
 
 -- a structure call or a solve of the input was done, and left u
 pub data ListsLeft (f : Form) (i : Input) (u : Buffers) : Type 0 where
-  after-structure : (s : Buffers) (c : Counts) → structure f i s ≡ ended (Done c) u → ListsLeft f i u
-  after-solve : (s : Buffers) (c : Counts) → solve f i s ≡ ended (Done c) u → ListsLeft f i u
+  after-structure : (s : Buffers) (c : Counts) → structure f i s ≡ ended (Ok c) u → ListsLeft f i u
+  after-solve : (s : Buffers) (c : Counts) → solve f i s ≡ ended (Ok c) u → ListsLeft f i u
 
 -- a side with the lists of another and a value store no shorter, whatever it holds
 pub record SameLists (u t : SideBuffers) : Type 0 where
@@ -63,15 +59,15 @@ pub record Presented (f : Form) (i : Input) (t : Buffers) : Type 0 where
   pub upper : SameLists u.upper t.upper
 
 -- a refactor over t, as a solve over t ends
-pub record RefactorsAs (t : Buffers) (o : Outcome Ended) (p : Outcome Answer) : Type 0 where
+pub record RefactorsAs (t : Buffers) (o : Outcome Asked) (p : Outcome Answer) : Type 0 where
   -- done where the solve is, or its refusal
   pub answer : o.answer ≡ end_of p.answer
   -- done, or refused before 9: what the solve leaves, factors and x among it
-  pub buffers : number_of_end o.answer ≤ 8 → o.buffers ≡ p.buffers
+  pub buffers : number_of_answer o.answer ≤ 8 → o.buffers ≡ p.buffers
   -- 19: what the solve leaves
-  pub floored : number_of_end o.answer ≡ 19 → o.buffers ≡ p.buffers
+  pub floored : number_of_answer o.answer ≡ 19 → o.buffers ≡ p.buffers
   -- 12 or 13: the lists stay, x is untouched, all else is zero
-  pub empties : 9 ≤ number_of_end o.answer → (number_of_end o.answer ≡ 19 → ⊥) → o.buffers ≡ emptied t
+  pub empties : 9 ≤ number_of_answer o.answer → (number_of_answer o.answer ≡ 19 → ⊥) → o.buffers ≡ emptied t
 
 -- "refactor: new values over a structure found before"
 abbrev pub Refactoring : Type 0
@@ -86,8 +82,8 @@ RefactoringOn = (f : Form) (i : Input) (v b : List Float) (floor : Float) (t : B
 
 -- a solve or a refactor of the input over s was done, and left t
 pub data Factored (f : Form) (i : Input) (s t : Buffers) : Type 0 where
-  by-solve : (c : Counts) → solve f i s ≡ ended (Done c) t → Factored f i s t
-  by-refactor : refactor f i s ≡ ended ends.Done t → Factored f i s t
+  by-solve : (c : Counts) → solve f i s ≡ ended (Ok c) t → Factored f i s t
+  by-refactor : refactor f i s ≡ ended Pass t → Factored f i s t
 
 -- a right side that passes the questions: n finite numbers
 pub record FiniteRight (n : ℕ) (b : List Float) : Type 0 where
@@ -95,13 +91,13 @@ pub record FiniteRight (n : ℕ) (b : List Float) : Type 0 where
   pub all : (k : ℕ) → k < n → finite (get_or b k nan) ≡ true
 
 -- another right side over t, as a solve ends
-pub record ResolvesAs (t : Buffers) (o : Outcome Ended) (p : Outcome Answer) : Type 0 where
+pub record ResolvesAs (t : Buffers) (o : Outcome Asked) (p : Outcome Answer) : Type 0 where
   -- done where the solve is, or its refusal at the same place
   pub answer : o.answer ≡ end_of p.answer
   -- the solve's x; scratch is zero, and all else stays
-  pub buffers : number_of_end o.answer ≡ 0 → o.buffers ≡ with_solution t p.buffers.x
+  pub buffers : number_of_answer o.answer ≡ 0 → o.buffers ≡ with_solution t p.buffers.x
   -- no refusal but 13; then x stays too
-  pub over : 1 ≤ number_of_end o.answer → (number_of_end o.answer ≡ 13) × (o.buffers ≡ scratch_cleared t)
+  pub over : 1 ≤ number_of_answer o.answer → (number_of_answer o.answer ≡ 13) × (o.buffers ≡ scratch_cleared t)
 
 -- "another right side: factors found before, a new b"
 abbrev pub Resolving : Type 0
@@ -110,9 +106,9 @@ Resolving =
     → ResolvesAs t (resolve f (with_right i b) t) (solve f (with_right i b) s)
 
 -- and again: what it leaves are the factors of the new right side, or, refused, the old ones as they were
-pub record ResolvesOn (f : Form) (j : Input) (s t : Buffers) (o : Outcome Ended) : Type 0 where
-  pub done : number_of_end o.answer ≡ 0 → Factored f j s o.buffers
-  pub refused : 1 ≤ number_of_end o.answer → o.buffers ≡ t
+pub record ResolvesOn (f : Form) (j : Input) (s t : Buffers) (o : Outcome Asked) : Type 0 where
+  pub done : number_of_answer o.answer ≡ 0 → Factored f j s o.buffers
+  pub refused : 1 ≤ number_of_answer o.answer → o.buffers ≡ t
 
 abbrev pub ResolvingOn : Type 0
 ResolvingOn =
@@ -121,13 +117,13 @@ ResolvingOn =
 
 -- with the same b all buffers, x among them, are as they were
 abbrev pub ResolvingSame : Type 0
-ResolvingSame = (f : Form) → Keeps f → (i : Input) (s t : Buffers) → Factored f i s t → resolve f i t ≡ ended ends.Done t
+ResolvingSame = (f : Form) → Keeps f → (i : Input) (s t : Buffers) → Factored f i s t → resolve f i t ≡ ended Pass t
 
 -- ---- the two forms
 
-pub record Alike (o p : Outcome Ended) : Type 0 where
+pub record Alike (o p : Outcome Asked) : Type 0 where
   pub answer : o.answer ≡ p.answer
-  pub x : number_of_end o.answer ≡ 0 → o.buffers.x ≡ p.buffers.x
+  pub x : number_of_answer o.answer ≡ 0 → o.buffers.x ≡ p.buffers.x
 
 -- over lists that calls of either form left for the same input, stores of any lengths that took them
 abbrev pub RefactoringAlike : Type 0

@@ -2,24 +2,18 @@
 #![tactic(auto)]
 
 ghost use Rattle.base.specs.declared.Form.TheVariants.{ByRow};
-ghost use Rattle.matrix.specs.Input.{input_of, with_floor};
+ghost use Rattle.matrix.specs.Input.{lent};
 ghost use Rattle.outcome.specs.Buffers.{row_buffers, sizes};
 ghost use Rattle.outcome.specs.Calls.{SolvesByRow};
 ghost use Rattle.stages.specs.Stages.{Leaves};
 ghost use Rattle.stages.specs.Shaped.{SolveDue};
 
-use base::{Answer, Form, Index, SideSizes, Sizes};
+use base::{Counts, Form, Index, Refusal, SideSizes, Sizes};
+use matrix::System;
 
 // Finds the structure, factors, and writes x: what is left of the solve after the questions before 9, but for clearing.
 fn analyze_and_solve(
-    n: usize,
-    starts: &[u32],
-    columns: &[Index],
-    values: &[f64],
-    r: &[Index],
-    c: &[Index],
-    b: &[f64],
-    floor: f64,
+    input: System<'_>,
     upper_starts: &mut [u32],
     upper_runs: &mut [u32],
     upper_index: &mut [Index],
@@ -28,42 +22,27 @@ fn analyze_and_solve(
     x: &mut [f64],
     work: &mut [f64],
     marks: &mut [u32],
-) -> Answer
-    requires { SolveDue ByRow (with_floor floor (input_of n starts.now columns.now values.now r.now c.now b.now)) (sizes (row_buffers upper_starts.old upper_runs.old upper_index.old upper_values.old d.old x.old work.old marks.old)) }
-    ensures { Leaves ByRow (with_floor floor (input_of n starts.now columns.now values.now r.now c.now b.now))
+) -> Result<Counts, Refusal>
+    requires { SolveDue ByRow (lent input) (sizes (row_buffers upper_starts.old upper_runs.old upper_index.old upper_values.old d.old x.old work.old marks.old)) }
+    ensures { Leaves ByRow (lent input.entry)
         (row_buffers upper_starts.old upper_runs.old upper_index.old upper_values.old d.old x.old work.old marks.old) result
         (row_buffers upper_starts.new upper_runs.new upper_index.new upper_values.new d.new x.new work.new marks.new) }
 {
-    let a = symbolic::analyze_by_row(
-        n,
-        starts,
-        columns,
-        r,
-        c,
+    let counts = symbolic::analyze_by_row(
+        input,
         upper_starts,
         upper_runs,
         upper_index,
         upper_values.len(),
         marks,
-    );
-    if stages::refuses(a) {
-        return a;
-    }
-    let counts = a.counts();
+    )?;
     // The row form keeps no L.
     let mut none = [0.0; 1];
-    let fault = stages::factor_and_solve(
+    stages::factor_and_solve(
         Form::ByRow,
-        n,
-        starts,
-        columns,
-        values,
-        r,
-        c,
-        b,
-        floor,
-        &starts[..0],
-        &columns[..0],
+        input,
+        &input.starts[..0],
+        &input.columns[..0],
         &mut none[..0],
         upper_starts,
         upper_runs,
@@ -73,20 +52,13 @@ fn analyze_and_solve(
         x,
         work,
         marks,
-    );
-    stages::answer_of(fault, counts)
+    )?;
+    Ok(counts)
 }
 
 // Solves M·x = b in the row form: only the upper side is kept, and zeroed at the end.
 pub fn solve_row(
-    n: usize,
-    starts: &[u32],
-    columns: &[Index],
-    values: &[f64],
-    r: &[Index],
-    c: &[Index],
-    b: &[f64],
-    floor: f64,
+    input: System<'_>,
     upper_starts: &mut [u32],
     upper_runs: &mut [u32],
     upper_index: &mut [Index],
@@ -95,8 +67,8 @@ pub fn solve_row(
     x: &mut [f64],
     work: &mut [f64],
     marks: &mut [u32],
-) -> Answer
-    ensures { SolvesByRow (with_floor floor (input_of n starts.now columns.now values.now r.now c.now b.now))
+) -> Result<Counts, Refusal>
+    ensures { SolvesByRow (lent input.entry)
         upper_starts.old upper_runs.old upper_index.old upper_values.old d.old x.old work.old marks.old result
         upper_starts.new upper_runs.new upper_index.new upper_values.new d.new x.new work.new marks.new }
 {
@@ -120,32 +92,9 @@ pub fn solve_row(
         work: work.len(),
         marks: marks.len(),
     };
-    let asked = stages::ask_solve(
-        Form::ByRow,
-        n,
-        starts,
-        columns,
-        values,
-        r,
-        c,
-        b,
-        floor,
-        sizes,
-        work,
-        marks,
-    );
-    if stages::stops(asked) {
-        return stages::refusal(asked);
-    }
+    stages::ask_solve(Form::ByRow, input, sizes, work, marks)?;
     let a = analyze_and_solve(
-        n,
-        starts,
-        columns,
-        values,
-        r,
-        c,
-        b,
-        floor,
+        input,
         upper_starts,
         upper_runs,
         upper_index,
@@ -155,11 +104,11 @@ pub fn solve_row(
         work,
         marks,
     );
-    base::clear_u32(upper_starts);
-    base::clear_u32(upper_runs);
-    base::clear_index(upper_index);
-    base::clear_f64(upper_values);
-    base::clear_f64(d);
+    base::clear(upper_starts);
+    base::clear(upper_runs);
+    base::clear(upper_index);
+    base::clear(upper_values);
+    base::clear(d);
     stages::clear_scratch(work, marks);
     a
 }

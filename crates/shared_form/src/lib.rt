@@ -3,21 +3,18 @@
 
 ghost use Rattle.std.specs.Prelude.{[]};
 ghost use Rattle.base.specs.declared.Form.TheVariants.{Shared};
-ghost use Rattle.matrix.specs.Input.{input_of, with_floor};
+ghost use Rattle.matrix.specs.Input.{lent, lent_pattern};
 ghost use Rattle.outcome.specs.Buffers.{shared_buffers, sizes};
 ghost use Rattle.outcome.specs.Calls.{StructuresShared, SolvesShared};
 ghost use Rattle.stages.specs.Stages.{Leaves};
 ghost use Rattle.stages.specs.Shaped.{SolveDue};
 
-use base::{Answer, Form, Index, SideSizes, Sizes};
+use base::{Counts, Form, Index, Refusal, SideSizes, Sizes};
+use matrix::System;
 
 // Finds the fill of M' and places it in the shared form: lower columns and T(k), each as a part of another where it can be.
 pub fn structure_shared(
-    n: usize,
-    starts: &[u32],
-    columns: &[Index],
-    r: &[Index],
-    c: &[Index],
+    input: System<'_>,
     lower_starts: &mut [u32],
     lower_runs: &mut [u32],
     lower_index: &mut [Index],
@@ -28,8 +25,8 @@ pub fn structure_shared(
     upper_values: &mut [f64],
     work: &mut [f64],
     marks: &mut [u32],
-) -> Answer
-    ensures { StructuresShared (input_of n starts.now columns.now [] r.now c.now [])
+) -> Result<Counts, Refusal>
+    ensures { StructuresShared (lent_pattern input.entry)
         lower_starts.old lower_runs.old lower_index.old lower_values.old upper_starts.old upper_runs.old upper_index.old upper_values.old work.old marks.old result
         lower_starts.new lower_runs.new lower_index.new lower_values.new upper_starts.new upper_runs.new upper_index.new upper_values.new work.new marks.new }
 {
@@ -53,16 +50,9 @@ pub fn structure_shared(
         work: work.len(),
         marks: marks.len(),
     };
-    let asked = stages::ask_structure(Form::Shared, n, starts, columns, r, c, sizes, work, marks);
-    if stages::stops(asked) {
-        return stages::refusal(asked);
-    }
+    stages::ask_structure(Form::Shared, input, sizes, work, marks)?;
     let a = symbolic::analyze_shared(
-        n,
-        starts,
-        columns,
-        r,
-        c,
+        input,
         lower_starts,
         lower_runs,
         lower_index,
@@ -73,26 +63,19 @@ pub fn structure_shared(
         upper_values.len(),
         marks,
     );
-    let refused = stages::refuses(a);
+    let refused = a.is_err();
     stages::clear_lists_if(refused, lower_starts, lower_index);
     stages::clear_lists_if(refused, upper_starts, upper_index);
     stages::clear_runs_if(refused, lower_runs, upper_runs);
-    base::clear_f64(lower_values);
-    base::clear_f64(upper_values);
+    base::clear(lower_values);
+    base::clear(upper_values);
     stages::clear_scratch(work, marks);
     a
 }
 
 // Finds the structure, factors, and writes x: what is left of the solve after the questions before 9, but for clearing.
 fn analyze_and_solve(
-    n: usize,
-    starts: &[u32],
-    columns: &[Index],
-    values: &[f64],
-    r: &[Index],
-    c: &[Index],
-    b: &[f64],
-    floor: f64,
+    input: System<'_>,
     lower_starts: &mut [u32],
     lower_runs: &mut [u32],
     lower_index: &mut [Index],
@@ -105,18 +88,14 @@ fn analyze_and_solve(
     x: &mut [f64],
     work: &mut [f64],
     marks: &mut [u32],
-) -> Answer
-    requires { SolveDue Shared (with_floor floor (input_of n starts.now columns.now values.now r.now c.now b.now)) (sizes (shared_buffers lower_starts.old lower_runs.old lower_index.old lower_values.old upper_starts.old upper_runs.old upper_index.old upper_values.old d.old x.old work.old marks.old)) }
-    ensures { Leaves Shared (with_floor floor (input_of n starts.now columns.now values.now r.now c.now b.now))
+) -> Result<Counts, Refusal>
+    requires { SolveDue Shared (lent input) (sizes (shared_buffers lower_starts.old lower_runs.old lower_index.old lower_values.old upper_starts.old upper_runs.old upper_index.old upper_values.old d.old x.old work.old marks.old)) }
+    ensures { Leaves Shared (lent input.entry)
         (shared_buffers lower_starts.old lower_runs.old lower_index.old lower_values.old upper_starts.old upper_runs.old upper_index.old upper_values.old d.old x.old work.old marks.old) result
         (shared_buffers lower_starts.new lower_runs.new lower_index.new lower_values.new upper_starts.new upper_runs.new upper_index.new upper_values.new d.new x.new work.new marks.new) }
 {
-    let a = symbolic::analyze_shared(
-        n,
-        starts,
-        columns,
-        r,
-        c,
+    let counts = symbolic::analyze_shared(
+        input,
         lower_starts,
         lower_runs,
         lower_index,
@@ -126,21 +105,10 @@ fn analyze_and_solve(
         upper_index,
         upper_values.len(),
         marks,
-    );
-    if stages::refuses(a) {
-        return a;
-    }
-    let counts = a.counts();
-    let fault = stages::factor_and_solve(
+    )?;
+    stages::factor_and_solve(
         Form::Shared,
-        n,
-        starts,
-        columns,
-        values,
-        r,
-        c,
-        b,
-        floor,
+        input,
         lower_starts,
         lower_index,
         lower_values,
@@ -152,20 +120,13 @@ fn analyze_and_solve(
         x,
         work,
         marks,
-    );
-    stages::answer_of(fault, counts)
+    )?;
+    Ok(counts)
 }
 
 // Solves M·x = b in the shared form: structure, factors and x.
 pub fn solve_shared(
-    n: usize,
-    starts: &[u32],
-    columns: &[Index],
-    values: &[f64],
-    r: &[Index],
-    c: &[Index],
-    b: &[f64],
-    floor: f64,
+    input: System<'_>,
     lower_starts: &mut [u32],
     lower_runs: &mut [u32],
     lower_index: &mut [Index],
@@ -178,8 +139,8 @@ pub fn solve_shared(
     x: &mut [f64],
     work: &mut [f64],
     marks: &mut [u32],
-) -> Answer
-    ensures { SolvesShared (with_floor floor (input_of n starts.now columns.now values.now r.now c.now b.now))
+) -> Result<Counts, Refusal>
+    ensures { SolvesShared (lent input.entry)
         lower_starts.old lower_runs.old lower_index.old lower_values.old upper_starts.old upper_runs.old upper_index.old upper_values.old d.old x.old work.old marks.old result
         lower_starts.new lower_runs.new lower_index.new lower_values.new upper_starts.new upper_runs.new upper_index.new upper_values.new d.new x.new work.new marks.new }
 {
@@ -203,32 +164,9 @@ pub fn solve_shared(
         work: work.len(),
         marks: marks.len(),
     };
-    let asked = stages::ask_solve(
-        Form::Shared,
-        n,
-        starts,
-        columns,
-        values,
-        r,
-        c,
-        b,
-        floor,
-        sizes,
-        work,
-        marks,
-    );
-    if stages::stops(asked) {
-        return stages::refusal(asked);
-    }
+    stages::ask_solve(Form::Shared, input, sizes, work, marks)?;
     let a = analyze_and_solve(
-        n,
-        starts,
-        columns,
-        values,
-        r,
-        c,
-        b,
-        floor,
+        input,
         lower_starts,
         lower_runs,
         lower_index,
@@ -242,7 +180,7 @@ pub fn solve_shared(
         work,
         marks,
     );
-    let refused = stages::refuses(a);
+    let refused = a.is_err();
     stages::clear_lists_if(refused, lower_starts, lower_index);
     stages::clear_lists_if(refused, upper_starts, upper_index);
     stages::clear_runs_if(refused, lower_runs, upper_runs);

@@ -87,13 +87,12 @@ module _ (list counts₀ : List ℕ) where
 
 module _ (n : ℕ) (starts runs index counts₀ : List ℕ) where
   pub record Rows (j : ℕ) (counts : List ℕ) : Type 0 where
-    pub within : j ≤ n
     pub size : length counts ≡ length counts₀
     pub rows : (i : ℕ) → i < n → get_or counts i 0 ≡ count (λ m. has (list_at starts runs index m) i) j
 
   module _ (C : Countable n starts runs index counts₀) where
     pub rows_start : Rows 0 counts₀
-    rows_start = record { within = omega arith; size = refl; rows = λ i h. C.zero i h ∙ sym (count-zero (λ m. has (list_at starts runs index m) i)) }
+    rows_start = record { size = refl; rows = λ i h. C.zero i h ∙ sym (count-zero (λ m. has (list_at starts runs index m) i)) }
 
     module _ (j : ℕ) (h : j < n) (counts : List ℕ) (R : Rows j counts) where
       pub column-counting : (list : List ℕ) → list ≡ list_at starts runs index j → Counting list counts
@@ -105,15 +104,14 @@ module _ (n : ℕ) (starts runs index counts₀ : List ℕ) where
 
       pub rows-turn : (list counts' : List ℕ) → list ≡ list_at starts runs index j → Counted list counts counts' → Rows (j + 1) counts'
       rows-turn list counts' e D = record {
-        within = omega arith;
         size = D.size ∙ R.size;
         rows = λ i l.
             D.more i (omega (arith, C.room, R.size)) ∙ ap (λ (m : ℕ). m + bit (has list i)) (R.rows i l)
             ∙ rw (e, add-one j) (sym (count-suc (λ m. has (list_at starts runs index m) i) j));
       }
 
-    pub rows_end : (j : ℕ) (counts : List ℕ) → n ≤ j → Rows j counts → RowsCounted n starts runs index counts₀ counts
-    rows_end j counts h R = let e : j ≡ n = omega (arith, R.within) in record { size = R.size; rows = λ i l. R.rows i l ∙ ap (count (λ m. has (list_at starts runs index m) i)) e }
+    pub rows_end : (j : ℕ) (counts : List ℕ) → j ≡ n → Rows j counts → RowsCounted n starts runs index counts₀ counts
+    rows_end j counts e R = record { size = R.size; rows = λ i l. R.rows i l ∙ ap (count (λ m. has (list_at starts runs index m) i)) e }
 
 -- what is counted can be printed with the other numbers
 pub rows-printable : (n : ℕ) (r ls lr li us ur counts lower : List ℕ) → SheetLent n r ls lr li us ur counts → RowsCounted n ls lr li counts lower → Printable n r lower us ur

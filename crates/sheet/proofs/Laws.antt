@@ -1,8 +1,7 @@
 -- Lines, pages and the sheet, one behind the other.
 use Prim.Native.Nat.{ℕ, ◌+◌, ◌*◌, ◌<◌, ◌≤◌}
-use mathlib.Core.Path.{◌≡◌, refl, sym, ap, ◌∙◌}
+use mathlib.Core.Path.{◌≡◌, ap, ◌∙◌}
 use mathlib.Core.List.{List, [], ◌∷◌, ◌++◌, append-nil}
-use native.Mathlib.Nat.{add-zero}
 use native.Mathlib.Omega.{arith}
 use lib.ListN.{length, get_or, replicate, length-replicate, drop_of_length-le}
 use lib.Dec.{ltb}
@@ -14,35 +13,38 @@ use Rattle.base.specs.Lists.{joined}
 use Rattle.base.specs.Limits.{max_rows, max_slots}
 use Rattle.lent.specs.Reading.{length_in}
 use Rattle.printing.specs.Print.{column, width_in}
-use Rattle.printing.specs.Written.{Written, then-written}
+use Rattle.printing.specs.declared.Printer.{Printer}
+use Rattle.printing.specs.Prints.{Prints, then-prints, prints-none}
 use Rattle.printing.proofs.Laws.{width-most}
 use Rattle.sheet.specs.Sheet.{place_line, head_line, blank_line, line_or, page, pages_for, sheet}
 use Rattle.sheet.specs.Printing.{line_in, Printable, sheet_most, LineFits, LineWritten, LinesWritten, PageWritten}
 
 -- ---- lines
 
-pub place-line : (k own lower upper run at : ℕ) (o a b c d e q : List ℕ) (ra rb rc rd re r : ℕ)
-    → Written (column 6 k) o at a ra × (ra ≡ at + 6) → Written (column 8 own) a ra b rb × (rb ≡ ra + 8) → Written (column 8 lower) b rb c rc × (rc ≡ rb + 8)
-    → Written (column 8 upper) c rc d rd × (rd ≡ rc + 8) → Written (column 10 run) d rd e re × (re ≡ rd + 10) → Written (10 ∷ []) e re q r → LineWritten (place_line k own lower upper run) o at q r
+-- a number in its column, as it is printed
+abbrev Column : ℕ → ℕ → Printer → Printer → Type 0
+Column w x p q = record { prints : Prints (column w x) p q; next : q.at ≡ p.at + w }
+
+pub place-line : (k own lower upper run : ℕ) {o a b c d e q : Printer} → Column 6 k o a → Column 8 own a b → Column 8 lower b c → Column 8 upper c d → Column 10 run d e → Prints (10 ∷ []) e q
+    → LineWritten (place_line k own lower upper run) o q
 unfolding place_line
-place-line k own lower upper run at o a b c d e q ra rb rc rd re r A B C D E F =
-    let w₁ = then-written _ _ _ _ _ _ _ _ A.0 B.0 in
-    let w₂ = then-written _ _ _ _ _ _ _ _ w₁ C.0 in
-    let w₃ = then-written _ _ _ _ _ _ _ _ w₂ D.0 in
-    let w₄ = then-written _ _ _ _ _ _ _ _ w₃ E.0 in
-    record { written = then-written _ _ _ _ _ _ _ _ w₄ F; next = omega (arith, A.1, B.1, C.1, D.1, E.1, F.next) }
+place-line k own lower upper run A B C D E F =
+    record {
+      prints = then-prints (then-prints (then-prints (then-prints (then-prints A.prints B.prints) C.prints) D.prints) E.prints) F;
+      next = omega (arith, A.next, B.next, C.next, D.next, E.next, F.written.next);
+    }
 
-pub head-line : (p at : ℕ) (o a b c q : List ℕ) (ra rb rc r : ℕ) → Written (70 ∷ 73 ∷ 76 ∷ 76 ∷ []) o at a ra → Written (replicate 30 32) a ra b rb
-    → Written (column 6 (p + 1)) b rb c rc × (rc ≡ rb + 6) → Written (10 ∷ []) c rc q r → LineWritten (head_line p) o at q r
+pub head-line : (p : ℕ) {o a b c q : Printer} → Prints (70 ∷ 73 ∷ 76 ∷ 76 ∷ []) o a → Prints (replicate 30 32) a b → Column 6 (p + 1) b c → Prints (10 ∷ []) c q → LineWritten (head_line p) o q
 unfolding head_line
-head-line p at o a b c q ra rb rc r A B C D =
-    let w₁ = then-written _ _ _ _ _ _ _ _ A B in
-    let w₂ = then-written _ _ _ _ _ _ _ _ w₁ C.0 in
-    record { written = then-written _ _ _ _ _ _ _ _ w₂ D; next = omega (arith, A.next, B.next, length-replicate {A = ℕ} 30 32, C.1, D.next) }
+head-line p A B C D =
+    record {
+      prints = then-prints (then-prints (then-prints A B) C.prints) D;
+      next = omega (arith, A.written.next, B.written.next, length-replicate {A = ℕ} 30 32, C.next, D.written.next);
+    }
 
-pub blank-line : (at : ℕ) (o a q : List ℕ) (ra r : ℕ) → Written (replicate 40 32) o at a ra → Written (10 ∷ []) a ra q r → LineWritten blank_line o at q r
+pub blank-line : {o a q : Printer} → Prints (replicate 40 32) o a → Prints (10 ∷ []) a q → LineWritten blank_line o q
 unfolding blank_line
-blank-line at o a q ra r A B = record { written = then-written _ _ _ _ _ _ _ _ A B; next = omega (arith, A.next, length-replicate {A = ℕ} 40 32, B.next) }
+blank-line A B = record { prints = then-prints A B; next = omega (arith, A.written.next, length-replicate {A = ℕ} 40 32, B.written.next) }
 
 -- ---- the numbers fit, said once of the limits
 
@@ -71,61 +73,47 @@ page-fits p h = rows_fit 6 (p + 1) (omega arith) (omega arith)
 
 -- ---- pages
 
-place-there : (n : ℕ) (line : ℕ → List ℕ) (k : ℕ) (o : List ℕ) (at : ℕ) (q : List ℕ) (r : ℕ) → k < n → LineWritten (line k) o at q r → LineWritten (line_or n line k) o at q r
+place-there : (n : ℕ) (line : ℕ → List ℕ) (k : ℕ) {p q : Printer} → k < n → LineWritten (line k) p q → LineWritten (line_or n line k) p q
 unfolding line_or
-place-there n line k o at q r h w = rw (lt-ltb k n h) w
+place-there n line k h w = rw (lt-ltb k n h) w
 
-pub place_read : (n : ℕ) (r lower starts runs : List ℕ) (k own rows list run : ℕ) (o : List ℕ) (at : ℕ) (q : List ℕ) (e : ℕ) → k < n
-    → own ≡ get_or r k 0 → rows ≡ get_or lower k 0 → list ≡ length_in starts k → run ≡ get_or runs k 0 → LineWritten (place_line k own rows list run) o at q e
-    → LineWritten (line_or n (line_in r lower starts runs) k) o at q e
+pub place_read : (n : ℕ) (r lower starts runs : List ℕ) (k own rows list run : ℕ) {p q : Printer} → k < n
+    → own ≡ get_or r k 0 → rows ≡ get_or lower k 0 → list ≡ length_in starts k → run ≡ get_or runs k 0 → LineWritten (place_line k own rows list run) p q
+    → LineWritten (line_or n (line_in r lower starts runs) k) p q
 unfolding line_in
-place_read n r lower starts runs k own rows list run o at q e h eo er el en w = place-there n (line_in r lower starts runs) k o at q e h (rw (eo, er, el, en) at w)
+place_read n r lower starts runs k own rows list run h eo er el en w = place-there n (line_in r lower starts runs) k h (rw (eo, er, el, en) at w)
 
-pub place_none : (n : ℕ) (line : ℕ → List ℕ) (k : ℕ) (o : List ℕ) (at : ℕ) (q : List ℕ) (r : ℕ) → n ≤ k → LineWritten blank_line o at q r → LineWritten (line_or n line k) o at q r
+pub place_none : (n : ℕ) (line : ℕ → List ℕ) (k : ℕ) {p q : Printer} → n ≤ k → LineWritten blank_line p q → LineWritten (line_or n line k) p q
 unfolding line_or
-place_none n line k o at q r h w = rw (le-ltb k n h) w
+place_none n line k h w = rw (le-ltb k n h) w
 
 module _ (n : ℕ) (line : ℕ → List ℕ) where
-  pub lines_start : (first : ℕ) (o : List ℕ) (at : ℕ) → LinesWritten n line first 0 o at o at
+  pub lines_start : (first : ℕ) (p : Printer) → LinesWritten n line first 0 p p
   unfolding joined
-  lines_start first o at = record { written = record { exit = refl; next = sym (add-zero at) }; next = omega arith }
+  lines_start first p = record { prints = prints-none p; next = omega arith }
 
-  pub lines_more : (first j : ℕ) (o : List ℕ) (at : ℕ) (p : List ℕ) (a : ℕ) (q : List ℕ) (b : ℕ) → LinesWritten n line first j o at p a → LineWritten (line_or n line (first + j)) p a q b
-      → LinesWritten n line first (j + 1) o at q b
-  lines_more first j o at p a q b L W = record {
-    written = rw (joined-more (λ i. line_or n line (first + i)) j) (then-written _ _ _ _ _ _ _ _ L.written W.written);
-    next = omega (arith, L.next, W.next);
-  }
+  pub lines_more : (first j : ℕ) {o p q : Printer} → LinesWritten n line first j o p → LineWritten (line_or n line (first + j)) p q → LinesWritten n line first (j + 1) o q
+  lines_more first j L W = record { prints = rw (joined-more (λ i. line_or n line (first + i)) j) (then-prints L.prints W.prints); next = omega (arith, L.next, W.next) }
 
-  pub lines_end : (first j : ℕ) (o : List ℕ) (at : ℕ) (q : List ℕ) (a : ℕ) → 49 ≤ j → j ≤ 49 → LinesWritten n line first j o at q a → LinesWritten n line first 49 o at q a
-  lines_end first j o at q a l h L = let e : j ≡ 49 = omega arith in rw e at L
-
-  pub page-whole : (p : ℕ) (o : List ℕ) (at : ℕ) (q : List ℕ) (a : ℕ) (s : List ℕ) (b : ℕ) → LineWritten (head_line p) o at q a → LinesWritten n line (49 * p) 49 q a s b → PageWritten n line p o at s b
+  pub page-whole : (k : ℕ) {o p q : Printer} → LineWritten (head_line k) o p → LinesWritten n line (49 * k) 49 p q → PageWritten n line k o q
   unfolding page
-  page-whole p o at q a s b H L = record { written = then-written _ _ _ _ _ _ _ _ H.written L.written; next = omega (arith, H.next, L.next) }
+  page-whole k H L = record { prints = then-prints H.prints L.prints; next = omega (arith, H.next, L.next) }
 
-  -- the pages before p
-  pub record Pages (p : ℕ) (o out : List ℕ) (at : ℕ) : Type 0 where
-    pub within : p ≤ pages_for n
-    pub size : length out ≡ length o
-    pub written : Written (joined (page n line) p) o 0 out at
-    pub next : at ≡ 2050 * p
+  -- the pages before k
+  pub record Pages (k : ℕ) (o p : Printer) : Type 0 where
+    pub prints : Prints (joined (page n line) k) o p
+    pub next : p.at ≡ o.at + 2050 * k
 
-  pub pages-start : (o : List ℕ) → Pages 0 o o 0
+  pub pages-start : (o : Printer) → Pages 0 o o
   unfolding joined
-  pages-start o = record { within = omega arith; size = refl; written = record { exit = refl; next = refl }; next = refl }
+  pages-start o = record { prints = prints-none o; next = omega arith }
 
-  pub pages-more : (p : ℕ) (o out : List ℕ) (at : ℕ) (q : List ℕ) (b : ℕ) → p < pages_for n → length q ≡ length out → Pages p o out at → PageWritten n line p out at q b → Pages (p + 1) o q b
-  pages-more p o out at q b h l P W = record {
-    within = omega arith;
-    size = l ∙ P.size;
-    written = rw (joined-more (page n line) p) (then-written _ _ _ _ _ _ _ _ P.written W.written);
-    next = omega (arith, P.next, W.next);
-  }
+  pub pages-more : (k : ℕ) {o p q : Printer} → Pages k o p → PageWritten n line k p q → Pages (k + 1) o q
+  pages-more k P W = record { prints = rw (joined-more (page n line) k) (then-prints P.prints W.prints); next = omega (arith, P.next, W.next) }
 
-  pub pages-end : (p : ℕ) (o out : List ℕ) (at : ℕ) → pages_for n ≤ p → Pages p o out at → out ≡ sets o 0 (sheet n line)
+  pub pages-end : (k : ℕ) {o p : Printer} → k ≡ pages_for n → Pages k o p → Prints (sheet n line) o p
   unfolding sheet
-  pages-end p o out at h P = let e : p ≡ pages_for n = omega (arith, P.within) in P.written.exit ∙ ap (λ (m : ℕ). sets o 0 (joined (page n line) m)) e
+  pages-end k e P = rw (← e) P.prints
 
 pub page-room : (n p at : ℕ) → n ≤ max_rows → p < pages_for n → at ≡ 2050 * p → (at + 2050 ≤ sheet_most) × (p < max_rows)
 page-room n p at f h e = (omega arith, omega arith)

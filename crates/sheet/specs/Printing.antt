@@ -3,7 +3,8 @@ use Rattle.std.specs.Prelude.{ℕ, ◌+◌, ◌*◌, ◌<◌, ◌≤◌, ◌≡�
 use Rattle.base.specs.Limits.{max_rows, max_slots}
 use Rattle.lent.specs.Reading.{length_in}
 use Rattle.printing.specs.Print.{width_in}
-use Rattle.printing.specs.Written.{Written}
+use Rattle.printing.specs.declared.Printer.{Printer}
+use Rattle.printing.specs.Prints.{Prints}
 use Rattle.base.specs.Lists.{joined}
 use Rattle.sheet.specs.Sheet.{place_line, line_or, page}
 
@@ -41,16 +42,16 @@ pub record LineFits (k own lower upper run : ℕ) : Type 0 where
   pub run-start : width_in 20 run ≤ 10
 
 -- a line is written, and is 41 bytes long
-pub record LineWritten (bytes out : List ℕ) (at : ℕ) (out' : List ℕ) (r : ℕ) : Type 0 where
-  pub written : Written bytes out at out' r
-  pub next : r ≡ at + 41
+pub record LineWritten (bytes : List ℕ) (p q : Printer) : Type 0 where
+  pub prints : Prints bytes p q
+  pub next : q.at ≡ p.at + 41
 
 -- so many lines are, from place `first` on
-pub record LinesWritten (n : ℕ) (line : ℕ → List ℕ) (first count : ℕ) (out : List ℕ) (at : ℕ) (out' : List ℕ) (r : ℕ) : Type 0 where
-  pub written : Written (joined (λ j. line_or n line (first + j)) count) out at out' r
-  pub next : r ≡ at + 41 * count
+pub record LinesWritten (n : ℕ) (line : ℕ → List ℕ) (first count : ℕ) (p q : Printer) : Type 0 where
+  pub prints : Prints (joined (λ j. line_or n line (first + j)) count) p q
+  pub next : q.at ≡ p.at + 41 * count
 
 -- a page is
-pub record PageWritten (n : ℕ) (line : ℕ → List ℕ) (p : ℕ) (out : List ℕ) (at : ℕ) (out' : List ℕ) (r : ℕ) : Type 0 where
-  pub written : Written (page n line p) out at out' r
-  pub next : r ≡ at + 2050
+pub record PageWritten (n : ℕ) (line : ℕ → List ℕ) (k : ℕ) (p q : Printer) : Type 0 where
+  pub prints : Prints (page n line k) p q
+  pub next : q.at ≡ p.at + 2050

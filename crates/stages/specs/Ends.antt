@@ -1,10 +1,12 @@
 -- The ends of a call, over the form: what the passes leave, what is then cleared, and the outcome that this comes to.
-use Rattle.std.specs.Prelude.{◌≡◌, refl, Bool, List, [], ◌∷◌, ℕ, length, Float}
-use Rattle.std.proofs.Common.{ap, ◌∙◌, arith}
+use Rattle.base.specs.Answers.{Pass, Asked, Answer}
+use Rattle.std.specs.Prelude.{◌≡◌, refl, Bool, List, [], ◌∷◌, ℕ, length, Float, Ok, Err, ⊤, is_err, IsErrAnd}
+use Rattle.std.proofs.Common.{sym, ap, ◌∙◌, arith}
 use Rattle.std.proofs.Math.Bool.{true, false}
 use Rattle.std.proofs.Math.Nat.{sub-zero}
 use Rattle.base.specs.Lists.{blank, padded, nought}
 use Rattle.base.specs.ZerosLaws.{blank-same}
+use Rattle.base.specs.FirstLaws.{passed-on}
 use Rattle.fill.specs.Fill.{Pattern}
 use Rattle.matrix.specs.Input.{Input, stored, own_order}
 use Rattle.outcome.specs.Buffers.{SideBuffers, Buffers, all_buffers, side_buffers, no_side, side_sizes, sizes, side_cleared, cleared, scratch_cleared, ended}
@@ -13,9 +15,10 @@ use Rattle.outcome.specs.Placed.{RunsAre, PlacedSide, WrittenSide}
 use Rattle.outcome.specs.Structure.{ask_places, counts, runs_kept, side_placed, structured, structure}
 use Rattle.outcome.specs.Solve.{listed, fault_of, values_kept, kept, concluded, solve}
 use Rattle.arithmetic.specs.Arith.{Out, ok, met, Result}
-use Rattle.factor.specs.Factoring.{lists, written, LowerPlaced, Factors, FactoredAs}
-use Rattle.factor.specs.declared.Factored.{Factored}
-use Rattle.factor.specs.declared.Factored.TheVariants.{Solved, Zero, Overflow}
+use Rattle.factor.specs.Factoring.{refused_by, lists, written, LowerPlaced, Factors, FactoredAs}
+use Rattle.std.specs.Prelude as prelude
+use Rattle.factor.specs.declared.Fault.{Fault}
+use Rattle.factor.specs.declared.Fault.TheVariants.{Zero, Overflow}
 use Rattle.questions.specs.Lent.{Inverse}
 use Rattle.symbolic.specs.Pass.{slots_of, found_answer, Analyzed, AnalyzedBoth}
 use Rattle.base.specs.declared.Form.{Form}
@@ -25,11 +28,7 @@ use Rattle.base.specs.declared.Side.TheVariants.{Lower, Upper}
 use Rattle.base.specs.declared.Sizes.{Sizes}
 use Rattle.base.specs.declared.Counts.{Counts}
 use Rattle.base.specs.declared.Refusal.{Refusal}
-use Rattle.base.specs.declared.Asked.{Asked}
-use Rattle.base.specs.declared.Asked.TheVariants.{Pass}
-use Rattle.base.specs.declared.Answer.{Answer}
-use Rattle.base.specs.declared.Answer.TheVariants.{Done, Refused}
-use Rattle.stages.specs.Stages.{is_stop, is_refused, blank_if, structure_placed, solve_placed, clears, closed, Leaves, Concludes, Concluded}
+use Rattle.stages.specs.Stages.{blank_if, structure_placed, solve_placed, clears, closed, Leaves, Concludes, Concluded}
 use Rattle.stages.specs.Shaped.{pattern, SolveDue, FactorDue, fault_asked}
 use Rattle.stages.specs.ShapedLaws.{slots, places-slots, factor-due}
 use Rattle.stages.specs.Branches.{never, found-done, found-refused}
@@ -87,25 +86,35 @@ stands f side P n s t runs room h e r values v =
 
 -- ---- 12 and 13
 
-pub came-fault : (f : Form) (i : Input) (lower upper d z x : List Float) (a : Factored) (o : Asked)
-    → FactoredAs f i a lower upper d z → o ≡ fault_asked a → is_stop o ≡ true → Concluded f i o lower upper d x x
+pub came-fault : (f : Form) (i : Input) (lower upper d z x : List Float) (a : prelude.Result ⊤ Fault) (o : Asked)
+    → FactoredAs f i a lower upper d z → o ≡ fault_asked a → is_err o ≡ true → Concluded f i o lower upper d x x
 unfolding FactoredAs Concludes
-came-fault f i lower upper d z x Solved o g e h = never (is_stop o) (ap is_stop e) h
-came-fault f i lower upper d z x (Zero p) o g e h = rw g (e, refl)
-came-fault f i lower upper d z x (Overflow p) o g e h = rw g (e, refl)
+came-fault f i lower upper d z x (Ok t) o g e h = never (is_err o) (ap is_err e) h
+came-fault f i lower upper d z x (Err (Zero p)) o g e h = rw g (e, refl)
+came-fault f i lower upper d z x (Err (Overflow p)) o g e h = rw g (e, refl)
 
-pub came-solved : (f : Form) (i : Input) (lower upper d z x₀ x : List Float) (a : Factored) (o : Asked)
-    → FactoredAs f i a lower upper d z → o ≡ fault_asked a → is_stop o ≡ false → x ≡ own_order i.c i.n z → Concluded f i o lower upper d x₀ x
+pub came-solved : (f : Form) (i : Input) (lower upper d z x₀ x : List Float) (a : prelude.Result ⊤ Fault) (o : Asked)
+    → FactoredAs f i a lower upper d z → o ≡ fault_asked a → is_err o ≡ false → x ≡ own_order i.c i.n z → Concluded f i o lower upper d x₀ x
 unfolding FactoredAs Concludes
-came-solved f i lower upper d z x₀ x Solved o g e h v =
+came-solved f i lower upper d z x₀ x (Ok t) o g e h v =
     let c = g.2 in
     rw g.1 (e, record { lower-values = c.lower-values; upper-values = c.upper-values; reciprocals = c.reciprocals; solution = refl }, v ∙ ap (own_order i.c i.n) c.solution)
-came-solved f i lower upper d z x₀ x (Zero p) o g e h v = never (is_stop o) h (ap is_stop e)
-came-solved f i lower upper d z x₀ x (Overflow p) o g e h v = never (is_stop o) h (ap is_stop e)
+came-solved f i lower upper d z x₀ x (Err (Zero p)) o g e h v = never (is_err o) h (ap is_err e)
+came-solved f i lower upper d z x₀ x (Err (Overflow p)) o g e h v = never (is_err o) h (ap is_err e)
+
+-- the same, where `?` passes the fault on as a refusal
+pub came-refused : (f : Form) (i : Input) (lower upper d z x : List Float) (a : prelude.Result ⊤ Fault) (o : Asked)
+    → FactoredAs f i a lower upper d z → (e : Fault) → a ≡ Err e → IsErrAnd o (λ q. q ≡ refused_by e) → Concluded f i o lower upper d x x
+came-refused f i lower upper d z x a o g (Zero p) h r = came-fault f i lower upper d z x (Err (Zero p)) o (rw h at g) (passed-on o _ r) (ap is_err (passed-on o _ r))
+came-refused f i lower upper d z x a o g (Overflow p) h r = came-fault f i lower upper d z x (Err (Overflow p)) o (rw h at g) (passed-on o _ r) (ap is_err (passed-on o _ r))
+
+pub came-passed : (f : Form) (i : Input) (lower upper d z x₀ x : List Float) (a : prelude.Result ⊤ Fault)
+    → FactoredAs f i a lower upper d z → a ≡ Ok tt → x ≡ own_order i.c i.n z → Concluded f i Pass lower upper d x₀ x
+came-passed f i lower upper d z x₀ x a g h = came-solved f i lower upper d z x₀ x a Pass g (sym (ap fault_asked h)) refl
 
 -- ---- 9 to 13, and x
 
-clears-refused : (f : Form) (q : Refusal) → clears f (Refused q) ≡ true
+clears-refused : (f : Form) (q : Refusal) → clears f (Err q) ≡ true
 clears-refused Plain q = refl
 clears-refused Shared q = refl
 clears-refused ByRow q = refl
@@ -151,25 +160,29 @@ both-pattern f i z ls lr li us ur ui m lv uv a h = record { found = found-patter
 
 -- the structure pass refused
 leaves_by : (f : Form) (i : Input) (s t : Buffers) (a : Answer) → a ≡ found_answer (ask_places f (stored i) i.n (slots (sizes s)) i.n) (counts i)
-    → is_refused a ≡ true → t.x ≡ s.x → Leaves f i s a t
+    → is_err a ≡ true → t.x ≡ s.x → Leaves f i s a t
 unfolding closed solve_placed
-leaves_by f i s t (Done c) g h x = never false refl h
-leaves_by f i s t (Refused q) g h x =
-    rw (clears-refused f q, x, places-slots f (stored i) i.n (sizes s) i.n ∙ found-refused _ (counts i) q (Refused q) g refl)
+leaves_by f i s t (Ok c) g h x = never false refl h
+leaves_by f i s t (Err q) g h x =
+    rw (clears-refused f q, x, places-slots f (stored i) i.n (sizes s) i.n ∙ found-refused _ (counts i) q (Err q) g refl)
 
 module _ (f : Form) (i : Input) (s t : Buffers) (us ur ui : List ℕ) (uv : ℕ) (m : List ℕ) (a : Answer) (found : Analyzed f (pattern i) (slots (sizes s)) us ur ui uv m a) where
-  pub leaves-refused : is_refused a ≡ true → t.x ≡ s.x → Leaves f i s a t
+  pub leaves-refused : is_err a ≡ true → t.x ≡ s.x → Leaves f i s a t
   leaves-refused = leaves_by f i s t a (found-pattern f i _ us ur ui uv m a found).answer
 
+  -- the same, where `?` passes it on
+  pub leaves-passed-on : (r : Answer) (q : Refusal) → a ≡ Err q → IsErrAnd r (λ y. y ≡ q) → t.x ≡ s.x → Leaves f i s r t
+  leaves-passed-on r q h e x = rw (passed-on r q e ∙ sym h) (leaves-refused (ap is_err h) x)
+
   -- or the arithmetic came to its end
-  leaves-came : (k : Counts) (u : Asked) (r : Answer) → a ≡ Done k → r ≡ found_answer u k → Concluded f i u t.lower.values t.upper.values t.d s.x t.x → KeptBy f i s t → Leaves f i s r t
+  leaves-came : (k : Counts) (u : Asked) (r : Answer) → a ≡ Ok k → r ≡ found_answer u k → Concluded f i u t.lower.values t.upper.values t.d s.x t.x → KeptBy f i s t → Leaves f i s r t
   unfolding solve_placed
   leaves-came k u r e n g h =
       let p = found-done _ (counts i) k a (found-pattern f i _ us ur ui uv m a found).answer e in
       rw (places-slots f (stored i) i.n (sizes s) i.n ∙ p.0) (concluded-is f i s t k (listed i) u r p.1 n g h)
 
 -- where the lists of both sides are placed, and the inverse order stands; `lr` and `ur` are the runs that the lists are read by
-both-placed : (f : Form) (i : Input) (z : Sizes) (ls lr li us ur ui m : List ℕ) (lv uv : ℕ) (a : Answer) (k : Counts) → AnalyzedBoth f (pattern i) z ls lr li lv us ur ui uv m a → a ≡ Done k
+both-placed : (f : Form) (i : Input) (z : Sizes) (ls lr li us ur ui m : List ℕ) (lv uv : ℕ) (a : Answer) (k : Counts) → AnalyzedBoth f (pattern i) z ls lr li lv us ur ui uv m a → a ≡ Ok k
     → WrittenSide f Lower (stored i) i.n ls lr li lv × WrittenSide f Upper (stored i) i.n us ur ui uv × Inverse i m
 both-placed f i z ls lr li us ur ui m lv uv a k found done =
     let g = both-pattern f i z ls lr li us ur ui m lv uv a found in
@@ -177,7 +190,7 @@ both-placed f i z ls lr li us ur ui m lv uv a k found done =
     (g.lower p.0, g.found.upper p.0, g.found.inverse p.0)
 
 pub both-due : (f : Form) (i : Input) (z y : Sizes) (ls lr li us ur ui m : List ℕ) (lv uv d w : List Float) (x : ℕ) (a : Answer) (k : Counts)
-    → AnalyzedBoth f (pattern i) z ls lr li (length lv) us ur ui (length uv) m a → a ≡ Done k
+    → AnalyzedBoth f (pattern i) z ls lr li (length lv) us ur ui (length uv) m a → a ≡ Ok k
     → SolveDue f i y → length m ≡ y.marks → length d ≡ y.d → length w ≡ y.work → x ≡ y.x
     → (PlacedSide f Lower (stored i) i.n ls lr li (length lv) → LowerPlaced f (stored i) i.n (lists ls li us ur ui) lv) → FactorDue f i (lists ls li us ur ui) (written lv uv d w m) x
 both-due f i z y ls lr li us ur ui m lv uv d w x a k found done h em ed ew ex g =
@@ -185,7 +198,7 @@ both-due f i z y ls lr li us ur ui m lv uv d w x a k found done h em ed ew ex g 
     factor-due f i y (lists ls li us ur ui) (written lv uv d w m) x h em ed ew ex (g p.0.placed) p.1.placed p.2
 
 both-kept : (f : Form) (i : Input) (z : Sizes) (s t : Buffers) (lr ur m : List ℕ) (lv uv : ℕ) (a : Answer) (k : Counts)
-    → AnalyzedBoth f (pattern i) z t.lower.starts lr t.lower.index lv t.upper.starts ur t.upper.index uv m a → a ≡ Done k
+    → AnalyzedBoth f (pattern i) z t.lower.starts lr t.lower.index lv t.upper.starts ur t.upper.index uv m a → a ≡ Ok k
     → Long s.lower t.lower → Long s.upper t.upper → length t.work ≡ length s.work → length t.marks ≡ length s.marks
     → (RunsAre f Lower (stored i) i.n t.lower.starts lr → t.lower.runs ≡ runs_kept f (length s.lower.runs) (placed_to f Lower (stored i) i.n i.n))
     → (RunsAre f Upper (stored i) i.n t.upper.starts ur → t.upper.runs ≡ runs_kept f (length s.upper.runs) (placed_to f Upper (stored i) i.n i.n)) → CallKept f i s t
@@ -207,7 +220,7 @@ kept_by ByRow i s t h = tt
 
 -- all of it, over plain lists
 pub both-leaves : (f : Form) (i : Input) (ls₀ lr₀ li₀ us₀ ur₀ ui₀ m₀ ls lr li us ur ui m rl ru m₁ : List ℕ) (lv₀ uv₀ d₀ x₀ w₀ lv uv d x w : List Float) (a r : Answer) (k : Counts) (o : Asked)
-    → AnalyzedBoth f (pattern i) (slots_of (length li₀) (length lv₀) (length ui₀) (length uv₀)) ls rl li (length lv₀) us ru ui (length uv₀) m₁ a → a ≡ Done k → Concluded f i o lv uv d x₀ x → r ≡ found_answer o k
+    → AnalyzedBoth f (pattern i) (slots_of (length li₀) (length lv₀) (length ui₀) (length uv₀)) ls rl li (length lv₀) us ru ui (length uv₀) m₁ a → a ≡ Ok k → Concluded f i o lv uv d x₀ x → r ≡ found_answer o k
     → length ls ≡ length ls₀ → length lr ≡ length lr₀ → length li ≡ length li₀ → length lv ≡ length lv₀ → length us ≡ length us₀ → length ur ≡ length ur₀ → length ui ≡ length ui₀ → length uv ≡ length uv₀
     → length w ≡ length w₀ → length m ≡ length m₀
     → (RunsAre f Lower (stored i) i.n ls rl → lr ≡ runs_kept f (length lr₀) (placed_to f Lower (stored i) i.n i.n))
@@ -221,14 +234,14 @@ both-leaves f i ls₀ lr₀ li₀ us₀ ur₀ ui₀ m₀ ls lr li us ur ui m rl 
     (both-kept f i _ s t rl ru m₁ (length lv₀) (length uv₀) a k found done (record { starts = a₁; runs = a₂; index = a₃; values = a₄ }) (record { starts = b₁; runs = b₂; index = b₃; values = b₄ }) kw km hl hu))
 
 -- the row form, which lends an empty store for L
-pub row-due : (i : Input) (z y : Sizes) (ls li us ur ui m : List ℕ) (lv uv d w : List Float) (x : ℕ) (a : Answer) (k : Counts) → Analyzed ByRow (pattern i) z us ur ui (length uv) m a → a ≡ Done k
+pub row-due : (i : Input) (z y : Sizes) (ls li us ur ui m : List ℕ) (lv uv d w : List Float) (x : ℕ) (a : Answer) (k : Counts) → Analyzed ByRow (pattern i) z us ur ui (length uv) m a → a ≡ Ok k
     → SolveDue ByRow i y → length m ≡ y.marks → length d ≡ y.d → length w ≡ y.work → x ≡ y.x → lv ≡ [] → FactorDue ByRow i (lists ls li us ur ui) (written lv uv d w m) x
 row-due i z y ls li us ur ui m lv uv d w x a k found done h em ed ew ex el =
     let g = found-pattern ByRow i z us ur ui (length uv) m a found in
     let p = found-done _ (counts i) k a g.answer done in
     factor-due ByRow i y (lists ls li us ur ui) (written lv uv d w m) x h em ed ew ex el (g.upper p.0).placed (g.inverse p.0)
 
-pub row-leaves : (i : Input) (us₀ ur₀ ui₀ m₀ us ur ui m m₁ : List ℕ) (uv₀ d₀ x₀ w₀ lv uv d x w : List Float) (a r : Answer) (k : Counts) (o : Asked) → Analyzed ByRow (pattern i) (slots_of 0 0 (length ui₀) (length uv₀)) us ur ui (length uv₀) m₁ a → a ≡ Done k
+pub row-leaves : (i : Input) (us₀ ur₀ ui₀ m₀ us ur ui m m₁ : List ℕ) (uv₀ d₀ x₀ w₀ lv uv d x w : List Float) (a r : Answer) (k : Counts) (o : Asked) → Analyzed ByRow (pattern i) (slots_of 0 0 (length ui₀) (length uv₀)) us ur ui (length uv₀) m₁ a → a ≡ Ok k
     → Concluded ByRow i o lv uv d x₀ x → r ≡ found_answer o k → length lv ≡ 0 → Leaves ByRow i (all_buffers no_side (side_buffers us₀ ur₀ ui₀ uv₀) d₀ x₀ w₀ m₀) r (all_buffers no_side (side_buffers us ur ui uv) d x w m)
 row-leaves i us₀ ur₀ ui₀ m₀ us ur ui m m₁ uv₀ d₀ x₀ w₀ [] uv d x w a r k o found done g n e =
     leaves-came ByRow i (all_buffers no_side (side_buffers us₀ ur₀ ui₀ uv₀) d₀ x₀ w₀ m₀) (all_buffers no_side (side_buffers us ur ui uv) d x w m) us ur ui (length uv₀) m₁ a found k o r done n g tt
@@ -282,25 +295,25 @@ lists-placed f side P n s t u runs room h l r g =
     stands f side P n s u runs room (rw (g.starts, g.index) h) (ap length g.index ∙ l.index) (g.runs ∙ r) [] (g.values ∙ nothing_stored t.values ∙ ap (λ (m : ℕ). padded nought m []) l.values)
 
 structure-by : (f : Form) (i : Input) (l u l₁ u₁ l₂ u₂ : SideBuffers) (w w₁ w₂ : List Float) (m m₁ m₂ lr ur : List ℕ) (a : Answer) (b : Bool)
-    → AnalyzedBoth f i (slots (sizes (all_buffers l u [] [] w m))) l₁.starts lr l₁.index (length l.values) u₁.starts ur u₁.index (length u.values) m₁ a → b ≡ is_refused a
+    → AnalyzedBoth f i (slots (sizes (all_buffers l u [] [] w m))) l₁.starts lr l₁.index (length l.values) u₁.starts ur u₁.index (length u.values) m₁ a → b ≡ is_err a
     → (RunsAre f Lower (stored i) i.n l₁.starts lr → l₁.runs ≡ runs_kept f (length l.runs) (placed_to f Lower (stored i) i.n i.n))
     → (RunsAre f Upper (stored i) i.n u₁.starts ur → u₁.runs ≡ runs_kept f (length u.runs) (placed_to f Upper (stored i) i.n i.n))
     → Long l l₁ → Long u u₁ → length w₁ ≡ length w → length m₁ ≡ length m → ListsIf b l₁ l₂ → ListsIf b u₁ u₂ → Blanked w₁ m₁ w₂ m₂
     → ended a (all_buffers l₂ u₂ [] [] w₂ m₂) ≡ structure_placed f i (all_buffers l u [] [] w m)
 unfolding structure_placed structured cleared blank
-structure-by f i l u l₁ u₁ l₂ u₂ w w₁ w₂ m m₁ m₂ lr ur (Done c) true g e rl ru kl ku kw km hl hu hs = never true e refl
-structure-by f i l u l₁ u₁ l₂ u₂ w w₁ w₂ m m₁ m₂ lr ur (Refused q) false g e rl ru kl ku kw km hl hu hs = never false refl e
-structure-by f i l u l₁ u₁ l₂ u₂ w w₁ w₂ m m₁ m₂ lr ur (Done c) false g e rl ru kl ku kw km hl hu hs =
-    let p = found-done _ (counts i) c (Done c) g.found.answer refl in
+structure-by f i l u l₁ u₁ l₂ u₂ w w₁ w₂ m m₁ m₂ lr ur (Ok c) true g e rl ru kl ku kw km hl hu hs = never true e refl
+structure-by f i l u l₁ u₁ l₂ u₂ w w₁ w₂ m m₁ m₂ lr ur (Err q) false g e rl ru kl ku kw km hl hu hs = never false refl e
+structure-by f i l u l₁ u₁ l₂ u₂ w w₁ w₂ m m₁ m₂ lr ur (Ok c) false g e rl ru kl ku kw km hl hu hs =
+    let p = found-done _ (counts i) c (Ok c) g.found.answer refl in
     let x = g.lower p.0 in
     let y = g.found.upper p.0 in
     rw (places-slots f (stored i) i.n (sizes (all_buffers l u [] [] w m)) i.n ∙ p.0, p.1, lists-placed f Lower (stored i) i.n l l₁ l₂ lr _ x kl (rl x.placed.runs-are) hl, lists-placed f Upper (stored i) i.n u u₁ u₂ ur _ y ku (ru y.placed.runs-are) hu, hs.0, hs.1, kw, km)
-structure-by f i l u l₁ u₁ l₂ u₂ w w₁ w₂ m m₁ m₂ lr ur (Refused q) true g e rl ru kl ku kw km hl hu hs =
-    rw (places-slots f (stored i) i.n (sizes (all_buffers l u [] [] w m)) i.n ∙ found-refused _ (counts i) q (Refused q) g.found.answer refl, lists-zero l l₁ l₂ kl hl, lists-zero u u₁ u₂ ku hu, hs.0, hs.1, kw, km)
+structure-by f i l u l₁ u₁ l₂ u₂ w w₁ w₂ m m₁ m₂ lr ur (Err q) true g e rl ru kl ku kw km hl hu hs =
+    rw (places-slots f (stored i) i.n (sizes (all_buffers l u [] [] w m)) i.n ∙ found-refused _ (counts i) q (Err q) g.found.answer refl, lists-zero l l₁ l₂ kl hl, lists-zero u u₁ u₂ ku hu, hs.0, hs.1, kw, km)
 
 pub structure-ends : (f : Form) (i : Input) (l u l₁ u₁ l₂ u₂ : SideBuffers) (w w₁ w₂ : List Float) (m t m₁ m₂ lr ur : List ℕ) (o : Asked) (a : Answer) (b : Bool)
     → StructureAsking f i (sizes (all_buffers l u [] [] w m)) w m w₁ t o → o ≡ Pass
-    → AnalyzedBoth f i (slots (sizes (all_buffers l u [] [] w m))) l₁.starts lr l₁.index (length l.values) u₁.starts ur u₁.index (length u.values) m₁ a → b ≡ is_refused a
+    → AnalyzedBoth f i (slots (sizes (all_buffers l u [] [] w m))) l₁.starts lr l₁.index (length l.values) u₁.starts ur u₁.index (length u.values) m₁ a → b ≡ is_err a
     → (RunsAre f Lower (stored i) i.n l₁.starts lr → l₁.runs ≡ runs_kept f (length l.runs) (placed_to f Lower (stored i) i.n i.n))
     → (RunsAre f Upper (stored i) i.n u₁.starts ur → u₁.runs ≡ runs_kept f (length u.runs) (placed_to f Upper (stored i) i.n i.n))
     → Long l l₁ → Long u u₁ → length w₁ ≡ length w → length m₁ ≡ length m → ListsIf b l₁ l₂ → ListsIf b u₁ u₂ → Blanked w₁ m₁ w₂ m₂

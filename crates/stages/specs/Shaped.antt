@@ -1,5 +1,6 @@
 -- What questions 1 and 2, then the others before 9, then 9 to 11 have settled for the rest of a call. Definitions only.
-use Rattle.std.specs.Prelude.{◌≡◌, List, [], ◌++◌, ℕ, ◌+◌, ◌*◌, ◌≤◌, length}
+use Rattle.base.specs.Answers.{Pass, Asked}
+use Rattle.std.specs.Prelude.{◌≡◌, List, [], ◌++◌, ℕ, ◌+◌, ◌*◌, ◌≤◌, length, Result, Ok, Err, ⊤}
 use Rattle.base.specs.Limits.{max_rows, max_entries, max_slots}
 use Rattle.matrix.specs.Input.{Input, input_of}
 use Rattle.matrix.specs.Questions.{IsOrder, ask_structure, ask_solve}
@@ -7,14 +8,12 @@ use Rattle.base.specs.declared.SideSizes.{SideSizes}
 use Rattle.base.specs.declared.Sizes.{Sizes}
 use Rattle.outcome.specs.Buffers.{pattern_tests, structure_tests, ask_shape}
 use Rattle.factor.specs.Factoring.{PlacedLists, Workspace, Factorable}
-use Rattle.factor.specs.declared.Factored.{Factored}
-use Rattle.factor.specs.declared.Factored.TheVariants.{Solved, Zero, Overflow}
+use Rattle.factor.specs.declared.Fault.{Fault}
+use Rattle.factor.specs.declared.Fault.TheVariants.{Zero, Overflow}
 use Rattle.base.specs.declared.Form.{Form}
 use Rattle.base.specs.declared.Form.TheVariants.{Plain, Shared, ByRow}
 use Rattle.base.specs.declared.Refusal.TheVariants as refusals
 use Rattle.base.specs.declared.Refusal.TheVariants.{ZeroPivot}
-use Rattle.base.specs.declared.Asked.{Asked}
-use Rattle.base.specs.declared.Asked.TheVariants.{Pass, Stop}
 
 -- ---- lengths
 
@@ -88,10 +87,10 @@ pub record FactorDue (f : Form) (i : Input) (l : PlacedLists) (w : Workspace) (x
   pub solution : x ≡ i.n
 
 -- 12 and 13
-abbrev pub fault_asked : Factored → Asked
-fault_asked Solved = Pass
-fault_asked (Zero k) = Stop (ZeroPivot k)
-fault_asked (Overflow k) = Stop (refusals.Overflow k)
+abbrev pub fault_asked : Result ⊤ Fault → Asked
+fault_asked (Ok t) = Pass
+fault_asked (Err (Zero k)) = Err (ZeroPivot k)
+fault_asked (Err (Overflow k)) = Err (refusals.Overflow k)
 
 -- for x: z stands in scratch
 pub record SolutionDue (n : ℕ) (c : List ℕ) (work x : ℕ) : Type 0 where

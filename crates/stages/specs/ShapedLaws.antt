@@ -7,7 +7,7 @@ use borrow.Author.Tests.{eqb-true, leb-true}
 use Rattle.base.specs.All.{all}
 use Rattle.base.specs.AllLaws.{all_true, all_join}
 use Rattle.base.specs.Tests.{and_cases}
-use Rattle.base.specs.Answers.{and_then}
+use Rattle.base.specs.Answers.{and_then, Pass}
 use Rattle.fill.specs.Fill.{Pattern}
 use Rattle.base.specs.Limits.{max_rows, rows_within}
 use Rattle.matrix.specs.Input.{Input, with_floor, stored}
@@ -23,7 +23,6 @@ use Rattle.questions.specs.Settled.{Structured}
 use Rattle.questions.specs.SettledLaws.{settled}
 use Rattle.symbolic.specs.Pass.{slots_of, MatrixLent, PlainLent, SharedLent, RowLent}
 use Rattle.factor.specs.Factoring.{PlacedLists, Workspace, Starts, LowerPlaced}
-use Rattle.base.specs.declared.Asked.TheVariants.{Pass}
 use Rattle.base.specs.declared.Side.TheVariants.{Lower, Upper}
 use Rattle.base.specs.declared.Form.{Form}
 use Rattle.base.specs.declared.Form.TheVariants.{Plain, Shared, ByRow}

@@ -1,5 +1,6 @@
 -- What is left of a call after each stage of its questions, and what its last stages hand on. Definitions only.
-use Rattle.std.specs.Prelude.{◌≡◌, Bool, true, false, cond, List, Float}
+use Rattle.base.specs.Answers.{Pass, Asked, Answer}
+use Rattle.std.specs.Prelude.{◌≡◌, Bool, true, false, cond, List, Float, Ok, Err, is_err}
 use Rattle.base.specs.Lists.{blank}
 use Rattle.matrix.specs.Input.{Input, stored, own_order}
 use Rattle.outcome.specs.Buffers.{Buffers, sizes, scratch_cleared, cleared, Outcome, ended, stop}
@@ -10,27 +11,6 @@ use Rattle.factor.specs.Factoring.{Factors}
 use Rattle.base.specs.declared.Form.{Form}
 use Rattle.base.specs.declared.Form.TheVariants.{Plain, Shared, ByRow}
 use Rattle.base.specs.declared.Counts.{Counts}
-use Rattle.base.specs.declared.Asked.{Asked}
-use Rattle.base.specs.declared.Asked.TheVariants.{Pass, Stop}
-use Rattle.base.specs.declared.Answer.{Answer}
-use Rattle.base.specs.declared.Answer.TheVariants.{Done, Refused}
-use Rattle.base.specs.declared.Ended.{Ended}
-use Rattle.base.specs.declared.Ended.TheVariants as ends
-
--- ---- answers by a test
-
-abbrev pub is_stop : Asked → Bool
-is_stop Pass = false
-is_stop (Stop q) = true
-
-abbrev pub is_refused : Answer → Bool
-is_refused (Done c) = false
-is_refused (Refused q) = true
-
--- the end of a call without counts
-abbrev pub end_of : Asked → Ended
-end_of Pass = ends.Done
-end_of (Stop q) = ends.Refused q
 
 abbrev pub no_counts : Counts
 no_counts = record { lower = 0; upper = 0; products = 0 }
@@ -43,17 +23,17 @@ blank_if b v l = cond b (blank v l) l
 
 unfoldable pub structure_placed : Form → Input → Buffers → Outcome Answer
 structure_placed f i s =
-    stop Refused (ask_places f (stored i) i.n (sizes s) i.n) (cleared (sizes s) s.x) (ended (Done (counts i)) (structured f i (sizes s)))
+    stop Err (ask_places f (stored i) i.n (sizes s) i.n) (cleared (sizes s) s.x) (ended (Ok (counts i)) (structured f i (sizes s)))
 
 -- ---- the solve after the questions before 9
 
 unfoldable pub solve_placed : Form → Input → Buffers → Outcome Answer
-solve_placed f i s = stop Refused (ask_places f (stored i) i.n (sizes s) i.n) (cleared (sizes s) s.x) (concluded f i (sizes s) s.x (listed i))
+solve_placed f i s = stop Err (ask_places f (stored i) i.n (sizes s) i.n) (cleared (sizes s) s.x) (concluded f i (sizes s) s.x (listed i))
 
 -- the answers at which a call clears all that it writes: the row form always does
 abbrev pub clears : Form → Answer → Bool
-clears Plain a = is_refused a
-clears Shared a = is_refused a
+clears Plain a = is_err a
+clears Shared a = is_err a
 clears ByRow a = true
 
 -- t, written over s, as the call leaves it
@@ -66,7 +46,7 @@ Leaves f i s a t = ended a (closed f a s t) ≡ solve_placed f i s
 
 -- 12 and 13 answer a, where the listed operations come to o: the factors, and x over x₀
 unfoldable pub Concludes : Form → Input → Out Result → Asked → List Float → List Float → List Float → List Float → List Float → Type 0
-Concludes f i (met q) a lower upper d x₀ x = (a ≡ Stop (fault_of q)) × (x ≡ x₀)
+Concludes f i (met q) a lower upper d x₀ x = (a ≡ Err (fault_of q)) × (x ≡ x₀)
 Concludes f i (ok r) a lower upper d x₀ x = (a ≡ Pass) × Factors f i r lower upper d r.z × (x ≡ own_order i.c i.n r.z)
 
 abbrev pub Concluded : Form → Input → Asked → List Float → List Float → List Float → List Float → List Float → Type 0

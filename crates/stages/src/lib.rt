@@ -5,19 +5,18 @@ ghost use Rattle.std.specs.Prelude.{◌≡◌, [], ◌∷◌, ◌+◌, ◌≤◌
 ghost use Rattle.base.specs.All.{all};
 ghost use Rattle.base.specs.Lists.{blank, nought};
 ghost use Rattle.base.specs.Limits.{max_rows};
-ghost use Rattle.matrix.specs.Input.{input_of, with_floor, own_order};
+ghost use Rattle.matrix.specs.Input.{input_of, own_order, lent, lent_pattern};
 ghost use Rattle.outcome.specs.Buffers.{side_tests, lower_tests, list_tests, vector_tests, scratch_tests};
 ghost use Rattle.outcome.specs.Solve.{shape};
-ghost use Rattle.symbolic.specs.Pass.{found_answer};
 ghost use Rattle.factor.specs.Factoring.{lists, written};
-ghost use Rattle.stages.specs.Shaped.{structure_shape, FactorDue, SolutionDue, fault_asked};
-ghost use Rattle.stages.specs.Stages.{is_stop, is_refused, end_of, no_counts, blank_if, Concluded};
+ghost use Rattle.stages.specs.Shaped.{structure_shape, FactorDue, SolutionDue};
+ghost use Rattle.stages.specs.Stages.{blank_if, Concluded};
 ghost use Rattle.stages.specs.Asking.{StructureAsking, SolveAsking};
 ghost use Rattle.base.specs.Scratch.{z_from};
 
-use base::{Answer, Asked, Counts, Ended, Form, Index, Refusal, SideSizes, Sizes, scratch};
-use factor::Factored;
-use matrix::{Matrix, Shaped};
+use base::{Form, Index, Refusal, SideSizes, Sizes, scratch};
+use factor::Lists;
+use matrix::{Matrix, System};
 
 // ---- questions 1 and 2, from the lengths of what a call is lent
 
@@ -91,57 +90,38 @@ pub fn scratch_fits(n: usize, sizes: Sizes) -> bool
 }
 
 // Asks a structure call's 1 and 2.
-fn shape_structure(
-    form: Form,
-    n: usize,
-    starts: &[u32],
-    columns: &[Index],
-    r: &[Index],
-    c: &[Index],
-    sizes: Sizes,
-) -> Asked
-    ensures { result ≡ structure_shape form (input_of n starts.now columns.now [] r.now c.now []) sizes }
+fn shape_structure(form: Form, input: System<'_>, sizes: Sizes) -> Result<(), Refusal>
+    ensures { result ≡ structure_shape form (lent_pattern input.entry) sizes }
 {
-    let made = Matrix::new(n, columns.len());
-    if let Shaped::Unshaped(q) = made {
-        return Asked::Stop(q);
-    }
-    let pattern = pattern_fits(n, starts.len(), r.len(), c.len());
-    let lists = sides_fit(form, n, sizes);
-    let slots = scratch_fits(n, sizes);
+    Matrix::new(input.n, input.columns.len())?;
+    let pattern = pattern_fits(input.n, input.starts.len(), input.r.len(), input.c.len());
+    let lists = sides_fit(form, input.n, sizes);
+    let slots = scratch_fits(input.n, sizes);
     if pattern & (lists & slots) {
-        return Asked::Pass;
+        return Ok(());
     }
-    Asked::Stop(Refusal::Lengths)
+    Err(Refusal::Lengths)
 }
 
 // Asks a solve's 1 and 2.
-fn shape_solve(
-    form: Form,
-    n: usize,
-    starts: &[u32],
-    columns: &[Index],
-    values: &[f64],
-    r: &[Index],
-    c: &[Index],
-    b: &[f64],
-    sizes: Sizes,
-) -> Asked
-    ensures { result ≡ shape form (input_of n starts.now columns.now values.now r.now c.now b.now) sizes }
+fn shape_solve(form: Form, input: System<'_>, sizes: Sizes) -> Result<(), Refusal>
+    ensures { result ≡ shape form (input_of input.entry.n input.entry.starts.now input.entry.columns.now input.entry.values.now input.entry.r.now input.entry.c.now input.entry.b.now) sizes }
 {
-    let made = Matrix::new(n, columns.len());
-    if let Shaped::Unshaped(q) = made {
-        return Asked::Stop(q);
-    }
-    let pattern = pattern_fits(n, starts.len(), r.len(), c.len());
-    let numbers = numbers_fit(n, columns.len(), values.len(), b.len());
-    let lists = sides_fit(form, n, sizes);
-    let vectors = vectors_fit(n, sizes);
-    let slots = scratch_fits(n, sizes);
+    Matrix::new(input.n, input.columns.len())?;
+    let pattern = pattern_fits(input.n, input.starts.len(), input.r.len(), input.c.len());
+    let numbers = numbers_fit(
+        input.n,
+        input.columns.len(),
+        input.values.len(),
+        input.b.len(),
+    );
+    let lists = sides_fit(form, input.n, sizes);
+    let vectors = vectors_fit(input.n, sizes);
+    let slots = scratch_fits(input.n, sizes);
     if (pattern & numbers) & (lists & vectors & slots) {
-        return Asked::Pass;
+        return Ok(());
     }
-    Asked::Stop(Refusal::Lengths)
+    Err(Refusal::Lengths)
 }
 
 // ---- the questions before 9. 1 and 2 write nothing; where another stops a call, scratch is cleared.
@@ -149,26 +129,18 @@ fn shape_solve(
 // Asks a structure call's questions, with `sizes` for what it writes.
 pub fn ask_structure(
     form: Form,
-    n: usize,
-    starts: &[u32],
-    columns: &[Index],
-    r: &[Index],
-    c: &[Index],
+    input: System<'_>,
     sizes: Sizes,
     work: &mut [f64],
     marks: &mut [u32],
-) -> Asked
+) -> Result<(), Refusal>
     requires { sizes.marks ≡ length marks.old }
-    ensures { StructureAsking form (input_of n starts.now columns.now [] r.now c.now []) sizes work.old marks.old work.new marks.new result }
+    ensures { StructureAsking form (lent_pattern input.entry) sizes work.old marks.old work.new marks.new result }
 {
-    let shape = shape_structure(form, n, starts, columns, r, c, sizes);
-    if stops(shape) {
-        return shape;
-    }
-    let a = questions::ask_structure(n, starts, columns, r, c, marks);
-    if stops(a) {
+    shape_structure(form, input, sizes)?;
+    let a = questions::ask_structure(input, marks);
+    if a.is_err() {
         clear_scratch(work, marks);
-        return a;
     }
     a
 }
@@ -176,29 +148,18 @@ pub fn ask_structure(
 // Asks a solve's questions, with `sizes` for what it writes.
 pub fn ask_solve(
     form: Form,
-    n: usize,
-    starts: &[u32],
-    columns: &[Index],
-    values: &[f64],
-    r: &[Index],
-    c: &[Index],
-    b: &[f64],
-    floor: f64,
+    input: System<'_>,
     sizes: Sizes,
     work: &mut [f64],
     marks: &mut [u32],
-) -> Asked
+) -> Result<(), Refusal>
     requires { sizes.marks ≡ length marks.old }
-    ensures { SolveAsking form (with_floor floor (input_of n starts.now columns.now values.now r.now c.now b.now)) sizes work.old marks.old work.new marks.new result }
+    ensures { SolveAsking form (lent input.entry) sizes work.old marks.old work.new marks.new result }
 {
-    let shape = shape_solve(form, n, starts, columns, values, r, c, b, sizes);
-    if stops(shape) {
-        return shape;
-    }
-    let a = questions::ask_solve(n, starts, columns, values, r, c, b, floor, marks);
-    if stops(a) {
+    shape_solve(form, input, sizes)?;
+    let a = questions::ask_solve(input, marks);
+    if a.is_err() {
         clear_scratch(work, marks);
-        return a;
     }
     a
 }
@@ -209,8 +170,8 @@ pub fn ask_solve(
 pub fn clear_scratch(work: &mut [f64], marks: &mut [u32])
     ensures { (work.new ≡ blank nought work.old) × (marks.new ≡ blank 0 marks.old) }
 {
-    base::clear_f64(work);
-    base::clear_u32(marks);
+    base::clear(work);
+    base::clear(marks);
 }
 
 // Clears the list starts and the index store of a side where a call is refused.
@@ -218,8 +179,8 @@ pub fn clear_lists_if(refused: bool, starts: &mut [u32], index: &mut [Index])
     ensures { (starts.new ≡ blank_if refused 0 starts.old) × (index.new ≡ blank_if refused 0 index.old) }
 {
     if refused {
-        base::clear_u32(starts);
-        base::clear_index(index);
+        base::clear(starts);
+        base::clear(index);
     }
 }
 
@@ -228,8 +189,8 @@ pub fn clear_runs_if(refused: bool, lower: &mut [u32], upper: &mut [u32])
     ensures { (lower.new ≡ blank_if refused 0 lower.old) × (upper.new ≡ blank_if refused 0 upper.old) }
 {
     if refused {
-        base::clear_u32(lower);
-        base::clear_u32(upper);
+        base::clear(lower);
+        base::clear(upper);
     }
 }
 
@@ -238,24 +199,13 @@ pub fn clear_numbers_if(refused: bool, lower: &mut [f64], upper: &mut [f64], d: 
     ensures { (lower.new ≡ blank_if refused nought lower.old) × (upper.new ≡ blank_if refused nought upper.old) × (d.new ≡ blank_if refused nought d.old) }
 {
     if refused {
-        base::clear_f64(lower);
-        base::clear_f64(upper);
-        base::clear_f64(d);
+        base::clear(lower);
+        base::clear(upper);
+        base::clear(d);
     }
 }
 
 // ---- 12 and 13, and the solution
-
-// Asks 12 and 13 of what the arithmetic came to.
-pub fn fault_of(a: Factored) -> Asked
-    ensures { result ≡ fault_asked a }
-{
-    match a {
-        Factored::Solved => Asked::Pass,
-        Factored::Zero(k) => Asked::Stop(Refusal::ZeroPivot(k)),
-        Factored::Overflow(k) => Asked::Stop(Refusal::Overflow(k)),
-    }
-}
 
 // Writes x from z, which stands in the last n slots of scratch.
 pub fn write_x(n: usize, c: &[Index], work: &[f64], x: &mut [f64])
@@ -270,14 +220,7 @@ pub fn write_x(n: usize, c: &[Index], work: &[f64], x: &mut [f64])
 // run starts where it has none. Another call clears.
 pub fn factor_and_solve(
     form: Form,
-    n: usize,
-    starts: &[u32],
-    columns: &[Index],
-    values: &[f64],
-    r: &[Index],
-    c: &[Index],
-    b: &[f64],
-    floor: f64,
+    input: System<'_>,
     lower_starts: &[u32],
     lower_index: &[Index],
     lower_values: &mut [f64],
@@ -289,88 +232,27 @@ pub fn factor_and_solve(
     x: &mut [f64],
     work: &mut [f64],
     marks: &mut [u32],
-) -> Asked
-    requires { FactorDue form (with_floor floor (input_of n starts.now columns.now values.now r.now c.now b.now)) (lists lower_starts.now lower_index.now upper_starts.now upper_runs.now upper_index.now) (written lower_values.old upper_values.old d.old work.old marks.old) (length x.old) }
-    ensures { Concluded form (with_floor floor (input_of n starts.now columns.now values.now r.now c.now b.now)) result lower_values.new upper_values.new d.new x.old x.new }
+) -> Result<(), Refusal>
+    requires { FactorDue form (lent input) (lists lower_starts.now lower_index.now upper_starts.now upper_runs.now upper_index.now) (written lower_values.old upper_values.old d.old work.old marks.old) (length x.old) }
+    ensures { Concluded form (lent input.entry) result lower_values.new upper_values.new d.new x.old x.new }
 {
-    let factored = factor::factor(
-        form,
-        n,
-        starts,
-        columns,
-        values,
-        r,
-        b,
-        floor,
+    let lists = Lists {
         lower_starts,
         lower_index,
-        lower_values,
         upper_starts,
         upper_runs,
         upper_index,
+    };
+    factor::factor(
+        form,
+        input,
+        lists,
+        lower_values,
         upper_values,
         d,
         work,
         marks,
-    );
-    let fault = fault_of(factored);
-    if stops(fault) {
-        return fault;
-    }
-    write_x(n, c, work, x);
-    fault
-}
-
-// ---- answers by a test. The calls branch on these: a match on an answer beside all buffers is dear to prove.
-
-// Tells whether questions stop the call.
-pub fn stops(a: Asked) -> bool
-    ensures { result ≡ is_stop a }
-{
-    match a {
-        Asked::Pass => false,
-        Asked::Stop(_) => true,
-    }
-}
-
-// Tells whether the structure pass refuses.
-pub fn refuses(a: Answer) -> bool
-    ensures { result ≡ is_refused a }
-{
-    match a {
-        Answer::Done(_) => false,
-        Answer::Refused(_) => true,
-    }
-}
-
-// Gives the answer of a call that ends with these questions, and its counts where they are passed.
-pub fn answer_of(a: Asked, counts: Counts) -> Answer
-    ensures { result ≡ found_answer a counts }
-{
-    match a {
-        Asked::Pass => Answer::Done(counts),
-        Asked::Stop(q) => Answer::Refused(q),
-    }
-}
-
-// Gives the same for a call without counts.
-pub fn end_of(a: Asked) -> Ended
-    ensures { result ≡ end_of a }
-{
-    match a {
-        Asked::Pass => Ended::Done,
-        Asked::Stop(q) => Ended::Refused(q),
-    }
-}
-
-// Gives the refusal of questions that stop the call.
-pub fn refusal(a: Asked) -> Answer
-    ensures { result ≡ found_answer a no_counts }
-{
-    let none = Counts {
-        lower: 0,
-        upper: 0,
-        products: 0,
-    };
-    answer_of(a, none)
+    )?;
+    write_x(input.n, input.c, work, x);
+    Ok(())
 }

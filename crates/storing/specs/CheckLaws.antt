@@ -1,5 +1,5 @@
 -- Comparing: what the code compares is question 14 at k.
-use Rattle.std.specs.Prelude.{ℕ, suc, ◌+◌, ◌-◌, ◌≤◌, ◌<◌, ◌≡◌, refl, Bool, true, false, ◌&&◌, cond, ltb, eqb}
+use Rattle.std.specs.Prelude.{ℕ, suc, ◌+◌, ◌-◌, ◌≤◌, ◌<◌, ◌≡◌, refl, Bool, true, false, ◌&&◌, cond, ltb, eqb, Option, Some, None}
 use Rattle.std.proofs.Math.Path.{sym, ap}
 use Rattle.std.proofs.Common.{◌∙◌, arith, take-append-drop, take-suc, length-take-le, drop-drop}
 use Rattle.std.proofs.Math.Bool.{true≢false}
@@ -26,8 +26,6 @@ use Rattle.storing.specs.StepLaws.{plan-same, fits-same, next-held}
 use Rattle.storing.specs.declared.Way.{Way}
 use Rattle.storing.specs.declared.Plan.{Plan}
 use Rattle.storing.specs.declared.Extent.{Extent}
-use Rattle.storing.specs.declared.Match.{Match}
-use Rattle.storing.specs.declared.Match.TheVariants.{Same, Differs}
 
 four : (a b c d : Bool) → (a && b && c && d) ≡ true → (a ≡ true) × (b ≡ true) × (c ≡ true) × (d ≡ true)
 four a b c d e =
@@ -152,14 +150,14 @@ module _ {way : Way} {T R : ℕ → List ℕ} {n values k : ℕ} {starts runs in
       (λ t. rw t (no_room t))
 
 module _ (way : Way) (starts runs index : List ℕ) (values : ℕ) (row list : List ℕ) (k : ℕ) (s : Extent) where
-  pub check-ends : Ready way starts runs index values row list k s → (r : Match) → r ≡ match_of way starts runs index values row list k s → CheckEnds way starts runs index values row list k s r
+  pub check-ends : Ready way starts runs index values row list k s → (r : Option Extent) → r ≡ match_of way starts runs index values row list k s → CheckEnds way starts runs index values row list k s r
   check-ends y r e = record { answer = e; steps = λ T R n turn. rw e (checked turn y.run_room y.start-room) }
 
-  pub match-no : fits_of way starts runs index values row list k s ≡ false → Differs ≡ match_of way starts runs index values row list k s
+  pub match-no : fits_of way starts runs index values row list k s ≡ false → None ≡ match_of way starts runs index values row list k s
   unfolding match_of
   match-no e = rw e
 
   pub match-fits : (p : Plan) (next : Extent) → Looked way starts runs index values row list k s p next
-      → match_of way starts runs index values row list k s ≡ cond (same_at starts runs index list k s p) (Same next) Differs
+      → match_of way starts runs index values row list k s ≡ cond (same_at starts runs index list k s p) (Some next) None
   unfolding match_of
   match-fits p next w = rw (w.fits, ← w.is, w.next-is)

@@ -1,5 +1,5 @@
 -- Steps 1 to 3, by what the code finds.
-use Rattle.std.specs.Prelude.{ℕ, ◌+◌, ◌-◌, ◌≤◌, ◌<◌, ◌≡◌, refl, List, [], get_or, eqb}
+use Rattle.std.specs.Prelude.{ℕ, ◌+◌, ◌-◌, ◌≤◌, ◌<◌, ◌≡◌, refl, List, [], get_or, eqb, Some, None}
 use Rattle.std.proofs.Common.{ap}
 use native.Mathlib.Omega.{arith}
 use Rattle.std.proofs.Math.ListN.{length}
@@ -14,7 +14,6 @@ use Rattle.storing.specs.Slices.{AllTailed, full_at, IsTail, TailIn, as_plan, he
 use Rattle.storing.specs.LoopLaws.{overlap-within}
 use Rattle.storing.specs.TailLaws.{found-tail, found_none}
 use Rattle.base.specs.First.{first}
-use Rattle.base.specs.declared.Found.TheVariants.{At, Nothing}
 use Rattle.storing.specs.declared.Way.{Way}
 use Rattle.storing.specs.declared.Way.TheVariants.{OneAfterAnother, Sharing}
 use Rattle.storing.specs.declared.Plan.{Plan}
@@ -46,19 +45,19 @@ module _ (starts runs slots : List ℕ) (last k : ℕ) (row list : List ℕ) whe
 
   module _ (ne : length list ≡ 0 → ⊥) (all : AllTailed starts runs slots k (length list) row) where
     -- step 2, by the index of the first place whose list is long enough
-    pub tail-found : (j : ℕ) → first (full_at starts runs slots k (length list) row) (length row) ≡ At j → (j < length row) × TailIn starts runs slots (get_or row j 0) (length list)
+    pub tail-found : (j : ℕ) → first (full_at starts runs slots k (length list) row) (length row) ≡ Some j → (j < length row) × TailIn starts runs slots (get_or row j 0) (length list)
     tail-found j e =
         let q = found-tail starts runs slots k (length list) row all (omega (arith, ne)) j e in
         (q.0, tail_at ne (get_or row j 0) (length list) q.1 refl all)
 
-    pub plan-found : (j : ℕ) → first (full_at starts runs slots k (length list) row) (length row) ≡ At j
+    pub plan-found : (j : ℕ) → first (full_at starts runs slots k (length list) row) (length row) ≡ Some j
         → (start : ℕ) → start ≡ get_or runs (get_or row j 0) 0 + (length (list_at starts runs slots (get_or row j 0)) - length list)
         → record { start = start; have = length list } ≡ as_plan (plan_over Sharing starts runs slots last k row list)
     plan-found j e start h =
         let q = found-tail starts runs slots k (length list) row all (omega (arith, ne)) j e in
         plan-tail ne (get_or row j 0) (length list) q.1 refl start h
 
-    pub plan-none : first (full_at starts runs slots k (length list) row) (length row) ≡ Nothing → plan_over Sharing starts runs slots last k row list ≡ overlap (held slots [] last) list
+    pub plan-none : first (full_at starts runs slots k (length list) row) (length row) ≡ None → plan_over Sharing starts runs slots last k row list ≡ overlap (held slots [] last) list
     plan-none e =
         let b = best (tails (list_at starts runs slots) k) row in
         plan-over ne b.at b.most (record { at-is = refl; most-is = refl }) (λ q. absurd (omega (arith, found_none starts runs slots k (length list) row all (omega (arith, ne)) e)))

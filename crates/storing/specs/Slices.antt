@@ -1,5 +1,5 @@
 -- What the contracts say: the definitions of the placing over what the lent slices hold. Definitions only.
-use Rattle.std.specs.Prelude.{ℕ, ◌+◌, ◌-◌, ◌≤◌, ◌<◌, ◌≡◌, Bool, ◌&&◌, cond, length, take, drop, get_or, set, ltb, leb, eqb}
+use Rattle.std.specs.Prelude.{ℕ, ◌+◌, ◌-◌, ◌≤◌, ◌<◌, ◌≡◌, Bool, ◌&&◌, cond, length, take, drop, get_or, set, ltb, leb, eqb, Option, Some, None}
 use mathlib.Core.List.{List, Memᴰ}
 use Rattle.std.proofs.Math.Seq.{paste}
 use Rattle.base.specs.Lists.{list_at}
@@ -12,12 +12,6 @@ use Rattle.storing.specs.declared.Way.{Way}
 use Rattle.storing.specs.declared.Way.TheVariants.{OneAfterAnother, Sharing}
 use Rattle.storing.specs.declared.Plan.{Plan}
 use Rattle.storing.specs.declared.Extent.{Extent}
-use Rattle.storing.specs.declared.Look.{Look}
-use Rattle.storing.specs.declared.Look.TheVariants.{Fits, Short}
-use Rattle.storing.specs.declared.Put.{Put}
-use Rattle.storing.specs.declared.Put.TheVariants.{Done, Full}
-use Rattle.storing.specs.declared.Match.{Match}
-use Rattle.storing.specs.declared.Match.TheVariants.{Same, Differs}
 use Rattle.base.specs.Index.{index_bound}
 
 -- place i's list ascends, and has at most count entries above k
@@ -101,9 +95,9 @@ module _ (way : Way) (starts runs index : List ℕ) (values : ℕ) (row list : L
         entries = s.entries + length list;
       }
 
-  -- where the list would go, or that it does not fit
-  unfoldable pub look_of : Look
-  look_of = cond fits_of (Fits (as_plan plan_of) extent_of) Short
+  -- where the list would go and how much is placed then, if it fits
+  unfoldable pub look_of : Option (Plan × Extent)
+  look_of = cond fits_of (Some (as_plan plan_of, extent_of)) None
 
 -- ---- writing
 
@@ -121,8 +115,8 @@ pub record WrittenBy (starts index list : List ℕ) (k : ℕ) (s : Extent) (have
   pub starts-are : starts' ≡ set starts (k + 1) (s.entries + length list)
 
 -- the answer of placing place k's list, and the index store and the list starts at exit
-pub record Writes (way : Way) (starts runs index : List ℕ) (values : ℕ) (row list : List ℕ) (k : ℕ) (s : Extent) (r : Put) (starts' index' : List ℕ) : Type 0 where
-  pub answer : r ≡ cond (fits_of way starts runs index values row list k s) (Done (extent_of way starts runs index values row list k s)) Full
+pub record Writes (way : Way) (starts runs index : List ℕ) (values : ℕ) (row list : List ℕ) (k : ℕ) (s : Extent) (r : Option Extent) (starts' index' : List ℕ) : Type 0 where
+  pub answer : r ≡ cond (fits_of way starts runs index values row list k s) (Some (extent_of way starts runs index values row list k s)) None
   pub index_is : index' ≡ cond (fits_of way starts runs index values row list k s)
       (paste index s.used (drop (plan_of way starts runs index values row list k s).have list) (length list - (plan_of way starts runs index values row list k s).have))
       index
@@ -145,8 +139,8 @@ same_at starts runs index list k s p =
     && agree (take (length list - p.have) (drop s.used index)) (drop p.have list)
 
 -- the answer of comparing
-unfoldable pub match_of : Way → List ℕ → List ℕ → List ℕ → ℕ → List ℕ → List ℕ → ℕ → Extent → Match
+unfoldable pub match_of : Way → List ℕ → List ℕ → List ℕ → ℕ → List ℕ → List ℕ → ℕ → Extent → Option Extent
 match_of way starts runs index values row list k s =
     cond (fits_of way starts runs index values row list k s)
-    (cond (same_at starts runs index list k s (as_plan (plan_of way starts runs index values row list k s))) (Same (extent_of way starts runs index values row list k s)) Differs)
-    Differs
+    (cond (same_at starts runs index list k s (as_plan (plan_of way starts runs index values row list k s))) (Some (extent_of way starts runs index values row list k s)) None)
+    None

@@ -1,5 +1,5 @@
 -- One turn: from the stores that hold the lists before place k to those that hold its list too.
-use Rattle.std.specs.Prelude.{ℕ, suc, ◌+◌, ◌-◌, ◌≤◌, ◌<◌, ◌≡◌, refl, true, false, get_or, take, drop, set, eqb}
+use Rattle.std.specs.Prelude.{ℕ, suc, ◌+◌, ◌-◌, ◌≤◌, ◌<◌, ◌≡◌, refl, true, false, get_or, take, drop, set, eqb, Option, Some, None}
 use Rattle.std.proofs.Common.{sym, ap, ◌∙◌, true≢false, arith, add-one, length-drop, take-suc-set, take-suc, drop-drop, eqb-true}
 use mathlib.Core.List.{List, [], ◌∷◌, ◌++◌, Memᴰ}
 use Rattle.std.proofs.Math.ListN.{length}
@@ -25,8 +25,6 @@ use Rattle.storing.specs.declared.Way.{Way}
 use Rattle.storing.specs.declared.Way.TheVariants.{OneAfterAnother, Sharing}
 use Rattle.storing.specs.declared.Plan.{Plan}
 use Rattle.storing.specs.declared.Extent.{Extent}
-use Rattle.storing.specs.declared.Put.{Put}
-use Rattle.storing.specs.declared.Put.TheVariants.{Done, Full}
 
 -- ---- the two ways
 
@@ -161,53 +159,53 @@ module _ {way : Way} {T R : ℕ → List ℕ} {n values k : ℕ} {index₀ start
       let m = length list - have in
       rw (take_rest have list, slots_same turn.held, past-used (placed (way_of way) T R k).slots index index₀ s.used m turn.held.slots-are turn.held.used-is, plan-same, turn.list-is)
 
-  pub stepped : (r : Put) (starts' runs' index' : List ℕ) → Writes way starts runs index values row list k s r starts' index' → k + 1 < length starts
+  pub stepped : (r : Option Extent) (starts' runs' index' : List ℕ) → Writes way starts runs index values row list k s r starts' index' → k + 1 < length starts
       → (fits_of way starts runs index values row list k s ≡ true → take (suc k) runs' ≡ take k runs ++ ((plan_of way starts runs index values row list k s).start ∷ []))
       → Stepped way T R values k index₀ starts' runs' index' r
   stepped r starts' runs' index' w l f =
       by-test (fits_of way starts runs index values row list k s)
       (λ t.
-      let e : r ≡ Done (extent_of way starts runs index values row list k s) = w.answer ∙ rw t in
+      let e : r ≡ Some (extent_of way starts runs index values row list k s) = w.answer ∙ rw t in
       let g : starts' ≡ set starts (k + 1) (s.entries + length list) = w.starts-are ∙ rw t in
       rw e (
         sym fits-same ∙ t,
         next-held t starts' runs' index' (w.index_is ∙ rw t written-slots) (f t)
             (ap (take (suc (suc k))) g ∙ rw (add-one) (take-suc-set starts (suc k) (s.entries + length list) (omega arith))),
       ))
-      (λ t. let e : r ≡ Full = w.answer ∙ rw t in rw e (sym fits-same ∙ t))
+      (λ t. let e : r ≡ None = w.answer ∙ rw t in rw e (sym fits-same ∙ t))
 
 -- ---- what the calls that write promise
 
 module _ (way : Way) (starts runs index : List ℕ) (values : ℕ) (row list : List ℕ) (k : ℕ) (s : Extent) where
-  pub writes-full : fits_of way starts runs index values row list k s ≡ false → Writes way starts runs index values row list k s Full starts index
+  pub writes-full : fits_of way starts runs index values row list k s ≡ false → Writes way starts runs index values row list k s None starts index
   writes-full e = record { answer = rw e; index_is = rw e; starts-are = rw e }
 
   pub writes-done : (p : Plan) (next : Extent) → Looked way starts runs index values row list k s p next → (starts' index' : List ℕ)
-      → WrittenBy starts index list k s p.have starts' index' → Writes way starts runs index values row list k s (Done next) starts' index'
+      → WrittenBy starts index list k s p.have starts' index' → Writes way starts runs index values row list k s (Some next) starts' index'
   writes-done p next w starts' index' b =
       let h : p.have ≡ (plan_of way starts runs index values row list k s).have = ap (λ x. x.have) w.is in
       record { answer = rw (w.fits, w.next-is); index_is = rw (w.fits, ← h) b.index_is; starts-are = rw w.fits b.starts-are }
 
   pub place-done : Ready way starts runs index values row list k s → (p : Plan) (next : Extent) → Looked way starts runs index values row list k s p next
       → (starts' runs' index' : List ℕ) → WrittenBy starts index list k s p.have starts' index' → runs' ≡ set runs k p.start
-      → PlaceEnds way starts runs index values row list k s (Done next) starts' runs' index'
+      → PlaceEnds way starts runs index values row list k s (Some next) starts' runs' index'
   place-done y p next w starts' runs' index' b e =
       let h : p.start ≡ (plan_of way starts runs index values row list k s).start = ap (λ x. x.start) w.is in
       let v = writes-done p next w starts' index' b in
       record {
         writes = v;
         runs-are = rw (w.fits, ← h) e;
-        steps = λ T R n index₀ turn. stepped turn (Done next) starts' runs' index' v y.start-room (λ t. rw (← h) (ap (take (suc k)) e ∙ take-suc-set runs k p.start y.run_room));
+        steps = λ T R n index₀ turn. stepped turn (Some next) starts' runs' index' v y.start-room (λ t. rw (← h) (ap (take (suc k)) e ∙ take-suc-set runs k p.start y.run_room));
       }
 
   pub place-full : Ready way starts runs index values row list k s → fits_of way starts runs index values row list k s ≡ false
-      → PlaceEnds way starts runs index values row list k s Full starts runs index
+      → PlaceEnds way starts runs index values row list k s None starts runs index
   place-full y e =
       let v = writes-full e in
       record {
         writes = v;
         runs-are = rw e;
-        steps = λ T R n index₀ turn. stepped turn Full starts runs index v y.start-room (λ t. absurd (true≢false (sym t ∙ e)));
+        steps = λ T R n index₀ turn. stepped turn None starts runs index v y.start-room (λ t. absurd (true≢false (sym t ∙ e)));
       }
 
 -- in the plain way list start k is where k's run starts
@@ -224,13 +222,13 @@ plain-run {T} {R} {n} {values} {k} {index₀} {starts} {index} {row} {list} {s} 
 module _ (starts index : List ℕ) (values : ℕ) (list : List ℕ) (k : ℕ) (s : Extent) where
   pub plain_done : Ready OneAfterAnother starts starts index values list list k s → (p : Plan) (next : Extent)
       → Looked OneAfterAnother starts starts index values list list k s p next
-      → (starts' index' : List ℕ) → WrittenBy starts index list k s p.have starts' index' → PlainEnds starts index values list k s (Done next) starts' index'
+      → (starts' index' : List ℕ) → WrittenBy starts index list k s p.have starts' index' → PlainEnds starts index values list k s (Some next) starts' index'
   plain_done y p next w starts' index' b =
       let v = writes-done OneAfterAnother starts starts index values list list k s p next w starts' index' b in
-      record { writes = v; steps = λ T R n index₀ turn. stepped turn (Done next) starts' starts' index' v y.start-room (λ t. plain-run starts' turn b.starts-are) }
+      record { writes = v; steps = λ T R n index₀ turn. stepped turn (Some next) starts' starts' index' v y.start-room (λ t. plain-run starts' turn b.starts-are) }
 
   pub plain-full : Ready OneAfterAnother starts starts index values list list k s → fits_of OneAfterAnother starts starts index values list list k s ≡ false
-      → PlainEnds starts index values list k s Full starts index
+      → PlainEnds starts index values list k s None starts index
   plain-full y e =
       let v = writes-full OneAfterAnother starts starts index values list list k s e in
-      record { writes = v; steps = λ T R n index₀ turn. stepped turn Full starts starts index v y.start-room (λ t. absurd (true≢false (sym t ∙ e))) }
+      record { writes = v; steps = λ T R n index₀ turn. stepped turn None starts starts index v y.start-room (λ t. absurd (true≢false (sym t ∙ e))) }

@@ -1,5 +1,5 @@
 -- Step 2: the first place of the row whose list has as many entries above k as k's list, by one entry of each list.
-use Rattle.std.specs.Prelude.{ℕ, zero, suc, ◌+◌, ◌-◌, ◌≤◌, ◌<◌, ◌≡◌, refl, false, List, [], ◌∷◌, ◌++◌, length, take, drop, ltb, eqb}
+use Rattle.std.specs.Prelude.{ℕ, zero, suc, ◌+◌, ◌-◌, ◌≤◌, ◌<◌, ◌≡◌, refl, false, List, [], ◌∷◌, ◌++◌, length, take, drop, ltb, eqb, Some, None}
 use Rattle.std.proofs.Math.Path.{sym, ap}
 use Rattle.std.proofs.Common.{◌∙◌, arith, length-drop, take-append-drop, drop-cons}
 use Rattle.std.proofs.Math.ListN.{get_or}
@@ -8,7 +8,6 @@ use Rattle.base.specs.Lists.{list_at}
 use Rattle.base.specs.First.{first}
 use Rattle.base.specs.FirstLaws.{first_found, first-none}
 use Rattle.base.specs.Tests.{by-test, true-ext}
-use Rattle.base.specs.declared.Found.TheVariants.{At, Nothing}
 use Rattle.placement.specs.Placing.{count_above, tails, best_from, best}
 use Rattle.placement.specs.ListLaws.{Ascends, count-all, count-tail, count-le}
 use Rattle.base.specs.AscLaws.{mem-at}
@@ -92,7 +91,7 @@ module _ (starts runs slots : List ℕ) (k count : ℕ) (row : List ℕ) (all : 
   unfolding full_at
   less j l e = omega (arith, at_most j l, eqb-false (tails (list_at starts runs slots) k (get_or row j 0)) count e)
 
-  pub found-tail : (j : ℕ) → first (full_at starts runs slots k count row) (length row) ≡ At j
+  pub found-tail : (j : ℕ) → first (full_at starts runs slots k count row) (length row) ≡ Some j
       → (j < length row) × IsTail (best (tails (list_at starts runs slots) k) row) (get_or row j 0) count
   unfolding full_at
   found-tail j e =
@@ -101,6 +100,6 @@ module _ (starts runs slots : List ℕ) (k count : ℕ) (row : List ℕ) (all : 
       (λ l h. less l (omega (arith, r.0)) (first-none (full_at starts runs slots k count row) j r.2 l h)) at_most in
       (r.0, record { at-is = sym (ap (λ t. t.at) b); most-is = sym (ap (λ t. t.most) b) })
 
-  pub found_none : first (full_at starts runs slots k count row) (length row) ≡ Nothing → (best (tails (list_at starts runs slots) k) row).most < count
+  pub found_none : first (full_at starts runs slots k count row) (length row) ≡ None → (best (tails (list_at starts runs slots) k) row).most < count
   found_none e =
       best_none (tails (list_at starts runs slots) k) count 0 0 row pos (λ j l. less j l (first-none (full_at starts runs slots k count row) (length row) e j l))

@@ -2,18 +2,19 @@
 // starts the list starts and runs the run starts. In the plain form the list starts are the run starts.
 #![tactic(auto)]
 
-ghost use Rattle.std.specs.Prelude.{◌≡◌, ◌+◌, ◌-◌, ◌≤◌, ◌<◌, min, cond, [], ltb, eqb, length, get_or};
+ghost use Rattle.std.specs.Prelude.{◌≡◌, ◌+◌, ◌-◌, ◌≤◌, ◌<◌, ◌==◌, cond, [], ltb, eqb, length, get_or};
+ghost use Rattle.std.specs.List.{position, list_all, zip};
 ghost use Rattle.std.proofs.Math.Seq.{paste};
 ghost use Rattle.base.specs.Lists.{list_at};
 ghost use Rattle.base.specs.First.{first};
 ghost use Rattle.base.specs.Index.{index_bound};
 ghost use Rattle.lent.specs.Reading.{Below};
-ghost use Rattle.placement.specs.Placing.{tails, first_at, agree, fresh, overlap};
+ghost use Rattle.placement.specs.Placing.{tails, fresh, overlap};
 ghost use Rattle.storing.specs.Slices.{Tailed, AllTailed, full_at, as_plan, TailIn, held, Planning, plan_over, Planned, Ready, look_of, Writable, WrittenBy, Standing, same_at};
 ghost use Rattle.storing.specs.Held.{PlaceEnds, PlainEnds, CheckEnds};
 ghost use Rattle.storing.specs.declared.Way.{Way};
 
-use base::{Found, Index, Place};
+use base::{Index, Place};
 
 // How the lists of a side stand in their index store.
 #[derive(Clone, Copy)]
@@ -54,59 +55,31 @@ fn full_tail(
     row: &[u32],
     k: Place,
     count: usize,
-) -> Found
+) -> Option<usize>
     requires all_tailed { AllTailed starts.now runs.now slots.now k.0 count row.now }
     requires count_nonzero { 0 < count }
     ensures { result ≡ first (full_at starts.now runs.now slots.now k.0 count row.now) (length row.now) }
 {
-    let mut j: usize = 0;
-    while j < row.len() {
-        let i = Place(row[j]);
-        if has_tail(starts, runs, slots, i, k, count) {
-            return Found::At(j);
+    for (j, &i) in row.iter().enumerate() {
+        if has_tail(starts, runs, slots, Place(i), k, count) {
+            return Some(j);
         }
-        j += 1;
     }
-    Found::Nothing
+    None
 }
 
-// The index of the first entry that is x, or the length.
-fn first_at(s: &[Index], x: u32) -> usize
-    ensures { result ≡ first_at x s.now }
+// The index of the first entry that is x.
+fn first_at(s: &[Index], x: u32) -> Option<usize>
+    ensures { result ≡ position (λ y. y == x) s.now }
 {
-    let mut j: usize = 0;
-    while j < s.len() {
-        if base::number(s[j]) == x {
-            return j;
-        }
-        j += 1;
-    }
-    j
-}
-
-// The smaller of two numbers.
-fn smaller(a: usize, b: usize) -> usize
-    ensures { result ≡ min a b }
-{
-    if a < b {
-        return a;
-    }
-    b
+    s.iter().position(|&y| u32::from(y) == x)
 }
 
 // Do the two lists agree as far as both go?
 fn agrees(s: &[Index], t: &[u32]) -> bool
-    ensures { result ≡ agree s.now t.now }
+    ensures { result ≡ list_all (λ p. p.0 == p.1) (zip s.now t.now) }
 {
-    let end = smaller(s.len(), t.len());
-    let mut j: usize = 0;
-    while j < end {
-        if base::number(s[j]) != t[j] {
-            return false;
-        }
-        j += 1;
-    }
-    true
+    s.iter().zip(t).all(|(&x, &y)| u32::from(x) == y)
 }
 
 // Where a list's run starts, and how many of its entries stand there already; the others are appended.
@@ -131,14 +104,14 @@ fn overlap_plan(slots: &[Index], last: usize, list: &[u32]) -> Plan
     requires { (last ≤ length slots.now) × (0 < length list.now) }
     ensures { result ≡ as_plan (overlap (held slots.now [] last) list.now) }
 {
-    let p = last + first_at(&slots[last..], list[0]);
-    if slots.len() <= p {
+    let Some(j) = first_at(&slots[last..], list[0]) else {
         return fresh_plan(slots, list);
-    }
+    };
+    let p = last + j;
     if agrees(&slots[p..], list) {
         return Plan {
             start: p,
-            have: smaller(list.len(), slots.len() - p),
+            have: list.len().min(slots.len() - p),
         };
     }
     fresh_plan(slots, list)
@@ -165,14 +138,14 @@ fn shared_plan(
     }
     let found = full_tail(starts, runs, slots, row, k, list.len());
     match found {
-        Found::At(j) => {
+        Some(j) => {
             let i = Place(row[j]);
             Plan {
                 start: tail_start(starts, runs, slots, i, list.len()),
                 have: list.len(),
             }
         }
-        Found::Nothing => overlap_plan(slots, last, list),
+        None => overlap_plan(slots, last, list),
     }
 }
 
@@ -213,15 +186,13 @@ fn append(index: &mut [Index], used: usize, rest: &[u32])
     requires below { Below index_bound rest.now }
     ensures { index.new ≡ paste index.old used rest.now (length rest.now) }
 {
-    let mut j: usize = 0;
-    while j < rest.len() {
-        index[used + j] = base::narrow(rest[j]);
-        j += 1;
+    for (j, &x) in rest.iter().enumerate() {
+        index[used + j] = base::narrow(x);
     }
 }
 
 // How much is placed on a side: the used slots of the index store, where the last run starts, and the entries of the lists.
-#[derive(Clone, Copy)]
+#[derive(Clone, Copy, Default)]
 pub struct Extent {
     pub used: usize,
     pub last: usize,
@@ -238,14 +209,8 @@ fn last_run(plan: Plan, count: usize, last: usize) -> usize
     last
 }
 
-// Where a list would go and how much is placed then, or that the stores have no room for it.
-#[derive(Clone, Copy)]
-pub enum Look {
-    Fits(Plan, Extent),
-    Short,
-}
-
-// Where place k's list would go, and does it fit? Nothing is written: placing and comparing both start from this.
+// Where place k's list would go and how much is placed then, or none where the stores have no room for it. Nothing is written:
+// placing and comparing both start from this.
 fn look_for(
     way: Way,
     starts: &[u32],
@@ -256,7 +221,7 @@ fn look_for(
     list: &[u32],
     k: Place,
     s: Extent,
-) -> Look
+) -> Option<(Plan, Extent)>
     requires { Ready way starts.now runs.now index.now values row.now list.now k.0 s }
     ensures { result ≡ look_of way starts.now runs.now index.now values row.now list.now k.0 s }
 {
@@ -265,20 +230,18 @@ fn look_for(
     let plan = plan_list(way, starts, runs, &index[..used], s.last, k, row, list);
     let lack = list.len() - plan.have;
     if index.len() - used < lack {
-        return Look::Short;
+        return None;
     }
     if values - entries < list.len() {
-        return Look::Short;
+        return None;
     }
     let last = last_run(plan, list.len(), s.last);
-    Look::Fits(
-        plan,
-        Extent {
-            used: used + lack,
-            last,
-            entries: entries + list.len(),
-        },
-    )
+    let next = Extent {
+        used: used + lack,
+        last,
+        entries: entries + list.len(),
+    };
+    Some((plan, next))
 }
 
 // What place k's list lacks goes after the used slots, and its values end where list start k + 1 says.
@@ -299,14 +262,7 @@ fn write_list(
     starts[p + 1] = number32(s.entries + list.len());
 }
 
-// The answer of placing a list: how much is placed now, or that the stores have no room for it.
-#[derive(Clone, Copy)]
-pub enum Put {
-    Done(Extent),
-    Full,
-}
-
-// Puts place k's list into the stores, if it fits the index store and the value store.
+// Puts place k's list into the stores, if it fits the index store and the value store: how much is placed then.
 pub fn place_list(
     way: Way,
     starts: &mut [u32],
@@ -317,21 +273,15 @@ pub fn place_list(
     list: &[u32],
     k: Place,
     s: Extent,
-) -> Put
+) -> Option<Extent>
     requires { Ready way starts.old runs.old index.old values row.now list.now k.0 s }
     ensures { PlaceEnds way starts.old runs.old index.old values row.now list.now k.0 s result starts.new runs.new index.new }
 {
-    let found = look_for(way, starts, runs, index, values, row, list, k, s);
-    match found {
-        Look::Fits(plan, next) => {
-            let have = plan.have;
-            write_list(starts, index, list, k, s, have);
-            let p = base::slot(k.0);
-            runs[p] = number32(plan.start);
-            Put::Done(next)
-        }
-        Look::Short => Put::Full,
-    }
+    let (plan, next) = look_for(way, starts, runs, index, values, row, list, k, s)?;
+    write_list(starts, index, list, k, s, plan.have);
+    let p = base::slot(k.0);
+    runs[p] = number32(plan.start);
+    Some(next)
 }
 
 // Puts the list there in the plain form, which has no run starts: the list starts are the run starts.
@@ -342,11 +292,11 @@ pub fn append_list(
     list: &[u32],
     k: Place,
     s: Extent,
-) -> Put
+) -> Option<Extent>
     requires { Ready Way.OneAfterAnother starts.old starts.old index.old values list.now list.now k.0 s }
     ensures { PlainEnds starts.old index.old values list.now k.0 s result starts.new index.new }
 {
-    let found = look_for(
+    let (plan, next) = look_for(
         Way::OneAfterAnother,
         starts,
         starts,
@@ -356,22 +306,9 @@ pub fn append_list(
         list,
         k,
         s,
-    );
-    match found {
-        Look::Fits(plan, next) => {
-            let have = plan.have;
-            write_list(starts, index, list, k, s, have);
-            Put::Done(next)
-        }
-        Look::Short => Put::Full,
-    }
-}
-
-// The answer of comparing: how much is placed then, or that the stores hold something else.
-#[derive(Clone, Copy)]
-pub enum Match {
-    Same(Extent),
-    Differs,
+    )?;
+    write_list(starts, index, list, k, s, plan.have);
+    Some(next)
 }
 
 // Do the starts of place k and the slots from the used ones on hold what placing would write?
@@ -397,7 +334,7 @@ fn stands(
         & agrees(&index[used..end], &list[have..])
 }
 
-// Tells whether the stores hold place k's list where placing would put it. Nothing is written.
+// How much is placed then, if the stores hold place k's list where placing would put it. Nothing is written.
 pub fn check_list(
     way: Way,
     starts: &[u32],
@@ -408,18 +345,13 @@ pub fn check_list(
     list: &[u32],
     k: Place,
     s: Extent,
-) -> Match
+) -> Option<Extent>
     requires { Ready way starts.now runs.now index.now values row.now list.now k.0 s }
     ensures { CheckEnds way starts.now runs.now index.now values row.now list.now k.0 s result }
 {
-    let found = look_for(way, starts, runs, index, values, row, list, k, s);
-    match found {
-        Look::Fits(plan, next) => {
-            if stands(starts, runs, index, list, k, s, plan) {
-                return Match::Same(next);
-            }
-            Match::Differs
-        }
-        Look::Short => Match::Differs,
+    let (plan, next) = look_for(way, starts, runs, index, values, row, list, k, s)?;
+    if stands(starts, runs, index, list, k, s, plan) {
+        return Some(next);
     }
+    None
 }

@@ -1,20 +1,21 @@
 -- What each function's proof applies, over plain lists: the steps of place k with the tests that the code makes, and the whole for given factors.
-use Rattle.std.specs.Prelude.{◌≡◌, Bool, true, false, ℕ, ◌+◌, ◌-◌, ◌*◌, ◌<◌, set, take, Float}
+use Rattle.std.specs.Prelude.{◌≡◌, Bool, true, false, ℕ, ◌+◌, ◌-◌, ◌*◌, ◌<◌, set, take, Result, Ok, Err, MatchResult, IsErr, IsErrAnd, is_ok, ⊤, Float}
 use Rattle.std.proofs.Math.Path.{refl, ap}
-use Rattle.std.proofs.Common.{sym, ◌∙◌, arith, length-drop, take_at, drop_at}
+use Rattle.std.proofs.Common.{sym, ◌∙◌, true≢false, arith, length-drop, take_at, drop_at}
 use mathlib.Core.List.{List, [], ◌++◌}
 use Rattle.std.proofs.Math.ListN.{length, get_or, drop}
 use Rattle.std.specs.Float.{nan, binary64}
 use Rattle.std.specs.Float.Ieee.{mul}
 use Rattle.std.specs.Float.Ieee.Scale.{finite}
 use Rattle.base.specs.Lists.{table, blank, list_at, nought}
-use Rattle.base.specs.Answers.{spot}
+use Rattle.base.specs.Answers.{spot, Asked}
 use Rattle.base.specs.Scratch.{z_from}
+use Rattle.base.specs.declared.Refusal.{Refusal}
+use Rattle.base.specs.declared.Refusal.TheVariants.{Overflow}
 use Rattle.base.specs.declared.OwnNumber.{OwnNumber}
 use Rattle.base.specs.declared.Form.{Form}
 use Rattle.base.specs.declared.Form.TheVariants.{Plain, Shared, ByRow}
 use Rattle.base.specs.declared.Side.TheVariants.{Lower}
-use Rattle.base.specs.declared.Asked.{Asked}
 use Rattle.lent.specs.Reading.{Below, own_at}
 use Rattle.matrix.specs.Input.{input_of, right_at}
 use Rattle.arithmetic.specs.Arith.{Out, ok, met, overflow}
@@ -22,8 +23,7 @@ use Rattle.arithmetic.specs.Again.{Factors}
 use Rattle.arithmetic.specs.Stopping.{any, at, subtract, sum_less, back, again, solved_again}
 use Rattle.numeric.specs.Stores.{store_given, numbered_back}
 use Rattle.lent.specs.ReadingLaws.{take_rest}
-use Rattle.numeric.specs.declared.Back.{Back}
-use Rattle.numeric.specs.declared.Back.TheVariants.{Complete, Stopped}
+use Rattle.factor.specs.TurnLaws.{handed-on}
 use Rattle.factor.specs.EndLaws.{stopped-below}
 use Rattle.outcome.specs.Buffers.{SideBuffers}
 use Rattle.outcome.specs.Resolve.{given_list, given_values, factors_of}
@@ -115,36 +115,38 @@ module _ (f : Form) (n : ℕ) (r : List ℕ) (b : List Float) (l u : SideBuffers
       let size : length w₀ ≡ 3 * n = omega (arith, P.ready.scratch) in
       sweep-start f n given l (right_at (input_of n [] [] [] r [] b)) (sums ++ drop n zeros) (λ j. refl) (rw (es, ez, size))
 
-  module _ (a : Back) (w : List Float) (h : Swept f n given l a w) where
-    pub ends-early : (k : ℕ) (z : List Float) → a ≡ Stopped k → (numbered_back z (Stopped k) ≡ solved_again given) × (k < n)
-    ends-early k z e = let g : Swept f n given l (Stopped k) w = rw e at h in (sweep-stopped given n (overflow k) size_is g.1, g.0)
+  module _ (w : List Float) where
+    -- `?` hands the place on
+    pub ends-early : (k : ℕ) (z : List Float) (o : Result ⊤ ℕ) → IsErr o → IsErrAnd o (λ x. x ≡ k) → Swept f n given l (Err k) w → (numbered_back z o ≡ solved_again given) × StoppedBelow n o
+    ends-early k z o e q h = rw (← handed-on o k e q) (sweep-stopped given n (overflow k) size_is h.1, h.0)
 
-    swept : a ≡ Complete → Sweep f n given l n w
-    swept e = rw e at h
+    module _ (swept : Sweep f n given l n w) where
+      pub ys-fine : (k : ℕ) → k < n → finite (get_or w (n + k) nan) ≡ true
+      ys-fine = swept.fine
 
-    pub ys-fine : a ≡ Complete → (k : ℕ) → k < n → finite (get_or w (n + k) nan) ≡ true
-    ys-fine e = (swept e).fine
+      module _ (o : Result ⊤ ℕ) (z : List Float) (g : numbered_back z o ≡ back (store_given n w u.starts u.runs u.index u.values) n (drop (z_from n) w)) where
+        pub ends : numbered_back z o ≡ solved_again given
+        ends = sweep-solved f n given l u w z o size_is swept upper_is u-is g
 
-    module _ (e : a ≡ Complete) (o : Back) (z : List Float) (g : numbered_back z o ≡ back (store_given n w u.starts u.runs u.index u.values) n (drop (z_from n) w)) where
-      pub ends : numbered_back z o ≡ solved_again given
-      ends = sweep-solved f n given l u w z o size_is (swept e) upper_is u-is g
-
-      pub ends-below : StoppedBelow n o
-      ends-below = below o g
-        where
-          below : (o : Back) → numbered_back z o ≡ back (store_given n w u.starts u.runs u.index u.values) n (drop (z_from n) w) → StoppedBelow n o
-          below Complete g = tt
-          below (Stopped k) g = stopped-below (store_given n w u.starts u.runs u.index u.values) n k (drop (z_from n) w) g
+        pub ends-below : StoppedBelow n o
+        ends-below = below o g
+          where
+            below : (o : Result ⊤ ℕ) → numbered_back z o ≡ back (store_given n w u.starts u.runs u.index u.values) n (drop (z_from n) w) → StoppedBelow n o
+            below (Ok t) g = tt
+            below (Err k) g = stopped-below (store_given n w u.starts u.runs u.index u.values) n k (drop (z_from n) w) g
 
 -- ---- question 13
 
--- c is what the answer is found to be
-pub stop-below : (n k : ℕ) (a : Back) → a ≡ Stopped k → StoppedBelow n a → k < n
+pub stop-below : (n k : ℕ) (a : Result ⊤ ℕ) → a ≡ Err k → StoppedBelow n a → k < n
 stop-below n k a e h = rw e at h
 
-pub asked-as : (a c : Back) (o : Asked) → a ≡ c → o ≡ back_asked c → o ≡ back_asked a
-asked-as a c o e h = rw e h
+-- a is what the steps came to, o the answer that is made of it
+pub asked-as : {P : ℕ → Refusal → Type 0} (a : Result ⊤ ℕ) (o : Asked) → ((k : ℕ) (q : Refusal) → P k q → q ≡ Overflow (spot k))
+    → MatchResult a (λ t. o ≡ Ok t) (λ k. IsErrAnd o (P k)) → is_ok o ≡ is_ok a → o ≡ back_asked a
+asked-as (Ok t) o g h e = h
+asked-as (Err k) (Ok u) g h e = absurd (true≢false e)
+asked-as (Err k) (Err q) g h e = ap Err (g k q h)
 
-pub asked-13 : (o : Out (List Float)) (z : List Float) (b : Back) (a : Asked) → numbered_back z b ≡ o → a ≡ back_asked b → Solved o a z
-asked-13 o z Complete a e h = rw (← e) (h, refl)
-asked-13 o z (Stopped k) a e h = rw (← e) h
+pub asked-13 : (o : Out (List Float)) (z : List Float) (b : Result ⊤ ℕ) (a : Asked) → numbered_back z b ≡ o → a ≡ back_asked b → Solved o a z
+asked-13 o z (Ok t) a e h = rw (← e) (h, refl)
+asked-13 o z (Err k) a e h = rw (← e) h

@@ -1,5 +1,5 @@
 -- Forward substitution place by place: what each step asks for and leaves. A side's `runs` are the run starts as lent. Definitions only.
-use Rattle.std.specs.Prelude.{◌≡◌, Bool, true, false, List, [], ℕ, ◌+◌, ◌-◌, ◌*◌, ◌<◌, ◌≤◌, length, get_or, take, drop, replicate, Float}
+use Rattle.std.specs.Prelude.{◌≡◌, Bool, true, false, List, [], ℕ, ◌+◌, ◌-◌, ◌*◌, ◌<◌, ◌≤◌, length, get_or, take, drop, replicate, Float, Result, Ok, Err, ⊤}
 use Rattle.std.specs.Float.{nan}
 use Rattle.std.specs.Float.Ieee.Scale.{finite}
 use Rattle.base.specs.Lists.{list_at, row_of, nought}
@@ -14,12 +14,8 @@ use Rattle.arithmetic.specs.Again.{Factors}
 use Rattle.arithmetic.specs.Stopping.{any, rest, subtract, again}
 use Rattle.numeric.specs.Stores.{StoreShape}
 use Rattle.numeric.specs.Right.{Summed}
-use Rattle.numeric.specs.declared.Back.{Back}
-use Rattle.numeric.specs.declared.Back.TheVariants.{Complete, Stopped}
-use Rattle.base.specs.Answers.{spot}
+use Rattle.base.specs.Answers.{spot, Pass, Asked}
 use Rattle.base.specs.declared.Refusal.TheVariants.{Overflow}
-use Rattle.base.specs.declared.Asked.{Asked}
-use Rattle.base.specs.declared.Asked.TheVariants.{Pass, Stop}
 use Rattle.outcome.specs.Buffers.{SideBuffers}
 use Rattle.outcome.specs.Solve.{fault_of}
 use Rattle.outcome.specs.Resolve.{given_lower}
@@ -108,22 +104,22 @@ abbrev pub RowSwept : Form → ℕ → Factors → SideBuffers → ℕ → Bool 
 RowSwept f n F b k true w = Sweep f n F b (k + 1) w
 RowSwept f n F b k false w = again F n 0 [] ≡ met (overflow k)
 
-abbrev pub Swept : Form → ℕ → Factors → SideBuffers → Back → List Float → Type 0
-Swept f n F b Complete w = Sweep f n F b n w
-Swept f n F b (Stopped k) w = (k < n) × (again F n 0 [] ≡ met (overflow k))
+abbrev pub Swept : Form → ℕ → Factors → SideBuffers → Result ⊤ ℕ → List Float → Type 0
+Swept f n F b (Ok t) w = Sweep f n F b n w
+Swept f n F b (Err k) w = (k < n) × (again F n 0 [] ≡ met (overflow k))
 
 -- a stop names a place below n
-abbrev pub StoppedBelow : ℕ → Back → Type 0
-StoppedBelow n Complete = Unit {0}
-StoppedBelow n (Stopped k) = k < n
+abbrev pub StoppedBelow : ℕ → Result ⊤ ℕ → Type 0
+StoppedBelow n (Ok t) = Unit {0}
+StoppedBelow n (Err k) = k < n
 
 -- ---- question 13
 
-abbrev pub back_asked : Back → Asked
-back_asked Complete = Pass
-back_asked (Stopped k) = Stop (Overflow (spot k))
+abbrev pub back_asked : Result ⊤ ℕ → Asked
+back_asked (Ok t) = Pass
+back_asked (Err k) = Err (Overflow (spot k))
 
 -- the answer a to 13, and z where it passes, if the arithmetic comes to o
 abbrev pub Solved : Out (List Float) → Asked → List Float → Type 0
 Solved (ok y) a z = (a ≡ Pass) × (z ≡ y)
-Solved (met q) a z = a ≡ Stop (fault_of q)
+Solved (met q) a z = a ≡ Err (fault_of q)

@@ -26,7 +26,7 @@ use Rattle.numeric.specs.StoreLaws.{ready}
 use Rattle.numeric.specs.RowLaws.{bind-same}
 use Rattle.numeric.specs.PassLaws.{back-same}
 use Rattle.numeric.specs.Right.{across, Summed, rest-same, summed-more}
-use Rattle.numeric.specs.declared.Back.{Back}
+use Rattle.std.specs.Prelude.{Result, ⊤}
 use Rattle.outcome.specs.Buffers.{SideBuffers}
 use Rattle.factors.specs.Presented.{Sound}
 use Rattle.substitution.specs.Sweep.{by_columns, list_of, values_of, SumAt, Spread, ColumnSpread, Tied, Sums, Sweep}
@@ -210,7 +210,7 @@ again-back : (F : Factors) (ys : List Float) (o : Out (List Float)) → again F 
 unfolding solved_again
 again-back F ys o e h = rw (e, h)
 
-pub sweep-solved : (f : Form) (n : ℕ) (F : Factors) (b u : SideBuffers) (w z : List Float) (r : Back) → F.n ≡ n → Sweep f n F b n w
+pub sweep-solved : (f : Form) (n : ℕ) (F : Factors) (b u : SideBuffers) (w z : List Float) (r : Result ⊤ ℕ) → F.n ≡ n → Sweep f n F b n w
     → ((i : ℕ) → F.upper i ≡ list_of u i) → ((i : ℕ) → F.u i ≡ values_of u i)
     → numbered_back z r ≡ back (store_given n w u.starts u.runs u.index u.values) n (drop (z_from n) w) → numbered_back z r ≡ solved_again F
 sweep-solved f n F b u w z r en I eu ev h =

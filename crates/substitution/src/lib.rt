@@ -16,19 +16,16 @@ ghost use Rattle.numeric.specs.Stores.{StoreShape, numbered_back};
 ghost use Rattle.factors.specs.Presented.{presented};
 ghost use Rattle.substitution.specs.Sweep.{by_columns, RightLent, SumAt, Spread, Ready, Tied, Sweep, RowSwept, Swept, Solvable, StoppedBelow, back_asked, Solved};
 
-use base::{Asked, Form, Index, Place, Refusal, is_finite};
-use numeric::Back;
+use base::{Form, Index, Place, Refusal, is_finite};
 
 // Writes b(r(k)) into the sums.
 fn load_right(n: usize, r: &[Index], b: &[f64], sums: &mut [f64])
     requires { RightLent n r.now (length b.now) × (length sums.old ≡ n) }
     ensures { sums.new ≡ table (right_at (input_of n [] [] [] r.now [] b.now)) n }
 {
-    let mut k = 0;
-    while k < n {
+    for k in 0..n {
         let i = lent::own_row(r, Place(k as u32));
         sums[k] = lent::row_right(b, i);
-        k += 1;
     }
 }
 
@@ -38,8 +35,7 @@ fn by_columns(form: Form) -> bool
 {
     match form {
         Form::Plain => false,
-        Form::Shared => true,
-        Form::ByRow => true,
+        Form::Shared | Form::ByRow => true,
     }
 }
 
@@ -127,21 +123,18 @@ fn substitute_rows(
     values: &[f64],
     d: &[f64],
     work: &mut [f64],
-) -> Back
+) -> Result<(), usize>
     requires { Ready form n starts.now runs.now index.now (length values.now) (length d.now) (length work.old) }
     ensures { (F : Factors) → Tied form n F (side_buffers starts.now runs.now index.now values.now) d.now
         → Sweep form n F (side_buffers starts.now runs.now index.now values.now) 0 work.old
         → Swept form n F (side_buffers starts.now runs.now index.now values.now) result work.new }
 {
-    let mut k = 0;
-    while k < n {
-        if substitute_row(form, n, k, starts, runs, index, values, d, work) {
-            k += 1;
-        } else {
-            return Back::Stopped(k);
+    for k in 0..n {
+        if !substitute_row(form, n, k, starts, runs, index, values, d, work) {
+            return Err(k);
         }
     }
-    Back::Complete
+    Ok(())
 }
 
 // Solves with presented factors: z into the last n slots of scratch, or the place at which a result is not finite.
@@ -160,16 +153,16 @@ fn solve_rows(
     upper_values: &[f64],
     d: &[f64],
     work: &mut [f64],
-) -> Back
+) -> Result<(), usize>
     requires { Solvable form n r.now b.now (side_buffers lower_starts.now lower_runs.now lower_index.now lower_values.now) (side_buffers upper_starts.now upper_runs.now upper_index.now upper_values.now) (length d.now) (length work.old) }
     ensures { (numbered_back (drop (z_from n) work.new) result ≡ solved_again (factors_of form (input_of n [] [] [] r.now [] b.now)
         (presented (side_buffers lower_starts.now lower_runs.now lower_index.now lower_values.now)
         (side_buffers upper_starts.now upper_runs.now upper_index.now upper_values.now) d.now)))
         × StoppedBelow n result }
 {
-    base::clear_f64(work);
+    base::clear(work);
     load_right(n, r, b, &mut work[..n]);
-    let a = substitute_rows(
+    substitute_rows(
         form,
         n,
         lower_starts,
@@ -178,22 +171,16 @@ fn solve_rows(
         lower_values,
         d,
         work,
-    );
-    if let Back::Stopped(k) = a {
-        return Back::Stopped(k);
-    }
+    )?;
     numeric::back_steps(work, n, upper_starts, upper_runs, upper_index, upper_values)
 }
 
 // Asks 13 of what the steps came to.
-fn overflow_of(n: usize, a: Back) -> Asked
+fn overflow_of(n: usize, a: Result<(), usize>) -> Result<(), Refusal>
     requires { (n ≤ max_rows) × StoppedBelow n a }
     ensures { result ≡ back_asked a }
 {
-    match a {
-        Back::Complete => Asked::Pass,
-        Back::Stopped(k) => Asked::Stop(Refusal::Overflow(Place(k as u32))),
-    }
+    a.map_err(|k| Refusal::Overflow(Place(k as u32)))
 }
 
 // Solves with presented factors and a new right side, and asks 13: z into the last n slots of scratch.
@@ -212,7 +199,7 @@ pub fn substitute(
     upper_values: &[f64],
     d: &[f64],
     work: &mut [f64],
-) -> Asked
+) -> Result<(), Refusal>
     requires { Solvable form n r.now b.now (side_buffers lower_starts.now lower_runs.now lower_index.now lower_values.now) (side_buffers upper_starts.now upper_runs.now upper_index.now upper_values.now) (length d.now) (length work.old) }
     ensures { Solved (solved_again (factors_of form (input_of n [] [] [] r.now [] b.now)
         (presented (side_buffers lower_starts.now lower_runs.now lower_index.now lower_values.now)

@@ -1,4 +1,5 @@
 -- Questions 9, 10 and 11 at a place, by what the code finds.
+use Rattle.std.specs.Prelude.{Err}
 use mathlib.Core.Path.{◌≡◌, refl}
 use mathlib.Core.Bool.{true, false}
 use mathlib.Core.List.{List, []}
@@ -6,13 +7,12 @@ use Prim.Native.Nat.{ℕ, zero, suc, ◌+◌, ◌<◌}
 use native.Mathlib.Omega.{arith}
 use lib.Seq.{drop-nil}
 use borrow.Author.Tests.{le-leb}
-use Rattle.base.specs.Answers.{spot}
+use Rattle.base.specs.Answers.{spot, Pass}
 use Rattle.base.specs.declared.Form.{Form}
 use Rattle.base.specs.declared.Form.TheVariants.{Plain, Shared, ByRow}
 use Rattle.base.specs.declared.Side.TheVariants.{Lower, Upper}
 use Rattle.base.specs.declared.Refusal.{Refusal}
 use Rattle.base.specs.declared.Refusal.TheVariants.{NullPivot, LowerSlots, UpperSlots}
-use Rattle.base.specs.declared.Asked.TheVariants.{Pass, Stop}
 use Rattle.fill.specs.Fill.{Pattern, filled, upper_row, lower_row, flip}
 use Rattle.placement.specs.Placing.{plain, shared, Plan, State, placed, after, start_of}
 use Rattle.placement.specs.PlacingLaws.{room}
@@ -62,15 +62,15 @@ fits-row P n z k = rw (none-slots (lower_row (flip P)) (suc k), none-starts (suc
 -- ---- one place
 
 module _ (f : Form) (P : Pattern) (n : ℕ) (z : Sizes) (k : ℕ) where
-  asked-null : filled P k k ≡ false → ask_place f P n z k ≡ Stop (NullPivot (spot k))
+  asked-null : filled P k k ≡ false → ask_place f P n z k ≡ Err (NullPivot (spot k))
   unfolding ask_place
   asked-null a = rw a
 
-  asked-lower : filled P k k ≡ true → fits f Lower P n z k ≡ false → ask_place f P n z k ≡ Stop (LowerSlots (spot k))
+  asked-lower : filled P k k ≡ true → fits f Lower P n z k ≡ false → ask_place f P n z k ≡ Err (LowerSlots (spot k))
   unfolding ask_place
   asked-lower a b = rw (a, b)
 
-  asked-upper : filled P k k ≡ true → fits f Lower P n z k ≡ true → fits f Upper P n z k ≡ false → ask_place f P n z k ≡ Stop (UpperSlots (spot k))
+  asked-upper : filled P k k ≡ true → fits f Lower P n z k ≡ true → fits f Upper P n z k ≡ false → ask_place f P n z k ≡ Err (UpperSlots (spot k))
   unfolding ask_place
   asked-upper a b c = rw (a, b, c)
 
@@ -79,18 +79,18 @@ module _ (f : Form) (P : Pattern) (n : ℕ) (z : Sizes) (k : ℕ) where
   asked-pass a b c = rw (a, b, c)
 
 module _ (f : Form) (P : Pattern) (n : ℕ) (z : Sizes) (k : ℕ) (place : k < n) (before : ask_places f P n z k ≡ Pass) where
-  stops : (q : Refusal) → ask_place f P n z k ≡ Stop q → ask_places f P n z n ≡ Stop q
+  stops : (q : Refusal) → ask_place f P n z k ≡ Err q → ask_places f P n z n ≡ Err q
   stops q e = places-hit f P n z k n q place before e
 
-  pub stop-null : filled P k k ≡ false → ask_places f P n z n ≡ Stop (NullPivot (spot k))
+  pub stop-null : filled P k k ≡ false → ask_places f P n z n ≡ Err (NullPivot (spot k))
   stop-null a = stops (NullPivot (spot k)) (asked-null f P n z k a)
 
   module _ (diagonal : filled P k k ≡ true) where
-    pub stop-lower : fits f Lower P n z k ≡ false → ask_places f P n z n ≡ Stop (LowerSlots (spot k))
+    pub stop-lower : fits f Lower P n z k ≡ false → ask_places f P n z n ≡ Err (LowerSlots (spot k))
     stop-lower b = stops (LowerSlots (spot k)) (asked-lower f P n z k diagonal b)
 
     module _ (lower : fits f Lower P n z k ≡ true) where
-      pub stop-upper : fits f Upper P n z k ≡ false → ask_places f P n z n ≡ Stop (UpperSlots (spot k))
+      pub stop-upper : fits f Upper P n z k ≡ false → ask_places f P n z n ≡ Err (UpperSlots (spot k))
       stop-upper c = stops (UpperSlots (spot k)) (asked-upper f P n z k diagonal lower c)
 
       pub goes_on : fits f Upper P n z k ≡ true → ask_places f P n z (k + 1) ≡ Pass

@@ -1,4 +1,6 @@
 -- After the last place, and after a refusal: the answer, and what the stores hold.
+use Rattle.base.specs.Answers.{Asked}
+use Rattle.std.specs.Prelude.{Ok, Err}
 use mathlib.Core.Path.{◌≡◌, refl, sym, ap, ◌∙◌}
 use mathlib.Core.List.{List}
 use Prim.Native.Nat.{ℕ, zero, suc, ◌+◌, ◌≤◌}
@@ -14,9 +16,6 @@ use Rattle.base.specs.declared.Side.{Side}
 use Rattle.base.specs.declared.Side.TheVariants.{Lower, Upper}
 use Rattle.base.specs.declared.Counts.{Counts}
 use Rattle.base.specs.declared.Refusal.{Refusal}
-use Rattle.base.specs.declared.Asked.{Asked}
-use Rattle.base.specs.declared.Asked.TheVariants.{Stop}
-use Rattle.base.specs.declared.Answer.TheVariants as answers
 use Rattle.fill.specs.Fill.{Pattern, upper_row, lower_row, flip}
 use Rattle.fill.specs.ListLaws.{lower-rows-columns}
 use Rattle.fill.proofs.ListLaws.{lower-is-upper}
@@ -121,17 +120,17 @@ module _ (f : Form) (i : Input) (low : List ℕ) (lv : ℕ) (up : List ℕ) (uv 
   abbrev asked : Asked
   asked = ask_places f (stored i) i.n (slots_of (length low) lv (length up) uv) i.n
 
-  stops : (q : Refusal) → asked ≡ Stop q → ask_places f (stored i) i.n (slots_of a lv b uv) i.n ≡ Stop q
+  stops : (q : Refusal) → asked ≡ Err q → ask_places f (stored i) i.n (slots_of a lv b uv) i.n ≡ Err q
   stops q e = rw (← ea, ← eb) e
 
-  pub found-stop : (q : Refusal) → asked ≡ Stop q → (us ur ui s : List ℕ) → Analyzed f i (slots_of a lv b uv) us ur ui uv s (answers.Refused q)
+  pub found-stop : (q : Refusal) → asked ≡ Err q → (us ur ui s : List ℕ) → Analyzed f i (slots_of a lv b uv) us ur ui uv s (Err q)
   found-stop q e us ur ui s = record {
     answer = rw (stops q e);
     upper = λ p. absurd (stop-pass q (sym (stops q e) ∙ p));
     inverse = λ p. absurd (stop-pass q (sym (stops q e) ∙ p));
   }
 
-  pub both-stop : (q : Refusal) → asked ≡ Stop q → (ls lr li us ur ui s : List ℕ) → AnalyzedBoth f i (slots_of a lv b uv) ls lr li lv us ur ui uv s (answers.Refused q)
+  pub both-stop : (q : Refusal) → asked ≡ Err q → (ls lr li us ur ui s : List ℕ) → AnalyzedBoth f i (slots_of a lv b uv) ls lr li lv us ur ui uv s (Err q)
   both-stop q e ls lr li us ur ui s = record { found = found-stop q e us ur ui s; lower = λ p. absurd (stop-pass q (sym (stops q e) ∙ p)) }
 
 -- after the last place; the index stores were lent and cleared
@@ -143,7 +142,7 @@ at_last : (f : Form) (i : Input) (low : List ℕ) (lv : ℕ) (up : List ℕ) (uv
 at_last f i low lv up uv k ls lr li us ur ui s g at most = let e : k ≡ i.n = omega (arith, at.most) in rw e at at
 
 pub found-end : (f : Form) (i : Input) (low : List ℕ) (lv : ℕ) (up : List ℕ) (uv a : ℕ) (above : List ℕ) (k : ℕ) (ls lr li us ur ui s : List ℕ) (g : Progress) (c : Counts) → length low ≡ a → up ≡ blank 0 above
-    → At f i low lv up uv k ls lr li us ur ui s g → i.n ≤ k → c ≡ counts_at g → RunsIn f us ur → Analyzed f i (slots_of a lv (length above) uv) us ur ui uv s (answers.Done c)
+    → At f i low lv up uv k ls lr li us ur ui s g → i.n ≤ k → c ≡ counts_at g → RunsIn f us ur → Analyzed f i (slots_of a lv (length above) uv) us ur ui uv s (Ok c)
 found-end f i low lv up uv a above k ls lr li us ur ui s g c ea eb at most q r =
     let h = at_last f i low lv up uv k ls lr li us ur ui s g at most in
     rw (q, ← ea, ← blank-long up above eb) (record {
@@ -154,7 +153,7 @@ found-end f i low lv up uv a above k ls lr li us ur ui s g c ea eb at most q r =
 
 pub both_end : (f : Form) (i : Input) (low : List ℕ) (lv : ℕ) (up : List ℕ) (uv : ℕ) (below above : List ℕ) (k : ℕ) (ls lr li us ur ui s : List ℕ) (g : Progress) (c : Counts) → low ≡ blank 0 below → up ≡ blank 0 above
     → At f i low lv up uv k ls lr li us ur ui s g → i.n ≤ k → c ≡ counts_at g → RunsIn f us ur → RunsIn f ls lr → Keeps f
-    → AnalyzedBoth f i (slots_of (length below) lv (length above) uv) ls lr li lv us ur ui uv s (answers.Done c)
+    → AnalyzedBoth f i (slots_of (length below) lv (length above) uv) ls lr li lv us ur ui uv s (Ok c)
 both_end f i low lv up uv below above k ls lr li us ur ui s g c ea eb at most q r e x = record {
   found = found-end f i low lv up uv (length below) above k ls lr li us ur ui s g c (blank-long low below ea) eb at most q r;
   lower = λ p. lower-end f i low lv ls lr li s g.lower g.window x e (at_last f i low lv up uv k ls lr li us ur ui s g at most).lower below ea;

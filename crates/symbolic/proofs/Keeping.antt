@@ -26,8 +26,7 @@ use Rattle.storing.specs.FillNested.{fill-suited}
 use Rattle.storing.specs.declared.Way.{Way}
 use Rattle.storing.specs.declared.Way.TheVariants.{OneAfterAnother, Sharing}
 use Rattle.storing.specs.declared.Extent.{Extent}
-use Rattle.storing.specs.declared.Put.{Put}
-use Rattle.storing.specs.declared.Put.TheVariants.{Done, Full}
+use Rattle.std.specs.Prelude.{Option, Some, None}
 use Rattle.symbolic.specs.Places.{run_count, Keep, ListKept, KeepLower, LowerEnds, Adding}
 use Rattle.symbolic.specs.declared.OpenRow.{OpenRow}
 use Rattle.base.specs.Scratch.{list_from, regions_end}
@@ -110,11 +109,11 @@ module _ {way : Way} {P : Pattern} {n k t cuts : ℕ} {store : List ℕ} {values
         }
 
 -- what a step of placing told
-pub stepped-done : (way : Way) (T R : ℕ → List ℕ) (values k : ℕ) (index₀ starts runs index : List ℕ) (r : Put) (e : Extent) → r ≡ Done e
+pub stepped-done : (way : Way) (T R : ℕ → List ℕ) (values k : ℕ) (index₀ starts runs index : List ℕ) (r : Option Extent) (e : Extent) → r ≡ Some e
     → Stepped way T R values k index₀ starts runs index r → (room (way_of way) T R (length index₀) values k ≡ true) × Holding way T R values (suc k) index₀ starts runs index e
 stepped-done way T R values k index₀ starts runs index r e q h = rw q at h
 
-pub stepped-full : (way : Way) (T R : ℕ → List ℕ) (values k : ℕ) (index₀ starts runs index : List ℕ) (r : Put) → r ≡ Full
+pub stepped-full : (way : Way) (T R : ℕ → List ℕ) (values k : ℕ) (index₀ starts runs index : List ℕ) (r : Option Extent) → r ≡ None
     → Stepped way T R values k index₀ starts runs index r → room (way_of way) T R (length index₀) values k ≡ false
 stepped-full way T R values k index₀ starts runs index r q h = rw q at h
 
@@ -140,10 +139,10 @@ module _ {P : Pattern} {n k : ℕ} {store : List ℕ} {values : ℕ} {starts ind
       (rw (l, part-is (list_from n) count s, h.list) (λ j b. omega (arith, lower-below P k j b, h.below, h.few)))
 
 -- what a step of placing told of it
-pub lower-stepped : (P : Pattern) (values k : ℕ) (store starts index : List ℕ) (r : Put)
+pub lower-stepped : (P : Pattern) (values k : ℕ) (store starts index : List ℕ) (r : Option Extent)
     → Stepped OneAfterAnother (lower_row P) (lower_row (flip P)) values k store starts starts index r → LowerEnds P k store values starts index r
-lower-stepped P values k store starts index (Done e) h = (h.0, rw add-one h.1)
-lower-stepped P values k store starts index Full h = h
+lower-stepped P values k store starts index (Some e) h = (h.0, rw add-one h.1)
+lower-stepped P values k store starts index None h = h
 
 -- ---- products
 

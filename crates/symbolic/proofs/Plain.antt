@@ -1,4 +1,5 @@
 -- One place of the plain form: from what it finds to what place k + 1 finds.
+use Rattle.std.specs.Prelude.{Err}
 use mathlib.Core.Path.{◌≡◌, ◌∙◌}
 use mathlib.Core.Bool.{true, false}
 use mathlib.Core.List.{List}
@@ -11,7 +12,6 @@ use Rattle.base.specs.Answers.{spot}
 use Rattle.base.specs.declared.Form.TheVariants.{Plain}
 use Rattle.base.specs.declared.Side.TheVariants.{Upper}
 use Rattle.base.specs.declared.Refusal.TheVariants.{NullPivot, LowerSlots, UpperSlots}
-use Rattle.base.specs.declared.Asked.TheVariants.{Stop}
 use Rattle.fill.specs.Fill.{Pattern, filled, upper_row, lower_row, flip}
 use Rattle.matrix.specs.Input.{Input, stored}
 use Rattle.placement.specs.Placing.{plain}
@@ -42,7 +42,7 @@ module _ (i : Input) (low : List ℕ) (lv : ℕ) (up : List ℕ) (uv k : ℕ) (l
   pub plain-open : Open Upper i k (k + 1) 0 us us ui s
   plain-open = lists-open h.begun place h.upper h.fresh tt
 
-  pub plain-null : filled P k k ≡ false → ask_places Plain P n (slots_of (length low) lv (length up) uv) n ≡ Stop (NullPivot (spot k))
+  pub plain-null : filled P k k ≡ false → ask_places Plain P n (slots_of (length low) lv (length up) uv) n ≡ Err (NullPivot (spot k))
   plain-null a = stop-null Plain P n _ k place h.passed a
 
   module _ (s₁ : List ℕ) (o : OpenRow) (found : RowFound Upper i k (k + 1) s s₁ o) where
@@ -60,7 +60,7 @@ module _ (i : Input) (low : List ℕ) (lv : ℕ) (up : List ℕ) (uv k : ℕ) (l
       stores = h.lower.1;
     }
 
-    pub plain-short : room plain (lower_row P) (lower_row (flip P)) (length low) lv k ≡ false → ask_places Plain P n (slots_of (length low) lv (length up) uv) n ≡ Stop (LowerSlots (spot k))
+    pub plain-short : room plain (lower_row P) (lower_row (flip P)) (length low) lv k ≡ false → ask_places Plain P n (slots_of (length low) lv (length up) uv) n ≡ Err (LowerSlots (spot k))
     plain-short b = stop-lower Plain P n _ k place h.passed found.diagonal (fits-plain P n (length low) lv (length up) uv k ∙ b)
 
     pub plain-adding : Adding P n k us us ui s₁ o.below g.products
@@ -78,7 +78,7 @@ module _ (i : Input) (low : List ℕ) (lv : ℕ) (up : List ℕ) (uv k : ℕ) (l
     plain-keep = lists-keep h.begun place h.upper found
 
     module _ (fits : room plain (lower_row P) (lower_row (flip P)) (length low) lv k ≡ true) where
-      pub plain-full : room plain (upper_row P n) (lower_row P) (length up) uv k ≡ false → ask_places Plain P n (slots_of (length low) lv (length up) uv) n ≡ Stop (UpperSlots (spot k))
+      pub plain-full : room plain (upper_row P n) (lower_row P) (length up) uv k ≡ false → ask_places Plain P n (slots_of (length low) lv (length up) uv) n ≡ Err (UpperSlots (spot k))
       plain-full c =
           stop-upper Plain P n _ k place h.passed found.diagonal (fits-plain P n (length low) lv (length up) uv k ∙ fits) (fits-upper P n (length low) lv (length up) uv k Plain ∙ c)
 

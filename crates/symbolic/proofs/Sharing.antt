@@ -1,4 +1,5 @@
 -- One place of the two forms whose lists share runs: from what it finds to what place k + 1 finds. The upper side's laws are one for both.
+use Rattle.std.specs.Prelude.{Err}
 use mathlib.Core.Path.{◌≡◌, refl, sym, ◌∙◌}
 use mathlib.Core.Bool.{Bool, true, false}
 use mathlib.Core.List.{List, []}
@@ -13,7 +14,6 @@ use Rattle.base.specs.declared.Form.{Form}
 use Rattle.base.specs.declared.Form.TheVariants.{Shared, ByRow}
 use Rattle.base.specs.declared.Side.TheVariants.{Lower, Upper}
 use Rattle.base.specs.declared.Refusal.TheVariants.{NullPivot, LowerSlots, UpperSlots}
-use Rattle.base.specs.declared.Asked.TheVariants.{Stop}
 use Rattle.fill.specs.Fill.{Pattern, filled, upper_row, lower_row, flip}
 use Rattle.fill.proofs.RowRule.{filled-flip}
 use Rattle.matrix.specs.Input.{Input, stored}
@@ -26,7 +26,9 @@ use Rattle.outcome.specs.Structure.{fits, ask_places}
 use Rattle.storing.specs.Ways.{way_of}
 use Rattle.storing.specs.declared.Way.TheVariants.{Sharing}
 use Rattle.storing.specs.declared.Extent.{Extent}
-use Rattle.symbolic.specs.Places.{Apart, Begun, Adding, SideAt, SideNext}
+use Rattle.symbolic.specs.Places.{Apart, Begun, Adding, SideAt, SideNext, SideFails, refusal_of}
+use Rattle.symbolic.specs.declared.SideError.{SideError}
+use Rattle.symbolic.specs.declared.SideError.TheVariants.{NoDiagonal, NoRoom}
 use Rattle.symbolic.specs.Pass.{slots_of, placing_of, stamp_at, LowerAt, At}
 use Rattle.symbolic.specs.declared.SidePlace.{SidePlace}
 use Rattle.symbolic.specs.declared.Progress.{Progress}
@@ -49,7 +51,7 @@ module _ (f : Form) (sharing : placing_of f ≡ Sharing) (i : Input) (low : List
   abbrev P : Pattern
   P = stored i
 
-  pub upper-null : filled P k k ≡ false → ask_places f P n (slots_of (length low) lv (length up) uv) n ≡ Stop (NullPivot (spot k))
+  pub upper-null : filled P k k ≡ false → ask_places f P n (slots_of (length low) lv (length up) uv) n ≡ Err (NullPivot (spot k))
   upper-null a = stop-null f P n _ k place h.passed a
 
   pub upper-due : (t : ℕ) (s₁ : List ℕ) → Begun i s₁ → Fresh n t s₁ → Cuts P n k (upper_cuts n) s₁ → SideAt Sharing Upper i up uv k t 0 us ur ui s₁ g.upper
@@ -62,8 +64,14 @@ module _ (f : Form) (sharing : placing_of f ≡ Sharing) (i : Input) (low : List
     upper_fits b e = fits-upper P n (length low) lv (length up) uv k f ∙ rw sharing e
 
     pub upper-full : (filled P k k ≡ true) × (room (way_of Sharing) (upper_row P n) (lower_row P) (length up) uv k ≡ false)
-        → ask_places f P n (slots_of (length low) lv (length up) uv) n ≡ Stop (UpperSlots (spot k))
+        → ask_places f P n (slots_of (length low) lv (length up) uv) n ≡ Err (UpperSlots (spot k))
     upper-full e = stop-upper f P n _ k place h.passed e.0 lower (upper_fits false e.1)
+
+    -- the list is not placed: the pass ends
+    pub upper-stop : (e : SideError) → SideFails Sharing Upper i up uv k e
+        → ask_places f P n (slots_of (length low) lv (length up) uv) n ≡ Err (refusal_of e Upper (spot k))
+    upper-stop NoDiagonal d = upper-null d
+    upper-stop NoRoom d = upper-full d
 
     module _ (t : ℕ) (s₁ : List ℕ) (begun : Begun i s₁) (us' ur' ui' s₂ : List ℕ) (p : SidePlace) (next : SideNext Sharing Upper i up uv k t us' ur' ui' s₁ s₂ p) where
       begun-next : Begun i s₂
@@ -135,13 +143,18 @@ module _ (i : Input) (low : List ℕ) (lv : ℕ) (up : List ℕ) (uv k : ℕ) (l
   pub lower-due : SideAt Sharing Lower i low lv k (k + k + 1) g.window ls lr li s g.lower
   lower-due = record { begun = h.begun; below = place; fresh = h.fresh; ready = h.lower.1; at = h.lower.0 }
 
-  pub lower-null : filled (flip (stored i)) k k ≡ false → ask_places Shared (stored i) i.n (slots_of (length low) lv (length up) uv) i.n ≡ Stop (NullPivot (spot k))
+  pub lower-null : filled (flip (stored i)) k k ≡ false → ask_places Shared (stored i) i.n (slots_of (length low) lv (length up) uv) i.n ≡ Err (NullPivot (spot k))
   lower-null a = stop-null Shared (stored i) i.n _ k place h.passed (sym (filled-flip (stored i) k k) ∙ a)
 
   pub lower-full : (filled (flip (stored i)) k k ≡ true) × (room (way_of Sharing) (upper_row (flip (stored i)) i.n) (lower_row (flip (stored i))) (length low) lv k ≡ false)
-      → ask_places Shared (stored i) i.n (slots_of (length low) lv (length up) uv) i.n ≡ Stop (LowerSlots (spot k))
+      → ask_places Shared (stored i) i.n (slots_of (length low) lv (length up) uv) i.n ≡ Err (LowerSlots (spot k))
   lower-full e =
       stop-lower Shared (stored i) i.n _ k place h.passed (sym (filled-flip (stored i) k k) ∙ e.0) (fits-shared (stored i) i.n (length low) lv (length up) uv k ∙ e.1)
+
+  pub lower-stop : (e : SideError) → SideFails Sharing Lower i low lv k e
+      → ask_places Shared (stored i) i.n (slots_of (length low) lv (length up) uv) i.n ≡ Err (refusal_of e Lower (spot k))
+  lower-stop NoDiagonal d = lower-null d
+  lower-stop NoRoom d = lower-full d
 
   module _ (ls' lr' li' s₁ : List ℕ) (p : SidePlace) (next : SideNext Sharing Lower i low lv k (k + k + 1) ls' lr' li' s s₁ p) where
     pub lower-begun : Begun i s₁

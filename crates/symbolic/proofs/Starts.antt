@@ -151,3 +151,11 @@ pub shared_start : (i : Input) (ls ls' lr li li' : List ℕ) (lv : ℕ) (us us' 
 shared_start i ls ls' lr li li' lv us us' ur ui ui' uv m s l a b c d e =
     form-start Shared i li' lv uv ls' lr li' us us' ur ui ui' s e.begun e.fresh l.upper ur c refl d
     (cleared-lists Sharing (flip (stored i)) i.n (lower_cuts i.n) lv ls ls' lr lr li li' s l.lower a refl b, e.ready)
+
+-- the default of each part is 0
+all-zero : (a b c d e f p w : ℕ) → ((a ≡ 0) × ((b ≡ 0) × (c ≡ 0))) × (((d ≡ 0) × ((e ≡ 0) × (f ≡ 0))) × ((p ≡ 0) × (w ≡ 0)))
+    → ◌≡◌ {A = Progress} (record { lower = record { used = a; last = b; entries = c }; upper = record { used = d; last = e; entries = f }; products = p; window = w }) no_progress
+all-zero a b c d e f p w h = rw (h.0.0, h.0.1.0, h.0.1.1, h.1.0.0, h.1.0.1.0, h.1.0.1.1, h.1.1.0, h.1.1.1)
+
+pub default-is : (g : Progress) → ((g.lower.used ≡ 0) × ((g.lower.last ≡ 0) × (g.lower.entries ≡ 0))) × (((g.upper.used ≡ 0) × ((g.upper.last ≡ 0) × (g.upper.entries ≡ 0))) × ((g.products ≡ 0) × (g.window ≡ 0))) → g ≡ no_progress
+default-is g h = all-zero g.lower.used g.lower.last g.lower.entries g.upper.used g.upper.last g.upper.entries g.products g.window h

@@ -23,7 +23,7 @@ use Rattle.storing.specs.declared.Way.{Way}
 use Rattle.storing.specs.declared.Extent.{Extent}
 use Rattle.symbolic.specs.Pass.{placing_of, At, TurnEnds}
 use Rattle.symbolic.specs.declared.Progress.{Progress}
-use Rattle.symbolic.specs.declared.Turned.TheVariants.{Next}
+use Rattle.std.specs.Prelude.{Ok}
 
 -- a side's list starts, run starts and index store
 pub record Stood : Type 0 where
@@ -121,6 +121,6 @@ module _ (f : Form) (side : Side) (v : keeps f side ≡ true) (i : Input) (low :
       (held f side v i low lv up uv k ls lr li us ur ui s g h) (held f side v i low lv up uv m ls' lr' li' us' ur' ui' s' g' h')
 
   -- and place k leaves it so: `analyze_place_plain`, `analyze_place_by_row` and `analyze_place_shared` promise TurnEnds
-  pub turn-unwritten : TurnEnds f i low lv up uv k ls' lr' li' us' ur' ui' s' (Next g')
+  pub turn-unwritten : TurnEnds f i low lv up uv k ls' lr' li' us' ur' ui' s' (Ok g')
       → Unwritten k (of_side side g.lower g.upper).used (side_of f side ls lr li us ur ui) (side_of f side ls' lr' li' us' ur' ui')
   turn-unwritten h' = unwritten (k + 1) (omega arith) h'

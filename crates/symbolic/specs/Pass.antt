@@ -1,18 +1,16 @@
 -- The structure pass of the three forms: before each place, and at its end. Definitions only.
-use Rattle.std.specs.Prelude.{◌≡◌, List, [], ℕ, ◌+◌, ◌*◌, ◌<◌, ◌≤◌, length}
+use Rattle.base.specs.Answers.{Pass, Asked, Answer}
+use Rattle.std.specs.Prelude.{◌≡◌, List, ℕ, ◌+◌, ◌*◌, ◌<◌, ◌≤◌, length, Result, Ok, Err}
 use Rattle.base.specs.Lists.{sum}
 use Rattle.base.specs.declared.Form.{Form}
 use Rattle.base.specs.declared.Form.TheVariants.{Plain, Shared, ByRow}
 use Rattle.base.specs.declared.Side.{Side}
 use Rattle.base.specs.declared.Side.TheVariants.{Lower, Upper}
 use Rattle.base.specs.declared.Counts.{Counts}
-use Rattle.base.specs.declared.Asked.{Asked}
-use Rattle.base.specs.declared.Asked.TheVariants.{Pass, Stop}
-use Rattle.base.specs.declared.Answer.{Answer}
-use Rattle.base.specs.declared.Answer.TheVariants as answers
 use Rattle.fill.specs.Fill.{lower_row, flip}
 use Rattle.base.specs.Limits.{max_rows, max_entries}
-use Rattle.matrix.specs.Input.{Input, input_of, stored}
+use Rattle.matrix.specs.declared.System.{System}
+use Rattle.matrix.specs.Input.{Input, pattern_by, stored}
 use Rattle.marks.specs.Marks.{Fresh}
 use Rattle.marks.specs.Rows.{row_steps}
 use Rattle.columns.specs.Columns.{Ready}
@@ -29,8 +27,7 @@ use Rattle.storing.specs.declared.Way.{Way}
 use Rattle.storing.specs.declared.Way.TheVariants.{OneAfterAnother, Sharing}
 use Rattle.symbolic.specs.Places.{Begun, Stores, ListsAt}
 use Rattle.symbolic.specs.declared.Progress.{Progress}
-use Rattle.symbolic.specs.declared.Turned.{Turned}
-use Rattle.symbolic.specs.declared.Turned.TheVariants.{Next, Stopped}
+use Rattle.base.specs.declared.Refusal.{Refusal}
 use Rattle.base.specs.Scratch.{upper_cuts, lower_cuts}
 
 -- ---- what the pass answers and leaves
@@ -44,8 +41,8 @@ slots_of li lv ui uv = record { lower = slot_sizes li lv; upper = slot_sizes ui 
 
 -- the counts, or the refusal
 abbrev pub found_answer : Asked → Counts → Answer
-found_answer Pass c = answers.Done c
-found_answer (Stop q) c = answers.Refused q
+found_answer (Ok _) c = Ok c
+found_answer (Err q) c = Err q
 
 -- where 9 to 11 are passed at every place, a side's lists stand in its stores, and zeros after them
 abbrev pub SidePlaced : Form → Side → Input → Sizes → List ℕ → List ℕ → List ℕ → ℕ → Type 0
@@ -113,17 +110,17 @@ abbrev pub counts_at : Progress → Counts
 counts_at g = record { lower = g.lower.entries; upper = g.upper.entries; products = g.products }
 
 -- place k is due, for some column order and some stores: these are not lent
-pub record Due (f : Form) (n lv uv k : ℕ) (starts columns r ls lr li us ur ui s : List ℕ) (g : Progress) : Type 0 where
+pub record Due (f : Form) (i : System) (lv uv k : ℕ) (ls lr li us ur ui s : List ℕ) (g : Progress) : Type 0 where
   pub order : List ℕ
   pub low : List ℕ
   pub up : List ℕ
-  pub place : k < n
-  pub at : At f (input_of n starts columns [] r order []) low lv up uv k ls lr li us ur ui s g
+  pub place : k < i.n
+  pub at : At f (pattern_by i order) low lv up uv k ls lr li us ur ui s g
 
 -- after place k: the next is due, or the pass ends with a refusal
-abbrev pub TurnEnds : Form → Input → List ℕ → ℕ → List ℕ → ℕ → ℕ → List ℕ → List ℕ → List ℕ → List ℕ → List ℕ → List ℕ → List ℕ → Turned → Type 0
-TurnEnds f i low lv up uv k ls lr li us ur ui s (Next g) = At f i low lv up uv (k + 1) ls lr li us ur ui s g
-TurnEnds f i low lv up uv k ls lr li us ur ui s (Stopped q) = ask_places f (stored i) i.n (slots_of (length low) lv (length up) uv) i.n ≡ Stop q
+abbrev pub TurnEnds : Form → Input → List ℕ → ℕ → List ℕ → ℕ → ℕ → List ℕ → List ℕ → List ℕ → List ℕ → List ℕ → List ℕ → List ℕ → Result Progress Refusal → Type 0
+TurnEnds f i low lv up uv k ls lr li us ur ui s (Ok g) = At f i low lv up uv (k + 1) ls lr li us ur ui s g
+TurnEnds f i low lv up uv k ls lr li us ur ui s (Err q) = ask_places f (stored i) i.n (slots_of (length low) lv (length up) uv) i.n ≡ Err q
 
 -- ---- what the pass asks for
 

@@ -1,11 +1,15 @@
 -- One place of one side of the structure pass: what its steps find and leave. Definitions only.
-use Rattle.std.specs.Prelude.{◌≡◌, true, false, List, [], ℕ, suc, ◌+◌, ◌<◌, ◌≤◌, length, get_or, take, drop}
+use Rattle.std.specs.Prelude.{◌≡◌, true, false, List, ℕ, suc, ◌+◌, ◌<◌, ◌≤◌, length, get_or, take, drop, Option, Some, None, Result, Ok, Err}
 use Rattle.base.specs.Lists.{sum}
 use Rattle.base.specs.declared.Side.{Side}
 use Rattle.base.specs.declared.Side.TheVariants.{Lower, Upper}
+use Rattle.base.specs.declared.Place.{Place}
+use Rattle.base.specs.declared.Refusal.{Refusal}
+use Rattle.base.specs.declared.Refusal.TheVariants.{NullPivot, LowerSlots, UpperSlots}
 use Rattle.fill.specs.Fill.{Pattern, filled, upper_row, lower_row, flip}
 use Rattle.base.specs.Limits.{max_rows, max_slots}
-use Rattle.matrix.specs.Input.{Input, input_of, stored}
+use Rattle.matrix.specs.declared.System.{System}
+use Rattle.matrix.specs.Input.{Input, pattern_by, stored}
 use Rattle.placement.specs.Placing.{plain}
 use Rattle.placement.specs.PlacingLaws.{room}
 use Rattle.marks.specs.Marks.{Room, Base, Fresh, Holds}
@@ -18,14 +22,10 @@ use Rattle.storing.specs.Held.{Holding}
 use Rattle.storing.specs.declared.Way.{Way}
 use Rattle.storing.specs.declared.Way.TheVariants.{OneAfterAnother, Sharing}
 use Rattle.storing.specs.declared.Extent.{Extent}
-use Rattle.storing.specs.declared.Put.{Put}
-use Rattle.storing.specs.declared.Put.TheVariants.{Done, Full}
 use Rattle.symbolic.specs.declared.OpenRow.{OpenRow}
-use Rattle.symbolic.specs.declared.Opened.{Opened}
-use Rattle.symbolic.specs.declared.Opened.TheVariants.{Unfilled, Row}
 use Rattle.symbolic.specs.declared.SidePlace.{SidePlace}
-use Rattle.symbolic.specs.declared.SideEnd.{SideEnd}
-use Rattle.symbolic.specs.declared.SideEnd.TheVariants.{NoDiagonal, NoRoom, Placed}
+use Rattle.symbolic.specs.declared.SideError.{SideError}
+use Rattle.symbolic.specs.declared.SideError.TheVariants.{NoDiagonal, NoRoom}
 use Rattle.base.specs.Scratch.{blocks_from, upper_cuts, lower_cuts, list_from, nodes_from}
 
 -- M' for the upper side, with rows and columns exchanged for the lower one
@@ -65,10 +65,10 @@ pub record Open (side : Side) (i : Input) (k t window : ℕ) (starts runs index 
   pub ready : SideReady side i.n k window (rows_in i s) s
 
 -- the same, for some column order and some list starts: neither is lent
-pub record Opening (side : Side) (n k t window : ℕ) (starts columns r runs index s : List ℕ) : Type 0 where
+pub record Opening (side : Side) (i : System) (k t window : ℕ) (runs index s : List ℕ) : Type 0 where
   pub order : List ℕ
   pub lists : List ℕ
-  pub due : Open side (input_of n starts columns [] r order []) k t window lists runs index s
+  pub due : Open side (pattern_by i order) k t window lists runs index s
 
 -- lower row k and T(k) of the pattern stand in scratch from slot 5n on, and the marks are row k of the fill
 pub record Listing (P : Pattern) (n k t : ℕ) (s : List ℕ) (below above : ℕ) : Type 0 where
@@ -86,9 +86,9 @@ pub record RowFound (side : Side) (i : Input) (k t : ℕ) (s₀ s : List ℕ) (o
   pub ready : SideReady side i.n (k + 1) o.window (rows_in i s) s
   pub apart : Apart side i.n s₀ s
 
-abbrev pub OpenEnds : Side → Input → ℕ → ℕ → List ℕ → List ℕ → Opened → Type 0
-OpenEnds side i k t s₀ s Unfilled = filled (pattern_of side i) k k ≡ false
-OpenEnds side i k t s₀ s (Row o) = RowFound side i k t s₀ s o
+abbrev pub OpenEnds : Side → Input → ℕ → ℕ → List ℕ → List ℕ → Option OpenRow → Type 0
+OpenEnds side i k t s₀ s None = filled (pattern_of side i) k k ≡ false
+OpenEnds side i k t s₀ s (Some o) = RowFound side i k t s₀ s o
 
 -- ---- keeping T(k): it is placed, and the cuts are renewed
 
@@ -130,9 +130,9 @@ pub record ListKept (way : Way) (P : Pattern) (n k cuts : ℕ) (store : List ℕ
   pub at : ListsAt way P n (k + 1) cuts store values starts runs index s e
   pub but : But cuts (cuts + k + 1) s₀ s
 
-abbrev pub KeepEnds : Way → Pattern → ℕ → ℕ → ℕ → List ℕ → ℕ → List ℕ → List ℕ → List ℕ → List ℕ → List ℕ → Put → Type 0
-KeepEnds way P n k cuts store values starts runs index s₀ s (Done e) = ListKept way P n k cuts store values starts runs index s₀ s e
-KeepEnds way P n k cuts store values starts runs index s₀ s Full = room (way_of way) (upper_row P n) (lower_row P) (length store) values k ≡ false
+abbrev pub KeepEnds : Way → Pattern → ℕ → ℕ → ℕ → List ℕ → ℕ → List ℕ → List ℕ → List ℕ → List ℕ → List ℕ → Option Extent → Type 0
+KeepEnds way P n k cuts store values starts runs index s₀ s (Some e) = ListKept way P n k cuts store values starts runs index s₀ s e
+KeepEnds way P n k cuts store values starts runs index s₀ s None = room (way_of way) (upper_row P n) (lower_row P) (length store) values k ≡ false
 
 -- ---- keeping lower row k in the plain form
 
@@ -151,10 +151,10 @@ pub record KeepingLower (n k values : ℕ) (starts index s : List ℕ) (count : 
   pub store : List ℕ
   pub keep : KeepLower pattern n k store values starts index s count e
 
-abbrev pub LowerEnds : Pattern → ℕ → List ℕ → ℕ → List ℕ → List ℕ → Put → Type 0
-LowerEnds P k store values starts index (Done e) =
+abbrev pub LowerEnds : Pattern → ℕ → List ℕ → ℕ → List ℕ → List ℕ → Option Extent → Type 0
+LowerEnds P k store values starts index (Some e) =
     (room plain (lower_row P) (lower_row (flip P)) (length store) values k ≡ true) × Holding OneAfterAnother (lower_row P) (lower_row (flip P)) values (k + 1) store starts starts index e
-LowerEnds P k store values starts index Full = room plain (lower_row P) (lower_row (flip P)) (length store) values k ≡ false
+LowerEnds P k store values starts index None = room plain (lower_row P) (lower_row (flip P)) (length store) values k ≡ false
 
 -- ---- the products of place k, added to those before
 
@@ -186,10 +186,10 @@ pub record SideAt (way : Way) (side : Side) (i : Input) (store : List ℕ) (valu
   pub at : ListsAt way (pattern_of side i) i.n k (cuts_of side i.n) store values starts runs index s e
 
 -- the same, for some column order and some store
-pub record SideDue (way : Way) (side : Side) (n values k t window : ℕ) (mstarts columns r starts runs index s : List ℕ) (e : Extent) : Type 0 where
+pub record SideDue (way : Way) (side : Side) (i : System) (values k t window : ℕ) (starts runs index s : List ℕ) (e : Extent) : Type 0 where
   pub order : List ℕ
   pub store : List ℕ
-  pub due : SideAt way side (input_of n mstarts columns [] r order []) store values k t window starts runs index s e
+  pub due : SideAt way side (pattern_by i order) store values k t window starts runs index s e
 
 pub record SideNext (way : Way) (side : Side) (i : Input) (store : List ℕ) (values k t : ℕ) (starts runs index s₀ s : List ℕ) (p : SidePlace) : Type 0 where
   pub diagonal : filled (pattern_of side i) k k ≡ true
@@ -201,8 +201,18 @@ pub record SideNext (way : Way) (side : Side) (i : Input) (store : List ℕ) (va
   pub size : p.below ≡ length (lower_row (pattern_of side i) k)
   pub lower : take p.below (drop (list_from i.n) s) ≡ lower_row (pattern_of side i) k
 
-abbrev pub SideEnds : Way → Side → Input → List ℕ → ℕ → ℕ → ℕ → List ℕ → List ℕ → List ℕ → List ℕ → List ℕ → SideEnd → Type 0
-SideEnds way side i store values k t starts runs index s₀ s NoDiagonal = filled (pattern_of side i) k k ≡ false
-SideEnds way side i store values k t starts runs index s₀ s NoRoom =
+-- why its list is not placed
+abbrev pub SideFails : Way → Side → Input → List ℕ → ℕ → ℕ → SideError → Type 0
+SideFails way side i store values k NoDiagonal = filled (pattern_of side i) k k ≡ false
+SideFails way side i store values k NoRoom =
     (filled (pattern_of side i) k k ≡ true) × (room (way_of way) (upper_row (pattern_of side i) i.n) (lower_row (pattern_of side i)) (length store) values k ≡ false)
-SideEnds way side i store values k t starts runs index s₀ s (Placed p) = SideNext way side i store values k t starts runs index s₀ s p
+
+abbrev pub SideEnds : Way → Side → Input → List ℕ → ℕ → ℕ → ℕ → List ℕ → List ℕ → List ℕ → List ℕ → List ℕ → Result SidePlace SideError → Type 0
+SideEnds way side i store values k t starts runs index s₀ s (Err e) = SideFails way side i store values k e
+SideEnds way side i store values k t starts runs index s₀ s (Ok p) = SideNext way side i store values k t starts runs index s₀ s p
+
+-- the refusal of a side's list that is not placed: 9, or 10 for the lower side and 11 for the upper one
+abbrev pub refusal_of : SideError → Side → Place → Refusal
+refusal_of NoDiagonal side k = NullPivot k
+refusal_of NoRoom Lower k = LowerSlots k
+refusal_of NoRoom Upper k = UpperSlots k

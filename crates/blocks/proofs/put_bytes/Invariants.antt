@@ -1,9 +1,7 @@
-use Prim.Native.Nat.{◌-◌}
-use Rattle.blocks.proofs.CheckLaws.{Storing}
+use Rattle.std.proofs.Common.{◌≡◌, ◌+◌, ◌-◌}
+use Rattle.std.proofs.lemmas.List.Edits.{sets}
+use Rattle.fields.specs.Numbers.{bytes}
 use Rattle.blocks.proofs.put_bytes.Given as goal
 
-abbrev pub invariant-loop-i : goal.invariant-loop-i
-invariant-loop-i l = Storing l.initial.file l.at l.width l.v l.file l.rest l.i
-
-abbrev pub decreases-loop-i : goal.decreases-loop-i
-decreases-loop-i l = l.width - l.i
+abbrev pub invariant-loop-p : goal.invariant-loop-p
+invariant-loop-p l = sets l.file l.p (bytes (l.at + l.width - l.p) l.rest) ≡ sets l.initial.file l.at (bytes l.width l.v)

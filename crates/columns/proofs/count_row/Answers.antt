@@ -1,32 +1,38 @@
 use Rattle.columns.proofs.WindowLaws.{count_room}
 use Rattle.columns.proofs.ColumnLaws.{row-start, row_more, row-end}
-use Rattle.lent.specs.ReadingLaws.{placed-length}
-use Rattle.marks.specs.MarkLaws.{entry_read, entry-below, room-kept}
-use Rattle.lent.specs.Reading.{order_of}
+use Rattle.lent.specs.ReadingLaws.{place_is, placed-length}
+use Rattle.marks.specs.MarkLaws.{entry_read, entry-below}
+use Rattle.lent.specs.Reading.{order_of, placed}
+use lib.ListN.{length, get_or}
+use mathlib.Core.Path.{◌≡◌}
+use Prim.Native.Nat.{◌<◌}
 use Rattle.columns.proofs.Keeps.{order-kept}
 use native.Mathlib.Omega.{arith}
 use Rattle.columns.proofs.count_row.Goals as goal
+use Rattle.columns.proofs.count_row.Goals.{After-place_of-place}
 
-pub loop-q-init : goal.loop-q-init
-loop-q-init c = (omega arith, row-start)
+pub loop-column-init : goal.loop-column-init
+loop-column-init c = row-start
 
-pub entry_place-j-requires : goal.entry_place-j-requires
-entry_place-j-requires c =
-    (omega arith, c.requires.below c.loop-q.q (omega arith), c.requires.room.small, omega (arith, c.loop-q.invariant.1.kept.size, c.requires.room.long))
+-- the place that was read is that of the inverse order at entry
+place : (c : After-place_of-place)
+    → let xs = placed (order_of c.args.n c.args.marks.now) c.args.cols.now in
+    (c.loop-column.column-index < length xs) × (c.place_of-place.result.0 ≡ get_or xs c.loop-column.column-index 0)
+place c =
+    entry_read c.args.n c.loop-column.column-index _ _ _ c.args.cols.now c.loop-column-test.true (order-kept c.args.n 0 c.args.n c.loop-column.invariant.kept)
+    (place_is c.place_of-place.result _ _ _ c.place_of-place.ensures c.number.ensures.0)
 
-pub count_one-requires : goal.count_one-requires
-count_one-requires c =
-    let k = c.loop-q.invariant.1.kept in
-    let e = entry_read c.args.n c.loop-q.q _ _ _ c.args.cols.now (omega arith) (order-kept c.args.n 0 c.args.n k) c.entry_place-j.ensures in
-    let b = entry-below c.args.n c.loop-q.q _ _ c.args.cols.now c.requires.order c.requires.below e.0 e.1 in
-    record { room = room-kept _ _ _ k.size c.requires.room; i_lt_n = (c.requires.i_lt_n.0, b, count_room c.requires.i_lt_n.0 b c.requires.i_lt_n.1 c.loop-q.invariant.1) }
+pub count_one-requires-clause-bounds : goal.count_one-requires-clause-bounds
+count_one-requires-clause-bounds c =
+    let e = place (goal.at.count_one-requires-clause-bounds c).After-place_of-place in
+    let b = entry-below c.args.n c.loop-column.column-index _ _ c.args.cols.now c.requires.order c.requires.below e.0 e.1 in
+    (c.requires.countable.0, b, count_room c.requires.countable.0 b c.requires.countable.1 c.loop-column.invariant)
 
-pub loop-q-preserved : goal.loop-q-preserved
-loop-q-preserved c =
-    let k = c.loop-q.invariant.1.kept in
-    let e = entry_read c.args.n c.loop-q.q _ _ _ c.args.cols.now (omega arith) (order-kept c.args.n 0 c.args.n k) c.entry_place-j.ensures in
-    (omega arith, row_more c.loop-q.q _ e.0 e.1 c.loop-q.invariant.1 c.count_one.ensures)
+pub loop-column-preserved : goal.loop-column-preserved
+loop-column-preserved c =
+    let e = place (goal.at.loop-column-preserved c).After-place_of-place in
+    row_more c.loop-column.column-index _ e.0 e.1 c.loop-column.invariant c.count_one.ensures
 
 pub returns : goal.returns
 returns c =
-    row-end c.loop-q.q _ (omega (arith, placed-length (order_of c.args.n c.args.marks.now) c.args.cols.now)) c.loop-q.invariant.1
+    row-end c.loop-column.column-index _ (omega (arith, placed-length (order_of c.args.n c.args.marks.now) c.args.cols.now)) c.loop-column.invariant

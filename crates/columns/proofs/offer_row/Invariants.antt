@@ -1,11 +1,7 @@
 use Rattle.lent.specs.Reading.{order_of, placed}
 use Rattle.columns.specs.Columns.{Offered}
-use lib.ListN.{length, take}
-use Prim.Native.Nat.{◌-◌, ◌≤◌}
+use lib.ListN.{take}
 use Rattle.columns.proofs.offer_row.Given as goal
 
-abbrev pub invariant-loop-q : goal.invariant-loop-q
-invariant-loop-q l = (l.q ≤ length l.cols) × Offered l.n l.lo l.hi l.i (take l.q (placed (order_of l.n l.initial.marks) l.cols)) l.initial.marks l.marks l.used l.p
-
-abbrev pub decreases-loop-q : goal.decreases-loop-q
-decreases-loop-q l = length l.cols - l.q
+abbrev pub invariant-loop-column : goal.invariant-loop-column
+invariant-loop-column l = Offered l.n l.lo l.hi l.i (take l.column-index (placed (order_of l.n l.initial.marks) l.cols)) l.initial.marks l.marks l.used l.p

@@ -1,4 +1,4 @@
-use Rattle.columns.proofs.WindowLaws.{open-start, open_more, open-stop, open-end}
+use Rattle.columns.proofs.WindowLaws.{open-start, open_more, open-stop}
 use native.Mathlib.Omega.{arith}
 use Rattle.columns.proofs.open_window.Goals as goal
 
@@ -12,6 +12,3 @@ returns-then-left-count c =
 pub loop-hi-preserved : goal.loop-hi-preserved
 loop-hi-preserved c =
     open_more c.requires.room (omega arith) c.slot-count.ensures.0 (omega arith) c.loop-hi.invariant
-
-pub returns : goal.returns
-returns c = open-end (omega arith) c.loop-hi.invariant

@@ -1,10 +1,7 @@
 use Rattle.marks.specs.MarkLaws.{room-kept}
-use Rattle.columns.proofs.ListLaws.{walk_start, walk-node, walk_more, left_end}
+use Rattle.columns.proofs.ListLaws.{walk-node, walk_more, left_end}
 use native.Mathlib.Omega.{arith}
 use Rattle.columns.proofs.stamp_list.Goals as goal
-
-pub loop-h-init : goal.loop-h-init
-loop-h-init c = walk_start _ _ _ _ (omega arith)
 
 pub mark-requires : goal.mark-requires
 mark-requires c =

@@ -3,4 +3,4 @@ use Rattle.factor.specs.EndLaws.{part-zeroed}
 use Rattle.factor.proofs.clear_region.Goals as goal
 
 pub returns : goal.returns
-returns c = part-zeroed _ _ _ _ _ c.requires refl c.clear_u32.ensures
+returns c = part-zeroed _ _ _ _ _ c.requires refl c.clear.ensures

@@ -1,7 +1,8 @@
 use Rattle.factor.specs.Factoring.{CameTo}
-use Rattle.factor.specs.TurnLaws.{zero-met, overflow-met}
+use Rattle.factor.specs.TurnLaws.{fault-is, zero-met, overflow-met}
 use Rattle.factor.specs.FormLaws.{row-ready, keep-asked, close-asked, row_more}
 use mathlib.Core.Path.{◌∙◌}
+use Rattle.numeric.specs.declared.RowFault.TheVariants.{Zero, Overflow}
 use Rattle.factor.proofs.eliminate_row.Goals as goal
 
 pub reduce_at-row-requires : goal.reduce_at-row-requires
@@ -18,12 +19,9 @@ close_at-requires c =
     let e = c.keep_at in
     close-asked c.args.form c.requires.1.1 c.requires.0 q.new.marks q.result.below q.ensures.0 q.auto.marks q.new.work q.auto.work e.ensures e.auto.marks
 
-pub shape_of-marks-in-Usable : goal.shape_of-marks-in-Usable
-shape_of-marks-in-Usable c = c.keep_at.auto.marks ∙ c.reduce_at-row.auto.marks
-
-pub returns-in-Usable : goal.returns-in-Usable
+pub returns-in-Ok : goal.returns-in-Ok
 unfolding CameTo
-returns-in-Usable c o G =
+returns-in-Ok c o G =
     let q = c.reduce_at-row in
     let e = c.keep_at in
     let k = c.close_at in
@@ -36,16 +34,16 @@ returns-in-Usable c o G =
       work-size = k.auto.work ∙ q.auto.work;
       marks-size = e.auto.marks ∙ q.auto.marks;
     })
-    c.in-Usable.t q.result.pivot c.in-Usable.is (q.ensures.1 o G.rows (row-ready c.args.form G c.requires.0) G.held) k.ensures
+    c.in-Ok.t q.result.sums c.in-Ok.is (q.ensures.1 o G.rows (row-ready c.args.form G c.requires.0) G.held) k.ensures
 
-pub returns-in-Zero : goal.returns-in-Zero
+pub returns-in-Err-Zero : goal.returns-in-Err-Zero
 unfolding CameTo
-returns-in-Zero c o G =
+returns-in-Err-Zero c o G =
     let q = c.reduce_at-row in
-    zero-met G c.requires.0 q.result.pivot c.in-Zero.is (q.ensures.1 o G.rows (row-ready c.args.form G c.requires.0) G.held)
+    zero-met G c.requires.0 q.result.sums (fault-is q.result.sums c.in-Err-Zero.field-0 Zero c.in-Err-Zero.is (rw c.in-Err-Zero.is at c.in-Err-Zero.field-0-is)) (q.ensures.1 o G.rows (row-ready c.args.form G c.requires.0) G.held)
 
-pub returns-in-Overflow : goal.returns-in-Overflow
+pub returns-in-Err-Overflow : goal.returns-in-Err-Overflow
 unfolding CameTo
-returns-in-Overflow c o G =
+returns-in-Err-Overflow c o G =
     let q = c.reduce_at-row in
-    overflow-met G c.requires.0 q.result.pivot c.in-Overflow.is (q.ensures.1 o G.rows (row-ready c.args.form G c.requires.0) G.held)
+    overflow-met G c.requires.0 q.result.sums (fault-is q.result.sums c.in-Err-Overflow.field-0 Overflow c.in-Err-Overflow.is (rw c.in-Err-Overflow.is at c.in-Err-Overflow.field-0-is)) (q.ensures.1 o G.rows (row-ready c.args.form G c.requires.0) G.held)

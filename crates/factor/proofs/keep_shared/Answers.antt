@@ -47,17 +47,8 @@ offset_bounds-marks-cursors-in-loop-p c = omega (arith, c.requires.1.lower.few, 
 pub bounds-marks-cursors-in-loop-p : goal.bounds-marks-cursors-in-loop-p
 bounds-marks-cursors-in-loop-p c = omega (arith, c.requires.1.lower.room, c.loop-p.invariant.size, column-in c.requires.1 c.loop-p.invariant c.loop-p-test.true _ c.slot-i.ensures.0)
 
-pub loop-p-smaller : goal.loop-p-smaller
-loop-p-smaller c = omega (arith, c.loop-p-test.true)
-
 pub loop-p-preserved : goal.loop-p-preserved
 loop-p-preserved c = spreading-more c.requires.1 c.loop-p.invariant c.loop-p-test.true _ c.slot-i.ensures.0 _ _ c.slot-start.ensures.0 c.slot.ensures.0
 
-pub shape_of-lower_values : goal.shape_of-lower_values
-shape_of-lower_values c = c.loop-p.invariant.keeping.same-l
-
-pub shape_of-marks : goal.shape_of-marks
-shape_of-marks c = c.loop-p.invariant.size
-
 pub returns : goal.returns
-returns c = spreading-end c.loop-p.invariant c.requires.1.lower (omega (arith, c.loop-p-test))
+returns c = spreading-end c.loop-p.invariant c.requires.1.lower c.loop-p-test.false

@@ -6,18 +6,17 @@ use Rattle.factors.specs.PresentedLaws.{was-bad, was-good}
 use borrow.Author.Rules.{rules}
 use Rattle.factor_contents.proofs.ask_lists_in.Goals as goal
 
-pub loop-k-preserved : goal.loop-k-preserved
-loop-k-preserved c =
-    (search rules, first_more _ _ c.loop-k.invariant.1 (was-good _ _ c.place_good.ensures c.if-place_good.true))
+pub loop-k-init : goal.loop-k-init
+loop-k-init c = first-zero _
 
-pub returns-else-place_good : goal.returns-else-place_good
+pub loop-k-preserved : goal.loop-k-preserved
+loop-k-preserved c = first_more _ _ c.loop-k.invariant (was-good _ _ c.place_good.ensures c.if-not-place_good.false)
+
+pub returns-then-not-place_good : goal.returns-then-not-place_good
 unfolding ask_factors
-returns-else-place_good c =
-    ask-at _ _ _ _ _ (search rules) c.loop-k.invariant.1 (was-bad _ _ c.place_good.ensures c.if-place_good.false) refl
+returns-then-not-place_good c =
+    ask-at _ _ _ _ _ (search rules) c.loop-k.invariant (was-bad _ _ c.place_good.ensures c.if-not-place_good.true) refl
 
 pub returns : goal.returns
 unfolding ask_factors
 returns c = search ask-pass
-
-pub loop-k-init : goal.loop-k-init
-loop-k-init c = (search rules, first-zero _)

@@ -1,7 +1,6 @@
+use Rattle.std.specs.Prelude.{None}
 use mathlib.Core.Path.{◌≡◌}
-use Prim.Native.Nat.{◌-◌, ◌≤◌}
 use Rattle.base.specs.First.{first}
-use Rattle.base.specs.declared.Found.TheVariants.{Nothing}
 use Rattle.base.specs.declared.Form.TheVariants.{Plain}
 use Rattle.outcome.specs.Resolve.{bad_at}
 use Rattle.factor_contents.specs.FactorFile.{lists_at}
@@ -9,7 +8,4 @@ use Rattle.factor_contents.specs.Judging.{presented_lists}
 use Rattle.factor_contents.proofs.ask_lists_in.Given as goal
 
 abbrev pub invariant-loop-k : goal.invariant-loop-k
-invariant-loop-k l = (l.k ≤ l.n) × (first (bad_at Plain l.n (presented_lists (lists_at l.file l.n l.lower l.upper))) l.k ≡ Nothing)
-
-abbrev pub decreases-loop-k : goal.decreases-loop-k
-decreases-loop-k l = l.n - l.k
+invariant-loop-k l = first (bad_at Plain l.n (presented_lists (lists_at l.file l.n l.lower l.upper))) l.k ≡ None

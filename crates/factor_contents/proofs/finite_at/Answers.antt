@@ -1,17 +1,17 @@
-use mathlib.Core.Path.{sym, ◌∙◌}
+use mathlib.Core.Path.{refl, ◌∙◌}
+use Prim.Native.Nat.{◌+◌, ◌*◌}
 use native.Mathlib.Omega.{arith}
-use Rattle.factor_contents.proofs.JudgingLaws.{finite-more, finite-stop, finite-end}
+use lib.Ieee.{binary64, of_bits}
+use lib.Ieee.Scale.{finite}
+use Rattle.std.proofs.Common.{rules, tests}
+use Rattle.std.proofs.lemmas.Iterator.{YieldsList-from_range}
+use Rattle.std.proofs.lemmas.Iterator.Search.{all_from_yields_List}
+use Rattle.fields.specs.Numbers.{le}
+use Rattle.fields.specs.Payload.{payload}
+use Rattle.factor_contents.proofs.JudgingLaws.{finite-all-at}
 use Rattle.factor_contents.proofs.finite_at.Goals as goal
 
-pub loop-left-preserved : goal.loop-left-preserved
-loop-left-preserved c =
-    let l = c.loop-left in
-    (omega arith, finite-more _ l.p l.left _ _ _ c.number_at.ensures.0 c.float_of-x.ensures c.is_finite.ensures (omega arith) c.if-is_finite.true ∙ l.invariant.1)
-
-pub returns-else-is_finite : goal.returns-else-is_finite
-returns-else-is_finite c =
-    let l = c.loop-left in
-    sym (finite-stop _ l.p l.left _ _ _ c.number_at.ensures.0 c.float_of-x.ensures c.is_finite.ensures (omega arith) c.if-is_finite.false) ∙ l.invariant.1
-
 pub returns : goal.returns
-returns c = sym (finite-end _ c.loop-left.p _ (omega arith)) ∙ c.loop-left.invariant.1
+returns c =
+    all_from_yields_List (λ i. finite (of_bits binary64 (le 8 (payload c.args.file.now) (c.args.at + 8 * i)))) _ _ _ c.all.ensures.ran (YieldsList-from_range 0 c.args.count c.args.count refl (omega arith)) (λ x b q k. search (rules, tests))
+    ∙ finite-all-at c.args.file.now c.args.at c.args.count

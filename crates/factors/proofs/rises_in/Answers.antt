@@ -1,17 +1,16 @@
 use mathlib.Core.Path.{refl, sym, ◌∙◌}
-use native.Mathlib.Omega.{arith}
 use Rattle.factors.specs.PresentedLaws.{rises-more, rises-stop, rises-end}
 use Rattle.factors.proofs.rises_in.Goals as goal
 
-pub loop-p-preserved : goal.loop-p-preserved
-loop-p-preserved c =
-    let l = c.loop-p in
-    (omega arith, rises-more l.least _ _ l.p _ _ c.wide-j.ensures.0 refl (omega arith) c.if-least-j.true ∙ l.invariant.1)
+pub loop-place-preserved : goal.loop-place-preserved
+loop-place-preserved c =
+    let l = c.loop-place in
+    rises-more l.least _ _ l.place-index _ _ c.wide-j.ensures.0 refl c.loop-place-test.true c.if-not-least-j.false ∙ l.invariant
 
-pub returns-else-least-j : goal.returns-else-least-j
-returns-else-least-j c =
-    let l = c.loop-p in
-    sym (rises-stop l.least _ _ l.p _ _ c.wide-j.ensures.0 refl (omega arith) c.if-least-j.false) ∙ l.invariant.1
+pub returns-then-not-least-j : goal.returns-then-not-least-j
+returns-then-not-least-j c =
+    let l = c.loop-place in
+    sym (rises-stop l.least _ _ l.place-index _ _ c.wide-j.ensures.0 refl c.loop-place-test.true c.if-not-least-j.true) ∙ l.invariant
 
 pub returns : goal.returns
-returns c = sym (rises-end c.loop-p.least _ _ c.loop-p.p (omega arith)) ∙ c.loop-p.invariant.1
+returns c = sym (rises-end c.loop-place.least _ _ c.loop-place.place-index c.loop-place-test.false) ∙ c.loop-place.invariant

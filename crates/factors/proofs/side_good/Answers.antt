@@ -22,7 +22,8 @@ returns-then-on_side c =
     good-values _ _ _ _ _ c.args.form c.args.side c.args.n c.requires.1.runs-are _ c.outside.ensures _ _ c.list_at-list.ensures c.on_side.ensures
     c.if-outside.false _ _ c.values_at.ensures c.all_finite.ensures c.if-on_side.true
 
-pub returns : goal.returns
-returns c =
-    good-aside _ _ _ _ _ c.args.form c.args.side c.args.n c.requires.1.runs-are _ c.outside.ensures _ _ c.list_at-list.ensures c.on_side.ensures
+pub returns-else-on_side : goal.returns-else-on_side
+returns-else-on_side c =
+    c.if-on_side.false
+    ∙ good-aside _ _ _ _ _ c.args.form c.args.side c.args.n c.requires.1.runs-are _ c.outside.ensures _ _ c.list_at-list.ensures c.on_side.ensures
     c.if-outside.false c.if-on_side.false

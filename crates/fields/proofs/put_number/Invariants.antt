@@ -1,9 +1,7 @@
-use Prim.Native.Nat.{◌-◌}
-use Rattle.fields.proofs.PutLaws.{Putting}
+use Rattle.std.proofs.Common.{◌≡◌, ◌++◌, ◌+◌, ◌-◌}
+use Rattle.fields.specs.Numbers.{bytes}
+use Rattle.fields.specs.Payload.{payloads}
 use Rattle.fields.proofs.put_number.Given as goal
 
-abbrev pub invariant-loop-i : goal.invariant-loop-i
-invariant-loop-i l = Putting l.initial.file l.at l.width l.v l.file l.rest l.i
-
-abbrev pub decreases-loop-i : goal.decreases-loop-i
-decreases-loop-i l = l.width - l.i
+abbrev pub invariant-loop-p : goal.invariant-loop-p
+invariant-loop-p l = payloads l.file l.p ++ bytes (l.at + l.width - l.p) l.rest ≡ payloads l.initial.file l.at ++ bytes l.width l.v

@@ -1,14 +1,12 @@
+use Rattle.std.proofs.Common.{arith}
 use Rattle.fields.proofs.PutLaws.{zero-start, zero_more, zero-end}
-use native.Mathlib.Omega.{arith}
 use Rattle.fields.proofs.put_zeros.Goals as goal
 
-pub loop-i-init : goal.loop-i-init
-loop-i-init c = zero-start _ _ (omega arith)
+pub loop-p-init : goal.loop-p-init
+loop-p-init c = zero-start _ _
 
-pub loop-i-preserved : goal.loop-i-preserved
-loop-i-preserved c =
-    let s = c.put_number-i in
-    zero_more _ _ _ _ _ _ c.loop-i-test.true s.auto.file s.ensures.0 s.ensures.1 c.loop-i.invariant
+pub loop-p-preserved : goal.loop-p-preserved
+loop-p-preserved c = let s = c.put_number in zero_more _ _ _ _ _ _ (omega arith) s.ensures.0 s.ensures.1 c.loop-p.invariant
 
 pub returns : goal.returns
-returns c = zero-end _ _ _ _ c.loop-i-test.false c.loop-i.invariant
+returns c = zero-end _ c.args.from _ c.loop-p.p (omega arith) c.loop-p.invariant

@@ -1,9 +1,6 @@
-use Prim.Native.Nat.{◌-◌}
-use Rattle.fields.proofs.PutLaws.{Zeroing}
+use Rattle.std.proofs.Common.{◌≡◌, ◌++◌, ◌-◌, replicate}
+use Rattle.fields.specs.Payload.{payloads}
 use Rattle.fields.proofs.put_zeros.Given as goal
 
-abbrev pub invariant-loop-i : goal.invariant-loop-i
-invariant-loop-i l = Zeroing l.initial.file l.from l.file l.i
-
-abbrev pub decreases-loop-i : goal.decreases-loop-i
-decreases-loop-i l = l.end - l.i
+abbrev pub invariant-loop-p : goal.invariant-loop-p
+invariant-loop-p l = payloads l.file l.p ≡ payloads l.initial.file l.from ++ replicate (l.p - l.from) 0

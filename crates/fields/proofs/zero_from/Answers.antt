@@ -1,16 +1,11 @@
-use Rattle.base.specs.FirstLaws.{first-zero}
-use Rattle.fields.proofs.ZeroLaws.{zero-hit, zero-on, zero-all}
-use borrow.Author.Rules.{rules}
+use Rattle.std.proofs.Common.{eqb, refl, ◌∙◌, rules, tests}
+use Rattle.std.proofs.lemmas.Iterator.{YieldsList-from_range}
+use Rattle.std.proofs.lemmas.Iterator.Search.{all_from_yields_List}
+use Rattle.fields.specs.Payload.{payload}
+use Rattle.fields.proofs.ZeroLaws.{zero-all}
 use Rattle.fields.proofs.zero_from.Goals as goal
 
-pub loop-i-init : goal.loop-i-init
-loop-i-init c = (search rules, first-zero _)
-
-pub returns-then-payload_byte-ne0 : goal.returns-then-payload_byte-ne0
-returns-then-payload_byte-ne0 c = zero-hit _ _ _ _ c.loop-i-test.true c.loop-i.invariant.1 c.payload_byte.ensures.0 c.if-payload_byte-ne0.true
-
-pub loop-i-preserved : goal.loop-i-preserved
-loop-i-preserved c = (search rules, zero-on _ _ _ _ c.loop-i.invariant.1 c.payload_byte.ensures.0 c.if-payload_byte-ne0.false)
-
 pub returns : goal.returns
-returns c = zero-all _ _ _ (search rules) (search rules) c.loop-i.invariant.1
+returns c =
+    all_from_yields_List (λ p. eqb (payload c.args.file.now p) 0) _ _ _ c.all.ensures.ran (YieldsList-from_range c.args.from _ _ refl refl) (λ x b q k. search (rules, tests))
+    ∙ zero-all c.args.file.now c.args.from

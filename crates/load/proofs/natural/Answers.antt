@@ -1,16 +1,11 @@
 use Prim.Native.Nat.{ℕ}
 use mathlib.Core.Path.{refl}
 use native.Mathlib.Omega.{arith}
-use Rattle.base.specs.Lists.{table}
-use Rattle.base.specs.TableLaws.{fill_more, fill_end}
+use Rattle.base.specs.TableLaws.{fill_start, fill_more}
 use Rattle.load.proofs.natural.Goals as goal
 
 pub loop-k-init : goal.loop-k-init
-unfolding table
-loop-k-init c = (omega arith, refl, refl)
+loop-k-init c = fill_start (λ (i : ℕ). i) _ _ refl
 
 pub loop-k-preserved : goal.loop-k-preserved
 loop-k-preserved c = fill_more (λ (i : ℕ). i) _ _ c.loop-k.k _ (omega arith) c.narrow.ensures c.loop-k.invariant
-
-pub returns : goal.returns
-returns c = fill_end (λ (i : ℕ). i) _ _ c.loop-k.k (omega arith) c.loop-k.invariant

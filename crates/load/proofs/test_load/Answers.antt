@@ -21,7 +21,7 @@ returns-then-not-lengths_right c =
 pub draw_rows-entries-requires : goal.draw_rows-entries-requires
 draw_rows-entries-requires c =
     let a = c.args in
-    rows-lent _ _ _ _ _ a.r.now a.c.now a.b.now _ c.rows_within.ensures (ap not c.if-not-rows_within.false) _ c.lengths_right.ensures (ap not c.if-not-lengths_right.false) c.ranges.seed.fits _ _ c.clear_index.ensures c.clear_f64.ensures
+    rows-lent _ _ _ _ _ a.r.now a.c.now a.b.now _ c.rows_within.ensures (ap not c.if-not-rows_within.false) _ c.lengths_right.ensures (ap not c.if-not-lengths_right.false) c.ranges.seed.fits _ _ c.clear.ensures c.clear-2.ensures
 
 pub natural-requires : goal.natural-requires
 natural-requires c =

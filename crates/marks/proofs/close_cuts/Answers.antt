@@ -4,24 +4,23 @@ use Rattle.marks.proofs.close_cuts.Goals as goal
 
 pub loop-p-init : goal.loop-p-init
 loop-p-init c =
-    let q = c.requires.k_lt_n in
-    (omega arith, listed-fit _ _ _ q.0 q.2 _ c.requires.walk, listed_start _ _ _ q.0 q.2 _ c.requires.walk _ _ q.1)
+    let q = c.requires.bounds in
+    (listed-fit _ _ _ q.0 q.2 _ c.requires.walk, listed_start _ _ _ q.0 q.2 _ c.requires.walk _ _ q.1)
 
 pub cut_list-requires : goal.cut_list-requires
 cut_list-requires c =
-    let q = c.requires.k_lt_n in
-    let i = listed_below _ _ _ q.0 q.2 c.args.below c.requires.walk _ _ q.1 _ _ c.loop-p.invariant.2 c.slot-i.result (omega arith) c.slot-i.ensures.0 in
-    (omega (arith, q.1.high, q.2.long, c.loop-p.invariant.2.long), c.requires.by_index c.slot-i.result i)
+    let q = c.requires.bounds in
+    let i = listed_below _ _ _ q.0 q.2 c.args.below c.requires.walk _ _ q.1 _ _ c.loop-p.invariant.1 c.slot-i.result (omega arith) c.slot-i.ensures.0 in
+    (omega (arith, q.1.high, q.2.long, c.loop-p.auto.marks), c.requires.lists c.slot-i.result i)
 
 pub loop-p-preserved : goal.loop-p-preserved
 loop-p-preserved c =
-    let q = c.requires.k_lt_n in (
-      omega arith,
-      c.loop-p.invariant.1,
-      listed_more _ _ _ q.0 q.2 c.args.below c.requires.walk _ _ q.1 _ _ c.loop-p.invariant.2 _ c.slot-i.result (omega arith) c.slot-i.ensures.0 c.cut_list.ensures,
+    let q = c.requires.bounds in (
+      c.loop-p.invariant.0,
+      listed_more _ _ _ q.0 q.2 c.args.below c.requires.walk _ _ q.1 _ _ c.loop-p.invariant.1 _ c.slot-i.result (omega arith) c.slot-i.ensures.0 c.cut_list.ensures,
     )
 
 pub returns : goal.returns
 returns c =
-    let q = c.requires.k_lt_n in
-    listed-end _ _ _ q.0 q.2 c.args.below c.requires.walk _ _ q.1 _ _ c.loop-p.invariant.2 (omega arith)
+    let q = c.requires.bounds in
+    listed-end _ _ _ q.0 q.2 c.args.below c.requires.walk _ _ q.1 _ _ c.loop-p.invariant.1 (omega arith)

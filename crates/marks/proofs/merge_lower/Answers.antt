@@ -1,35 +1,36 @@
-use Rattle.marks.specs.MarkLaws.{room-kept}
-use Rattle.marks.specs.MergeLaws.{going_start, going-past, going_end, parts-kept}
-use Prim.Native.Nat.{◌≤◌}
+use Rattle.marks.specs.MergeLaws.{going_start, going-past, parts-kept}
+use Rattle.std.specs.Prelude.{min}
+use mathlib.Core.Path.{◌≡◌}
+use Prim.Native.Nat.{◌+◌, ◌*◌, ◌/◌, ◌≤◌}
 use native.Mathlib.Omega.{arith}
 use Rattle.marks.proofs.merge_lower.Goals as goal
+use Rattle.marks.proofs.merge_lower.Goals.{then-marks-n, else-marks-n}
 
-pub loop-i-init : goal.loop-i-init
-loop-i-init c = (omega arith, going_start _ _ _ _ c.requires.blocks)
+pub loop-b-init : goal.loop-b-init
+loop-b-init c =
+    let q : min c.args.k 0 ≡ 0 = omega arith in
+    rw q (going_start _ _ _ _ c.requires.blocks)
 
-pub merge_block-count-requires : goal.merge_block-count-requires
-merge_block-count-requires c =
-    let r = c.block_end-stop in
-    let g = c.loop-i.invariant.1 in
-    let q = c.requires.k_le_n in
-    let small : r.result ≤ c.args.n = omega (arith, r.ensures.1, q.0) in record { parts = parts-kept c.args.n r.result c.args.cuts c.args.runs.now c.args.index.now c.args.marks.now c.loop-i.marks q.1 small g.cuts c.args.k r.ensures.1 c.requires.parts; had_le_from = (g.within, omega (arith, r.ensures.0), small, q.1, room-kept _ c.args.marks.now _ g.long q.2) }
+pub merge_block-count-requires-clause-parts : goal.merge_block-count-requires-clause-parts
+merge_block-count-requires-clause-parts c =
+    let s = c.args in
+    let q = c.requires.bounds in
+    let few : c.min-end.result ≤ s.k = omega arith in
+    let small : c.min-end.result ≤ s.n = omega (arith, q.0) in
+    parts-kept s.n c.min-end.result s.cuts s.runs.now s.index.now s.marks.now c.loop-b.marks q.1 small c.loop-b.invariant.cuts s.k few c.requires.parts
 
-pub loop-i-preserved-then-marks-n : goal.loop-i-preserved-then-marks-n
-loop-i-preserved-then-marks-n c =
-    (c.block_end-stop.ensures.1, c.merge_block-count.ensures c.args.marks.now c.loop-i.invariant.1)
-
-pub next_block-i-requires : goal.next_block-i-requires
-next_block-i-requires c =
-    let q = c.requires.k_le_n in
-    record { j_lt_end = (omega arith, q.0, room-kept _ c.args.marks.now _ c.loop-i.invariant.1.long q.2); fact = c.if-marks-n.false }
-
-pub loop-i-smaller : goal.loop-i-smaller
-loop-i-smaller c = omega (arith, c.next_block-i.ensures.above, c.next_block-i.ensures.within)
-
-pub loop-i-preserved : goal.loop-i-preserved
-loop-i-preserved c =
-    let r = c.next_block-i.ensures in
-    (r.within, going-past _ _ _ _ _ c.loop-i.i _ _ _ c.requires.k_le_n.0 r c.loop-i.invariant.1)
-
-pub returns : goal.returns
-returns c = going_end _ _ _ _ _ _ _ _ (omega arith) c.loop-i.invariant.1
+pub loop-b-preserved : goal.loop-b-preserved
+loop-b-preserved c =
+    let s = c.args in
+    let b = c.loop-b.b in
+    let now : min s.k (b * 64) ≡ b * 64 = omega arith in
+    let g = rw now at c.loop-b.invariant in
+    elim c.if-marks-n.branch [
+      | then-marks-n w ↦ (let stop : w.min-end.result ≡ min s.k ((b + 1) * 64) = omega arith in
+          rw (w.marks-is, w.count-is, ← stop) (w.merge_block-count.ensures s.marks.now g))
+      | else-marks-n w ↦ rw (w.marks-is, w.count-is) (going-past _ _ _ _ _ (b * 64) _ s.k _ c.requires.bounds.0 (record {
+        above = omega arith;
+        within = omega arith;
+        none = λ i x y e. let q : i / 64 ≡ b = omega arith in w.if-marks-n.false (rw q at e);
+      }) g)
+    ]

@@ -1,10 +1,5 @@
 use Rattle.marks.specs.ListLaws.{Added}
-use Prim.Native.Nat.{◌-◌}
-use lib.ListN.{length}
 use Rattle.marks.proofs.row_products.Given as goal
 
-abbrev pub invariant-loop-p : goal.invariant-loop-p
-invariant-loop-p l = Added l.list l.starts l.p l.sum
-
-abbrev pub decreases-loop-p : goal.decreases-loop-p
-decreases-loop-p l = length l.list - l.p
+abbrev pub invariant-loop-i : goal.invariant-loop-i
+invariant-loop-i l = Added l.list l.starts l.i-index l.sum

@@ -29,8 +29,8 @@ overflow_add-n-3 c = omega (arith, range-of c.args.n _ c.rows_within.ensures (ap
 pub overflow_mul-n-2 : goal.overflow_mul-n-2
 overflow_mul-n-2 c = omega (arith, range-of c.args.n _ c.rows_within.ensures (ap not c.if-not-rows_within.false))
 
-pub returns-then-not-lengths_right-len : goal.returns-then-not-lengths_right-len
-returns-then-not-lengths_right-len c = ask-2 _ _ _ _ _ _ _ _ _ c.rows_within.ensures (ap not c.if-not-rows_within.false) c.if-e-gt-MAX_ENTRIES.false _ c.lengths_right.ensures (ap not c.if-not-lengths_right-len.true)
+pub returns-then-lengths_right-len : goal.returns-then-lengths_right-len
+returns-then-lengths_right-len c = ask-pass _ _ _ _ _ _ _ _ _ c.rows_within.ensures (ap not c.if-not-rows_within.false) c.if-e-gt-MAX_ENTRIES.false _ c.lengths_right.ensures (ap not c.if-lengths_right-len.true)
 
 pub returns : goal.returns
-returns c = ask-pass _ _ _ _ _ _ _ _ _ c.rows_within.ensures (ap not c.if-not-rows_within.false) c.if-e-gt-MAX_ENTRIES.false _ c.lengths_right.ensures (ap not c.if-not-lengths_right-len.false)
+returns c = ask-2 _ _ _ _ _ _ _ _ _ c.rows_within.ensures (ap not c.if-not-rows_within.false) c.if-e-gt-MAX_ENTRIES.false _ c.lengths_right.ensures (ap not c.if-lengths_right-len.false)

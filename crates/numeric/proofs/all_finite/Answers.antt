@@ -1,32 +1,19 @@
-use Rattle.numeric.proofs.Turns.{finite_on-pass, finite_on-fail, finite_on-end}
-use lib.ListN.{length, get_or}
-use mathlib.Core.Path.{sym, ◌∙◌}
-use Prim.Native.Nat.{◌<◌}
-use native.Mathlib.Omega.{arith}
+use Rattle.std.proofs.Common.{rules, tests, ◌<◌, length, get_or}
+use Rattle.std.proofs.lemmas.Iterator.{YieldsList-from_slice}
+use Rattle.std.proofs.lemmas.Iterator.Adapters.{serves_from_places}
+use Rattle.std.proofs.lemmas.Iterator.Search.{all_from_yields_List}
+use Rattle.numeric.proofs.Turns.{place_inside, finite_on-all}
+use lib.Ieee.{nan}
+use lib.Ieee.Scale.{finite}
+use mathlib.Core.Path.{◌∙◌}
 use Rattle.numeric.proofs.all_finite.Goals as goal
-use Rattle.numeric.proofs.all_finite.Goals.{In-loop-p}
 
--- the place at turn p is one of w's
-inside : (c : In-loop-p) → get_or c.args.columns.now c.loop-p.p 0 < length c.args.w.now
-inside c = c.requires c.loop-p.p c.loop-p-test.true
-
-pub offset_bounds-w-j : goal.offset_bounds-w-j
-offset_bounds-w-j c = omega (arith, inside (goal.at.offset_bounds-w-j c).In-loop-p, c.wide-j.ensures.0)
-
-pub bounds-w-j : goal.bounds-w-j
-bounds-w-j c = rw c.wide-j.ensures.0 (inside (goal.at.bounds-w-j c).In-loop-p)
-
-pub loop-p-preserved : goal.loop-p-preserved
-loop-p-preserved c =
-    let a = c.args in
-    let l = c.loop-p in
-    (omega arith, finite_on-pass a.columns.now a.w.now l.p (omega arith) (sym (rw c.wide-j.ensures.0 at c.is_finite.ensures) ∙ c.if-is_finite.true) ∙ l.invariant.1)
-
-pub returns-else-is_finite : goal.returns-else-is_finite
-returns-else-is_finite c =
-    let a = c.args in
-    let l = c.loop-p in
-    sym (finite_on-fail a.columns.now a.w.now l.p (omega arith) (sym (rw c.wide-j.ensures.0 at c.is_finite.ensures) ∙ c.if-is_finite.false)) ∙ l.invariant.1
+pub all-requires-clause-callable : goal.all-requires-clause-callable
+all-requires-clause-callable c =
+    serves_from_places (YieldsList-from_slice c.args.columns.now (cc)) (λ x q e. search (rules, tests))
+    (λ x k h e. let b : x.now < length c.args.w.now = place_inside _ _ _ k c.requires h e in search (rules, tests))
 
 pub returns : goal.returns
-returns c = sym (finite_on-end c.args.columns.now c.args.w.now c.loop-p.p (omega arith)) ∙ c.loop-p.invariant.1
+returns c =
+    all_from_yields_List (λ j. finite (get_or c.args.w.now j nan)) _ _ _ c.all.ensures.ran (YieldsList-from_slice c.args.columns.now (cc)) (λ x b q k. search (rules, tests))
+    ∙ finite_on-all c.args.columns.now c.args.w.now

@@ -1,14 +1,11 @@
 use Rattle.numeric.specs.Stores.{entering}
 use Rattle.lent.specs.Reading.{order_of, placed}
 use Rattle.base.specs.Lists.{pairs}
-use lib.ListN.{length, drop}
+use lib.ListN.{drop}
 use mathlib.Core.Path.{◌≡◌}
-use Prim.Native.Nat.{◌≤◌, ◌-◌}
 use Rattle.numeric.proofs.enter_row.Given as goal
 
 abbrev pub invariant-loop-p : goal.invariant-loop-p
-invariant-loop-p l = (l.p ≤ length l.columns) × (length l.w ≡ length l.initial.w)
-    × (entering (pairs (placed (order_of l.n l.marks) (drop l.p l.columns)) (drop l.p l.values)) l.w ≡ entering (pairs (placed (order_of l.n l.marks) l.columns) l.values) l.initial.w)
-
-abbrev pub decreases-loop-p : goal.decreases-loop-p
-decreases-loop-p l = length l.columns - l.p
+invariant-loop-p l =
+    entering (pairs (placed (order_of l.n l.marks) (drop l.p l.columns)) (drop l.p l.values)) l.w
+    ≡ entering (pairs (placed (order_of l.n l.marks) l.columns) l.values) l.initial.w

@@ -1,11 +1,10 @@
-use mathlib.Core.Path.{refl, sym, ◌∙◌}
+use mathlib.Core.Path.{refl, ◌∙◌}
 use mathlib.Core.List.{[]}
 use Rattle.base.specs.declared.Form.TheVariants.{Plain}
 use Rattle.outcome.specs.Buffers.{SideBuffers, side_buffers}
 use Rattle.questions.specs.SettledLaws.{structured}
 use Rattle.stages.specs.ShapedLaws.{shaped-again, plain-lent}
-use Rattle.stages.specs.Branches.{pass_of}
-use Rattle.stages.specs.Asking.{structure-stops}
+use Rattle.stages.specs.Asking.{structure-refuses}
 use Rattle.stages.specs.Ends.{none-if, structure-ends}
 use Rattle.plain_form.proofs.structure_plain.Goals as goal
 use Rattle.plain_form.proofs.structure_plain.Goals.{After-analyze_plain-a}
@@ -17,33 +16,33 @@ lower s = side_buffers s.analyze_plain-a.new.lower_starts [] s.analyze_plain-a.n
 abbrev upper : After-analyze_plain-a → SideBuffers
 upper s = side_buffers s.analyze_plain-a.new.upper_starts [] s.analyze_plain-a.new.upper_index s.args.upper_values.now
 
-pub returns-then-stops : goal.returns-then-stops
-returns-then-stops c =
-    structure-stops Plain _ _ _ _ _ _ _ _ _ _ _ c.ask_structure-asked.ensures (sym c.stops.ensures ∙ c.if-stops.true) c.refusal.ensures
+pub returns-in_err-ask_structure : goal.returns-in_err-ask_structure
+returns-in_err-ask_structure c =
+    structure-refuses Plain _ _ _ _ _ _ _ _ _ _ _ c.ask_structure.ensures _ c.in_err-ask_structure.was c.from_residual.ensures.1
 
 pub analyze_plain-a-requires : goal.analyze_plain-a-requires
 analyze_plain-a-requires c =
-    let p = c.ask_structure-asked in
-    let q = p.ensures.due (pass_of _ (sym c.stops.ensures ∙ c.if-stops.false)) in
+    let p = c.ask_structure in
+    let q = p.ensures.due c.in_ok-ask_structure.was in
     plain-lent _ _ _ _ _ _ _ _ _ _ _ _ _ (shaped-again Plain _ _ _ _ _ _ _ _ p.auto.marks q.shaped) (structured _ q.passed)
 
 pub returns : goal.returns
 returns c =
     let p = c.analyze_plain-a in
-    let a = c.ask_structure-asked in
-    structure-ends Plain _ _ _ (lower (goal.at.returns c).After-analyze_plain-a) (upper (goal.at.returns c).After-analyze_plain-a) _ _ _ _ _ _ _ _ _ _ _ _ _ _ a.ensures (pass_of _ (sym c.stops.ensures ∙ c.if-stops.false)) p.ensures c.refuses-refused.ensures (λ h. refl) (λ h. refl)
+    let a = c.ask_structure in
+    structure-ends Plain _ _ _ (lower (goal.at.returns c).After-analyze_plain-a) (upper (goal.at.returns c).After-analyze_plain-a) _ _ _ _ _ _ _ _ _ _ _ _ _ _ a.ensures c.in_ok-ask_structure.was p.ensures c.is_err-refused.ensures.value (λ h. refl) (λ h. refl)
     (record { starts = p.auto.lower_starts; runs = refl; index = p.auto.lower_index; values = refl })
     (record { starts = p.auto.upper_starts; runs = refl; index = p.auto.upper_index; values = refl })
     a.auto.work (p.auto.marks ∙ a.auto.marks)
-    (record { starts = c.clear_lists_if.ensures.0; runs = none-if c.refuses-refused.result 0; index = c.clear_lists_if.ensures.1; values = c.clear_f64.ensures })
-    (record { starts = c.clear_lists_if-2.ensures.0; runs = none-if c.refuses-refused.result 0; index = c.clear_lists_if-2.ensures.1; values = c.clear_f64-2.ensures })
+    (record { starts = c.clear_lists_if.ensures.0; runs = none-if c.is_err-refused.result 0; index = c.clear_lists_if.ensures.1; values = c.clear.ensures })
+    (record { starts = c.clear_lists_if-2.ensures.0; runs = none-if c.is_err-refused.result 0; index = c.clear_lists_if-2.ensures.1; values = c.clear-2.ensures })
     c.clear_scratch.ensures
 
-pub shape_of-work-then-stops : goal.shape_of-work-then-stops
-shape_of-work-then-stops c = c.ask_structure-asked.auto.work
+pub shape_of-work-in_err-ask_structure : goal.shape_of-work-in_err-ask_structure
+shape_of-work-in_err-ask_structure c = c.ask_structure.auto.work
 
-pub shape_of-marks-then-stops : goal.shape_of-marks-then-stops
-shape_of-marks-then-stops c = c.ask_structure-asked.auto.marks
+pub shape_of-marks-in_err-ask_structure : goal.shape_of-marks-in_err-ask_structure
+shape_of-marks-in_err-ask_structure c = c.ask_structure.auto.marks
 
 pub shape_of-lower_starts : goal.shape_of-lower_starts
 shape_of-lower_starts c = c.clear_lists_if.auto.starts ∙ c.analyze_plain-a.auto.lower_starts
@@ -52,7 +51,7 @@ pub shape_of-lower_index : goal.shape_of-lower_index
 shape_of-lower_index c = c.clear_lists_if.auto.index ∙ c.analyze_plain-a.auto.lower_index
 
 pub shape_of-lower_values : goal.shape_of-lower_values
-shape_of-lower_values c = c.clear_f64.auto.s
+shape_of-lower_values c = c.clear.auto.s
 
 pub shape_of-upper_starts : goal.shape_of-upper_starts
 shape_of-upper_starts c = c.clear_lists_if-2.auto.starts ∙ c.analyze_plain-a.auto.upper_starts
@@ -61,10 +60,10 @@ pub shape_of-upper_index : goal.shape_of-upper_index
 shape_of-upper_index c = c.clear_lists_if-2.auto.index ∙ c.analyze_plain-a.auto.upper_index
 
 pub shape_of-upper_values : goal.shape_of-upper_values
-shape_of-upper_values c = c.clear_f64-2.auto.s
+shape_of-upper_values c = c.clear-2.auto.s
 
 pub shape_of-work : goal.shape_of-work
-shape_of-work c = c.clear_scratch.auto.work ∙ c.ask_structure-asked.auto.work
+shape_of-work c = c.clear_scratch.auto.work ∙ c.ask_structure.auto.work
 
 pub shape_of-marks : goal.shape_of-marks
-shape_of-marks c = c.clear_scratch.auto.marks ∙ c.analyze_plain-a.auto.marks ∙ c.ask_structure-asked.auto.marks
+shape_of-marks c = c.clear_scratch.auto.marks ∙ c.analyze_plain-a.auto.marks ∙ c.ask_structure.auto.marks

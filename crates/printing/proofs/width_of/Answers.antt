@@ -1,12 +1,9 @@
-use Rattle.printing.proofs.Laws.{counting-start, counting-turn, counting-end}
-use native.Mathlib.Omega.{arith}
+use Rattle.std.proofs.Common.{sym, arith}
+use Rattle.printing.proofs.Laws.{width-between}
 use Rattle.printing.proofs.width_of.Goals as goal
 
-pub loop-rest-init : goal.loop-rest-init
-loop-rest-init c = counting-start _ (omega arith)
-
-pub loop-rest-preserved : goal.loop-rest-preserved
-loop-rest-preserved c = counting-turn _ _ _ (omega arith) c.loop-rest.invariant
-
 pub returns : goal.returns
-returns c = counting-end _ _ _ (omega arith) c.loop-rest.invariant
+returns c =
+    let p = c.ilog10.ensures in
+    let m = c.max.ensures in
+    (sym (width-between 20 c.ilog10.result c.args.x p.bound (rw m at p.power_le) (omega (arith, m, p.next_power_gt))), omega (arith, p.bound))

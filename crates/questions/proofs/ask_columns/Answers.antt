@@ -1,22 +1,20 @@
-use mathlib.Core.Path.{refl}
-use borrow.Author.Tests.{le-leb, lt-leb}
-use Rattle.base.specs.FirstLaws.{first_more, first-zero}
-use Rattle.questions.specs.AskLaws.{ask-at, ask-pass}
+use mathlib.Core.Path.{◌≡◌, refl, ◌∙◌}
+use lib.ListN.{length}
+use lib.Dec.{leb}
+use Rattle.base.specs.First.{first}
 use Rattle.matrix.specs.Questions.{bad_column, ask4}
-use borrow.Author.Rules.{rules}
+use Rattle.questions.specs.AskLaws.{first-position, found-stop, found-pass}
 use Rattle.questions.proofs.ask_columns.Goals as goal
+use Rattle.questions.proofs.ask_columns.Goals.{After-first_outside}
 
-pub loop-p-init : goal.loop-p-init
-loop-p-init c = (search rules, first-zero _)
-
-pub returns-then-wide-n : goal.returns-then-wide-n
-unfolding ask4 bad_column
-returns-then-wide-n c = ask-at _ _ _ _ _ (search rules) c.loop-p.invariant.1 (le-leb _ _ (rw c.wide.ensures.0 at c.if-wide-n.true)) refl
-
-pub loop-p-preserved : goal.loop-p-preserved
+found : (c : After-first_outside) → c.first_outside.result ≡ first (bad_column c.args.columns.now c.args.n) (length c.args.columns.now)
 unfolding bad_column
-loop-p-preserved c = (search rules, first_more _ _ c.loop-p.invariant.1 (lt-leb _ _ (rw c.wide.ensures.0 at c.if-wide-n.false)))
+found c = c.first_outside.ensures ∙ first-position (λ j. leb c.args.n j) c.args.columns.now 0 _ (λ i l. refl)
 
-pub returns : goal.returns
+pub returns-in-Some : goal.returns-in-Some
 unfolding ask4
-returns c = search ask-pass
+returns-in-Some c = found-stop _ _ _ _ _ _ (found (goal.at.returns-in-Some c).After-first_outside) c.in-Some.is refl
+
+pub returns-in-None : goal.returns-in-None
+unfolding ask4
+returns-in-None c = found-pass _ _ _ _ _ (found (goal.at.returns-in-None c).After-first_outside) c.in-None.is refl

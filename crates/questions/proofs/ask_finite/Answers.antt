@@ -1,22 +1,22 @@
-use mathlib.Core.Path.{refl, sym, ap, ◌∙◌}
+use mathlib.Core.Path.{◌≡◌, refl, ◌∙◌}
+use lib.ListN.{length}
 use mathlib.Core.Bool.{not}
-use Rattle.base.specs.FirstLaws.{first_more, first-zero}
-use Rattle.questions.specs.AskLaws.{ask-at, ask-pass}
+use lib.Ieee.Scale.{finite}
+use lib.Ieee.{nan}
+use Rattle.base.specs.First.{first}
 use Rattle.matrix.specs.Questions.{not_finite, ask_finite}
-use borrow.Author.Rules.{rules}
+use Rattle.questions.specs.AskLaws.{first-position, found-stop, found-pass}
 use Rattle.questions.proofs.ask_finite.Goals as goal
+use Rattle.questions.proofs.ask_finite.Goals.{After-first_not_finite}
 
-pub loop-p-init : goal.loop-p-init
-loop-p-init c = (search rules, first-zero _)
-
-pub returns-then-not-is_finite : goal.returns-then-not-is_finite
-unfolding ask_finite not_finite
-returns-then-not-is_finite c = ask-at _ _ _ _ _ (search rules) c.loop-p.invariant.1 (ap not (sym c.is_finite.ensures) ∙ (ap not c.if-not-is_finite.true)) refl
-
-pub loop-p-preserved : goal.loop-p-preserved
+found : (c : After-first_not_finite) → c.first_not_finite.result ≡ first (not_finite c.args.v.now) (length c.args.v.now)
 unfolding not_finite
-loop-p-preserved c = (search rules, first_more _ _ c.loop-p.invariant.1 (ap not (sym c.is_finite.ensures) ∙ (ap not c.if-not-is_finite.false)))
+found c = c.first_not_finite.ensures ∙ first-position (λ x. not (finite x)) c.args.v.now nan _ (λ i l. refl)
 
-pub returns : goal.returns
+pub returns-in-Some : goal.returns-in-Some
 unfolding ask_finite
-returns c = search ask-pass
+returns-in-Some c = found-stop _ _ _ _ _ _ (found (goal.at.returns-in-Some c).After-first_not_finite) c.in-Some.is refl
+
+pub returns-in-None : goal.returns-in-None
+unfolding ask_finite
+returns-in-None c = found-pass _ _ _ _ _ (found (goal.at.returns-in-None c).After-first_not_finite) c.in-None.is refl

@@ -4,17 +4,17 @@ use native.Mathlib.Omega.{arith}
 use borrow.Author.Rules.{rules}
 use Rattle.questions.proofs.ask_order.Goals as goal
 
-pub first_fault-f-requires : goal.first_fault-f-requires
-first_fault-f-requires c = unmarked-blank _ _ _ (search rules) c.clear_u32.ensures
+pub first_fault-requires : goal.first_fault-requires
+first_fault-requires c = unmarked-blank _ _ _ (search rules) c.clear.ensures
 
 pub overflow_add-result : goal.overflow_add-result
-overflow_add-result c = omega (arith, found_below _ _ _ _ c.first_fault-f.ensures c.in-At.is, c.requires)
+overflow_add-result c = omega (arith, found_below _ _ _ _ c.first_fault.ensures c.in-Some.is, c.requires)
 
 pub overflow_cast-result : goal.overflow_cast-result
-overflow_cast-result c = omega (arith, found_below _ _ _ _ c.first_fault-f.ensures c.in-At.is, c.requires)
+overflow_cast-result c = omega (arith, found_below _ _ _ _ c.first_fault.ensures c.in-Some.is, c.requires)
 
-pub returns-in-At : goal.returns-in-At
-returns-in-At c = order-stop _ _ _ _ _ c.requires.size c.first_fault-f.ensures c.in-At.is
+pub returns-in-Some : goal.returns-in-Some
+returns-in-Some c = order-stop _ _ _ _ _ c.requires.size c.first_fault.ensures c.in-Some.is
 
-pub returns : goal.returns
-returns c = search order-pass
+pub returns-in-None : goal.returns-in-None
+returns-in-None c = order-pass _ _ _ _ c.requires.size c.first_fault.ensures c.in-None.is

@@ -1,15 +1,15 @@
 use Rattle.matrix.specs.Questions.{ask_structure}
 use Rattle.questions.specs.SettledLaws.{places-lent}
-use Rattle.questions.specs.AskLaws.{then-stop, then-pass}
+use Rattle.questions.specs.AskLaws.{then-err, then-pass}
 use Rattle.questions.proofs.ask_structure.Goals as goal
 
-pub returns-in-Stop : goal.returns-in-Stop
+pub returns-in_err-ask_pattern : goal.returns-in_err-ask_pattern
 unfolding ask_structure
-returns-in-Stop c = search then-stop depth 8
+returns-in_err-ask_pattern c = then-err _ _ _ _ _ c.ask_pattern.ensures c.in_err-ask_pattern.was c.from_residual.ensures.1
 
 pub ask_entries-requires : goal.ask_entries-requires
-ask_entries-requires c = places-lent _ _ _ _ _ _ _ _ _ c.requires c.ask_pattern-a.ensures c.in_default.is
+ask_entries-requires c = places-lent _ _ _ _ _ _ _ _ _ c.requires c.ask_pattern.ensures c.in_ok-ask_pattern.was
 
 pub returns : goal.returns
 unfolding ask_structure
-returns c = search then-pass depth 8
+returns c = then-pass _ _ _ _ c.ask_pattern.ensures c.in_ok-ask_pattern.was c.ask_entries.ensures

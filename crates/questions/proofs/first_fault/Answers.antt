@@ -2,6 +2,7 @@ use Rattle.questions.specs.MarkingLaws.{index-out, marking-none, marking-seen, m
 use mathlib.Core.Path.{sym, ◌∙◌}
 use Rattle.base.specs.FirstLaws.{first-at, first-end}
 use borrow.Author.Rules.{rules}
+use Rattle.questions.proofs.first_fault.Goals.{then-j-n-via-then-j-n, then-j-n-via-else-j-n+then-mark_slot}
 use Rattle.questions.proofs.first_fault.Goals as goal
 
 pub loop-p-init : goal.loop-p-init
@@ -10,14 +11,13 @@ loop-p-init c = marking-none _ _ _ c.requires
 pub returns-then-j-n : goal.returns-then-j-n
 returns-then-j-n c =
     let h = c.loop-p.invariant in
-    sym (first-at _ _ _ (search rules) h.fine (index-out _ _ _ (rw c.wide-j.ensures.0 at c.if-j-n.true)))
-
-pub returns-then-mark_slot : goal.returns-then-mark_slot
-returns-then-mark_slot c =
-    let h = c.loop-p.invariant in
     let e = c.wide-j.ensures.0 in
-    let w = rw e at c.mark_slot.ensures in
-    sym (first-at _ _ _ (search rules) h.fine (marking-seen _ _ _ _ _ c.requires h (rw e at c.if-j-n.false) _ w.0 ∙ c.if-mark_slot.true))
+    elim c.then-j-n.branch [
+      | then-j-n-via-then-j-n w ↦ sym (first-at _ _ _ (search rules) h.fine (index-out _ _ _ (rw e at w.if-j-n.true)))
+      | then-j-n-via-else-j-n+then-mark_slot w ↦ (
+          let m = rw e at w.mark_slot.ensures in
+          sym (first-at _ _ _ (search rules) h.fine (marking-seen _ _ _ _ _ c.requires h (rw e at w.if-j-n.false) _ m.0 ∙ w.if-mark_slot.true)))
+    ]
 
 pub loop-p-preserved : goal.loop-p-preserved
 loop-p-preserved c =

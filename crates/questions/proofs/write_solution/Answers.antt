@@ -6,24 +6,24 @@ use Rattle.questions.specs.ScatterLaws.{scattered-none, scattered-more, scattere
 use borrow.Author.Rules.{rules}
 use native.Mathlib.Omega.{arith}
 use Rattle.questions.proofs.write_solution.Goals as goal
-use Rattle.questions.proofs.write_solution.Goals.{After-wide-j}
+use Rattle.questions.proofs.write_solution.Goals.{After-wide-at}
 
 pub loop-k-init : goal.loop-k-init
 loop-k-init c = scattered-none _ _ _ _ _
 
-inside : (c : After-wide-j) → c.wide-j.result < c.args.n
+inside : (c : After-wide-at) → c.wide-at.result < c.args.n
 inside c =
-    rw c.wide-j.ensures.0 (order_below _ _ c.requires.order c.loop-k.k (search rules))
+    rw c.wide-at.ensures.0 (order_below _ _ c.requires.order c.loop-k.k (search rules))
 
-pub offset_bounds-x-j : goal.offset_bounds-x-j
-offset_bounds-x-j c = omega (arith, inside (goal.at.offset_bounds-x-j c).After-wide-j)
+pub offset_bounds-x-at : goal.offset_bounds-x-at
+offset_bounds-x-at c = omega (arith, inside (goal.at.offset_bounds-x-at c).After-wide-at)
 
-pub bounds-x-j : goal.bounds-x-j
-bounds-x-j c = omega (arith, inside (goal.at.bounds-x-j c).After-wide-j)
+pub bounds-x-at : goal.bounds-x-at
+bounds-x-at c = omega (arith, inside (goal.at.bounds-x-at c).After-wide-at)
 
 pub loop-k-preserved : goal.loop-k-preserved
 loop-k-preserved c =
-    scattered-more _ _ _ _ _ c.requires.order (search rules) _ _ c.loop-k.invariant _ _ (search rules) c.wide-j.ensures.0 refl
+    scattered-more _ _ _ _ _ c.requires.order (search rules) _ _ c.loop-k.invariant _ _ (search rules) c.wide-at.ensures.0 refl
 
 pub returns : goal.returns
 unfolding own_order

@@ -1,4 +1,4 @@
-use Prim.Native.Nat.{ℕ, ◌-◌}
+use Prim.Native.Nat.{ℕ}
 use lib.ListN.{get_or}
 use lib.Ieee.{nan}
 use Rattle.questions.specs.ScatterLaws.{Scattered}
@@ -6,6 +6,3 @@ use Rattle.questions.proofs.write_solution.Given as goal
 
 abbrev pub invariant-loop-k : goal.invariant-loop-k
 invariant-loop-k l = Scattered l.c l.n (λ (i : ℕ). get_or l.z i nan) nan l.initial.x l.x l.k
-
-abbrev pub decreases-loop-k : goal.decreases-loop-k
-decreases-loop-k l = l.n - l.k

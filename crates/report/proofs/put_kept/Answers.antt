@@ -1,5 +1,6 @@
-use Rattle.report.proofs.Laws.{kept_put}
+use Rattle.report.proofs.Laws.{kept-put}
 use Rattle.report.proofs.put_kept.Goals as goal
 
 pub returns : goal.returns
-returns c = record { value = c.number.ensures; report_after = kept_put c.args.a _ _ c.args.report.now _ c.place.ensures c.sizes-sizes.ensures c.put_all.ensures }
+returns c =
+    record { value = c.put_told.ensures.value; report_after = kept-put c.args.a _ _ _ c.sizes_of-sizes.ensures c.put_told.ensures.report_after }

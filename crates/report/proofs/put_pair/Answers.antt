@@ -2,5 +2,4 @@ use Rattle.report.proofs.Laws.{pair_put}
 use Rattle.report.proofs.put_pair.Goals as goal
 
 pub returns-in-Pair : goal.returns-in-Pair
-returns-in-Pair c =
-    pair_put _ _ _ _ _ _ c.in-Pair.is c.put_number.ensures c.put_number-in-Pair.ensures
+returns-in-Pair c = pair_put _ _ _ _ _ _ c.in-Pair.is c.put.ensures c.put-in-Pair.ensures

@@ -3,4 +3,4 @@ use Rattle.report.proofs.residual.Goals as goal
 
 pub returns : goal.returns
 returns c =
-    row_told _ _ _ _ _ _ _ _ _ c.residual-a.ensures c.put_pair.ensures c.put_checked.ensures.value c.put_checked.ensures.report_after
+    row_told _ _ _ _ _ _ _ _ _ c.residual-a.ensures c.put_pair.ensures c.put_told.ensures.value c.put_told.ensures.report_after

@@ -1,58 +1,87 @@
-use mathlib.Core.Path.{refl, sym, ◌∙◌}
+use mathlib.Core.Path.{refl, ◌∙◌}
 use Rattle.base.specs.declared.Form.TheVariants.{ByRow}
 use Rattle.questions.specs.SettledLaws.{settled}
 use Rattle.stages.specs.ShapedLaws.{row-lent, pattern-structured}
-use Rattle.stages.specs.Branches.{done-with}
-use Rattle.stages.specs.Ends.{leaves-refused, row-due, row-leaves}
+use Rattle.stages.specs.Branches.{answer-err, answer-ok}
+use Rattle.stages.specs.Ends.{leaves-passed-on, row-due, row-leaves}
 use Rattle.row_form.proofs.analyze_and_solve.Goals as goal
 
-pub analyze_by_row-a-requires : goal.analyze_by_row-a-requires
-analyze_by_row-a-requires c = let h = c.requires in row-lent _ _ _ _ _ _ _ _ _ _ h.shaped.structure (pattern-structured _ (settled _ h.passed).structured)
+pub analyze_by_row-requires : goal.analyze_by_row-requires
+analyze_by_row-requires c = let h = c.requires in row-lent _ _ _ _ _ _ _ _ _ _ h.shaped.structure (pattern-structured _ (settled _ h.passed).structured)
 
-pub returns-then-refuses : goal.returns-then-refuses
-returns-then-refuses c = leaves-refused ByRow _ _ _ _ _ _ _ _ _ c.analyze_by_row-a.ensures (sym c.refuses.ensures ∙ c.if-refuses.true) refl
+pub returns-in_err-counts : goal.returns-in_err-counts
+returns-in_err-counts c = leaves-passed-on ByRow _ _ _ _ _ _ _ _ _ c.analyze_by_row.ensures _ _ c.in_err-counts.was c.from_residual.ensures.1 refl
 
-pub factor_and_solve-fault-requires : goal.factor_and_solve-fault-requires
-factor_and_solve-fault-requires c =
-    row-due _ _ _ _ _ _ _ _ _ _ _ _ _ _ _ _ c.analyze_by_row-a.ensures (done-with _ _ _ c.refuses.ensures c.if-refuses.false c.counts-counts.ensures) c.requires c.analyze_by_row-a.auto.marks refl refl refl refl
+pub factor_and_solve-requires : goal.factor_and_solve-requires
+factor_and_solve-requires c =
+    row-due _ _ _ _ _ _ _ _ _ _ _ _ _ _ _ _ c.analyze_by_row.ensures c.in_ok-counts.was c.requires c.analyze_by_row.auto.marks refl refl refl refl
+
+pub returns-in_err-factor_and_solve : goal.returns-in_err-factor_and_solve
+returns-in_err-factor_and_solve c =
+    let q = c.factor_and_solve in
+    row-leaves _ _ _ _ _ _ _ _ _ _ _ _ _ _ q.new.lower_values _ _ _ _ _ _ _ _ c.analyze_by_row.ensures c.in_ok-counts.was q.ensures (answer-err _ _ _ _ c.in_err-factor_and_solve.was c.from_residual-in_err-factor_and_solve.ensures.1) q.auto.lower_values
 
 pub returns : goal.returns
 returns c =
-    let q = c.factor_and_solve-fault in
-    row-leaves _ _ _ _ _ _ _ _ _ _ _ _ _ _ q.new.lower_values _ _ _ _ _ _ _ _ c.analyze_by_row-a.ensures (done-with _ _ _ c.refuses.ensures c.if-refuses.false c.counts-counts.ensures) q.ensures c.answer_of.ensures q.auto.lower_values
+    let q = c.factor_and_solve in
+    row-leaves _ _ _ _ _ _ _ _ _ _ _ _ _ _ q.new.lower_values _ _ _ _ _ _ _ _ c.analyze_by_row.ensures c.in_ok-counts.was q.ensures (answer-ok _ _ c.in_ok-factor_and_solve.was) q.auto.lower_values
 
-pub shape_of-upper_starts-then-refuses : goal.shape_of-upper_starts-then-refuses
-shape_of-upper_starts-then-refuses c = c.analyze_by_row-a.auto.upper_starts
+pub shape_of-upper_starts-in_err-counts : goal.shape_of-upper_starts-in_err-counts
+shape_of-upper_starts-in_err-counts c = c.analyze_by_row.auto.upper_starts
 
-pub shape_of-upper_runs-then-refuses : goal.shape_of-upper_runs-then-refuses
-shape_of-upper_runs-then-refuses c = c.analyze_by_row-a.auto.upper_runs
+pub shape_of-upper_runs-in_err-counts : goal.shape_of-upper_runs-in_err-counts
+shape_of-upper_runs-in_err-counts c = c.analyze_by_row.auto.upper_runs
 
-pub shape_of-upper_index-then-refuses : goal.shape_of-upper_index-then-refuses
-shape_of-upper_index-then-refuses c = c.analyze_by_row-a.auto.upper_index
+pub shape_of-upper_index-in_err-counts : goal.shape_of-upper_index-in_err-counts
+shape_of-upper_index-in_err-counts c = c.analyze_by_row.auto.upper_index
 
-pub shape_of-marks-then-refuses : goal.shape_of-marks-then-refuses
-shape_of-marks-then-refuses c = c.analyze_by_row-a.auto.marks
+pub shape_of-marks-in_err-counts : goal.shape_of-marks-in_err-counts
+shape_of-marks-in_err-counts c = c.analyze_by_row.auto.marks
 
 pub shape_of-upper_starts : goal.shape_of-upper_starts
-shape_of-upper_starts c = c.analyze_by_row-a.auto.upper_starts
+shape_of-upper_starts c = c.analyze_by_row.auto.upper_starts
 
 pub shape_of-upper_runs : goal.shape_of-upper_runs
-shape_of-upper_runs c = c.analyze_by_row-a.auto.upper_runs
+shape_of-upper_runs c = c.analyze_by_row.auto.upper_runs
 
 pub shape_of-upper_index : goal.shape_of-upper_index
-shape_of-upper_index c = c.analyze_by_row-a.auto.upper_index
+shape_of-upper_index c = c.analyze_by_row.auto.upper_index
 
 pub shape_of-upper_values : goal.shape_of-upper_values
-shape_of-upper_values c = c.factor_and_solve-fault.auto.upper_values
+shape_of-upper_values c = c.factor_and_solve.auto.upper_values
 
 pub shape_of-d : goal.shape_of-d
-shape_of-d c = c.factor_and_solve-fault.auto.d
+shape_of-d c = c.factor_and_solve.auto.d
 
 pub shape_of-x : goal.shape_of-x
-shape_of-x c = c.factor_and_solve-fault.auto.x
+shape_of-x c = c.factor_and_solve.auto.x
 
 pub shape_of-work : goal.shape_of-work
-shape_of-work c = c.factor_and_solve-fault.auto.work
+shape_of-work c = c.factor_and_solve.auto.work
 
 pub shape_of-marks : goal.shape_of-marks
-shape_of-marks c = c.factor_and_solve-fault.auto.marks ∙ c.analyze_by_row-a.auto.marks
+shape_of-marks c = c.factor_and_solve.auto.marks ∙ c.analyze_by_row.auto.marks
+
+pub shape_of-upper_starts-in_err-factor_and_solve : goal.shape_of-upper_starts-in_err-factor_and_solve
+shape_of-upper_starts-in_err-factor_and_solve c = c.analyze_by_row.auto.upper_starts
+
+pub shape_of-upper_runs-in_err-factor_and_solve : goal.shape_of-upper_runs-in_err-factor_and_solve
+shape_of-upper_runs-in_err-factor_and_solve c = c.analyze_by_row.auto.upper_runs
+
+pub shape_of-upper_index-in_err-factor_and_solve : goal.shape_of-upper_index-in_err-factor_and_solve
+shape_of-upper_index-in_err-factor_and_solve c = c.analyze_by_row.auto.upper_index
+
+pub shape_of-upper_values-in_err-factor_and_solve : goal.shape_of-upper_values-in_err-factor_and_solve
+shape_of-upper_values-in_err-factor_and_solve c = c.factor_and_solve.auto.upper_values
+
+pub shape_of-d-in_err-factor_and_solve : goal.shape_of-d-in_err-factor_and_solve
+shape_of-d-in_err-factor_and_solve c = c.factor_and_solve.auto.d
+
+pub shape_of-x-in_err-factor_and_solve : goal.shape_of-x-in_err-factor_and_solve
+shape_of-x-in_err-factor_and_solve c = c.factor_and_solve.auto.x
+
+pub shape_of-work-in_err-factor_and_solve : goal.shape_of-work-in_err-factor_and_solve
+shape_of-work-in_err-factor_and_solve c = c.factor_and_solve.auto.work
+
+pub shape_of-marks-in_err-factor_and_solve : goal.shape_of-marks-in_err-factor_and_solve
+shape_of-marks-in_err-factor_and_solve c = c.factor_and_solve.auto.marks ∙ c.analyze_by_row.auto.marks

@@ -1,84 +1,128 @@
-use mathlib.Core.Path.{refl, sym, ◌∙◌}
+use mathlib.Core.Path.{refl, ◌∙◌}
 use Rattle.base.specs.declared.Form.TheVariants.{Shared}
 use Rattle.questions.specs.SettledLaws.{settled}
 use Rattle.stages.specs.ShapedLaws.{shared-lent, pattern-structured, starts-of}
-use Rattle.stages.specs.Branches.{done-with}
-use Rattle.stages.specs.Ends.{leaves-refused, both-due, both-leaves}
+use Rattle.stages.specs.Branches.{answer-err, answer-ok}
+use Rattle.stages.specs.Ends.{leaves-passed-on, both-due, both-leaves}
 use Rattle.shared_form.proofs.analyze_and_solve.Goals as goal
 
-pub analyze_shared-a-requires : goal.analyze_shared-a-requires
-analyze_shared-a-requires c = let h = c.requires in shared-lent _ _ _ _ _ _ _ _ _ _ _ _ _ h.shaped.structure (pattern-structured _ (settled _ h.passed).structured)
+pub analyze_shared-requires : goal.analyze_shared-requires
+analyze_shared-requires c = let h = c.requires in shared-lent _ _ _ _ _ _ _ _ _ _ _ _ _ h.shaped.structure (pattern-structured _ (settled _ h.passed).structured)
 
-pub returns-then-refuses : goal.returns-then-refuses
-returns-then-refuses c = leaves-refused Shared _ _ _ _ _ _ _ _ _ c.analyze_shared-a.ensures.found (sym c.refuses.ensures ∙ c.if-refuses.true) refl
+pub returns-in_err-counts : goal.returns-in_err-counts
+returns-in_err-counts c = leaves-passed-on Shared _ _ _ _ _ _ _ _ _ c.analyze_shared.ensures.found _ _ c.in_err-counts.was c.from_residual.ensures.1 refl
 
-pub factor_and_solve-fault-requires : goal.factor_and_solve-fault-requires
-factor_and_solve-fault-requires c =
-    both-due Shared _ _ _ _ _ _ _ _ _ _ _ _ _ _ _ _ _ c.analyze_shared-a.ensures (done-with _ _ _ c.refuses.ensures c.if-refuses.false c.counts-counts.ensures) c.requires c.analyze_shared-a.auto.marks refl refl refl (starts-of _ _ _ _ _)
+pub factor_and_solve-requires : goal.factor_and_solve-requires
+factor_and_solve-requires c =
+    both-due Shared _ _ _ _ _ _ _ _ _ _ _ _ _ _ _ _ _ c.analyze_shared.ensures c.in_ok-counts.was c.requires c.analyze_shared.auto.marks refl refl refl (starts-of _ _ _ _ _)
 
-pub returns : goal.returns
-returns c =
-    let p = c.analyze_shared-a in
-    let q = c.factor_and_solve-fault in
-    let e = done-with _ _ _ c.refuses.ensures c.if-refuses.false c.counts-counts.ensures in
-    both-leaves Shared _ _ _ _ _ _ _ _ _ _ _ _ _ _ _ _ _ _ _ _ _ _ _ _ _ _ _ _ _ _ _ _ p.ensures e q.ensures c.answer_of.ensures
+pub returns-in_err-factor_and_solve : goal.returns-in_err-factor_and_solve
+returns-in_err-factor_and_solve c =
+    let p = c.analyze_shared in
+    let q = c.factor_and_solve in
+    both-leaves Shared _ _ _ _ _ _ _ _ _ _ _ _ _ _ _ _ _ _ _ _ _ _ _ _ _ _ _ _ _ _ _ _ p.ensures c.in_ok-counts.was q.ensures (answer-err _ _ _ _ c.in_err-factor_and_solve.was c.from_residual-in_err-factor_and_solve.ensures.1)
     p.auto.lower_starts p.auto.lower_runs p.auto.lower_index q.auto.lower_values
     p.auto.upper_starts p.auto.upper_runs p.auto.upper_index q.auto.upper_values
     q.auto.work (q.auto.marks ∙ p.auto.marks) (λ h. h) (λ h. h)
 
-pub shape_of-lower_starts-then-refuses : goal.shape_of-lower_starts-then-refuses
-shape_of-lower_starts-then-refuses c = c.analyze_shared-a.auto.lower_starts
+pub returns : goal.returns
+returns c =
+    let p = c.analyze_shared in
+    let q = c.factor_and_solve in
+    both-leaves Shared _ _ _ _ _ _ _ _ _ _ _ _ _ _ _ _ _ _ _ _ _ _ _ _ _ _ _ _ _ _ _ _ p.ensures c.in_ok-counts.was q.ensures (answer-ok _ _ c.in_ok-factor_and_solve.was)
+    p.auto.lower_starts p.auto.lower_runs p.auto.lower_index q.auto.lower_values
+    p.auto.upper_starts p.auto.upper_runs p.auto.upper_index q.auto.upper_values
+    q.auto.work (q.auto.marks ∙ p.auto.marks) (λ h. h) (λ h. h)
 
-pub shape_of-lower_runs-then-refuses : goal.shape_of-lower_runs-then-refuses
-shape_of-lower_runs-then-refuses c = c.analyze_shared-a.auto.lower_runs
+pub shape_of-lower_starts-in_err-counts : goal.shape_of-lower_starts-in_err-counts
+shape_of-lower_starts-in_err-counts c = c.analyze_shared.auto.lower_starts
 
-pub shape_of-lower_index-then-refuses : goal.shape_of-lower_index-then-refuses
-shape_of-lower_index-then-refuses c = c.analyze_shared-a.auto.lower_index
+pub shape_of-lower_runs-in_err-counts : goal.shape_of-lower_runs-in_err-counts
+shape_of-lower_runs-in_err-counts c = c.analyze_shared.auto.lower_runs
 
-pub shape_of-upper_starts-then-refuses : goal.shape_of-upper_starts-then-refuses
-shape_of-upper_starts-then-refuses c = c.analyze_shared-a.auto.upper_starts
+pub shape_of-lower_index-in_err-counts : goal.shape_of-lower_index-in_err-counts
+shape_of-lower_index-in_err-counts c = c.analyze_shared.auto.lower_index
 
-pub shape_of-upper_runs-then-refuses : goal.shape_of-upper_runs-then-refuses
-shape_of-upper_runs-then-refuses c = c.analyze_shared-a.auto.upper_runs
+pub shape_of-upper_starts-in_err-counts : goal.shape_of-upper_starts-in_err-counts
+shape_of-upper_starts-in_err-counts c = c.analyze_shared.auto.upper_starts
 
-pub shape_of-upper_index-then-refuses : goal.shape_of-upper_index-then-refuses
-shape_of-upper_index-then-refuses c = c.analyze_shared-a.auto.upper_index
+pub shape_of-upper_runs-in_err-counts : goal.shape_of-upper_runs-in_err-counts
+shape_of-upper_runs-in_err-counts c = c.analyze_shared.auto.upper_runs
 
-pub shape_of-marks-then-refuses : goal.shape_of-marks-then-refuses
-shape_of-marks-then-refuses c = c.analyze_shared-a.auto.marks
+pub shape_of-upper_index-in_err-counts : goal.shape_of-upper_index-in_err-counts
+shape_of-upper_index-in_err-counts c = c.analyze_shared.auto.upper_index
+
+pub shape_of-marks-in_err-counts : goal.shape_of-marks-in_err-counts
+shape_of-marks-in_err-counts c = c.analyze_shared.auto.marks
 
 pub shape_of-lower_starts : goal.shape_of-lower_starts
-shape_of-lower_starts c = c.analyze_shared-a.auto.lower_starts
+shape_of-lower_starts c = c.analyze_shared.auto.lower_starts
 
 pub shape_of-lower_runs : goal.shape_of-lower_runs
-shape_of-lower_runs c = c.analyze_shared-a.auto.lower_runs
+shape_of-lower_runs c = c.analyze_shared.auto.lower_runs
 
 pub shape_of-lower_index : goal.shape_of-lower_index
-shape_of-lower_index c = c.analyze_shared-a.auto.lower_index
+shape_of-lower_index c = c.analyze_shared.auto.lower_index
 
 pub shape_of-lower_values : goal.shape_of-lower_values
-shape_of-lower_values c = c.factor_and_solve-fault.auto.lower_values
+shape_of-lower_values c = c.factor_and_solve.auto.lower_values
 
 pub shape_of-upper_starts : goal.shape_of-upper_starts
-shape_of-upper_starts c = c.analyze_shared-a.auto.upper_starts
+shape_of-upper_starts c = c.analyze_shared.auto.upper_starts
 
 pub shape_of-upper_runs : goal.shape_of-upper_runs
-shape_of-upper_runs c = c.analyze_shared-a.auto.upper_runs
+shape_of-upper_runs c = c.analyze_shared.auto.upper_runs
 
 pub shape_of-upper_index : goal.shape_of-upper_index
-shape_of-upper_index c = c.analyze_shared-a.auto.upper_index
+shape_of-upper_index c = c.analyze_shared.auto.upper_index
 
 pub shape_of-upper_values : goal.shape_of-upper_values
-shape_of-upper_values c = c.factor_and_solve-fault.auto.upper_values
+shape_of-upper_values c = c.factor_and_solve.auto.upper_values
 
 pub shape_of-d : goal.shape_of-d
-shape_of-d c = c.factor_and_solve-fault.auto.d
+shape_of-d c = c.factor_and_solve.auto.d
 
 pub shape_of-x : goal.shape_of-x
-shape_of-x c = c.factor_and_solve-fault.auto.x
+shape_of-x c = c.factor_and_solve.auto.x
 
 pub shape_of-work : goal.shape_of-work
-shape_of-work c = c.factor_and_solve-fault.auto.work
+shape_of-work c = c.factor_and_solve.auto.work
 
 pub shape_of-marks : goal.shape_of-marks
-shape_of-marks c = c.factor_and_solve-fault.auto.marks ∙ c.analyze_shared-a.auto.marks
+shape_of-marks c = c.factor_and_solve.auto.marks ∙ c.analyze_shared.auto.marks
+
+pub shape_of-lower_starts-in_err-factor_and_solve : goal.shape_of-lower_starts-in_err-factor_and_solve
+shape_of-lower_starts-in_err-factor_and_solve c = c.analyze_shared.auto.lower_starts
+
+pub shape_of-lower_runs-in_err-factor_and_solve : goal.shape_of-lower_runs-in_err-factor_and_solve
+shape_of-lower_runs-in_err-factor_and_solve c = c.analyze_shared.auto.lower_runs
+
+pub shape_of-lower_index-in_err-factor_and_solve : goal.shape_of-lower_index-in_err-factor_and_solve
+shape_of-lower_index-in_err-factor_and_solve c = c.analyze_shared.auto.lower_index
+
+pub shape_of-lower_values-in_err-factor_and_solve : goal.shape_of-lower_values-in_err-factor_and_solve
+shape_of-lower_values-in_err-factor_and_solve c = c.factor_and_solve.auto.lower_values
+
+pub shape_of-upper_starts-in_err-factor_and_solve : goal.shape_of-upper_starts-in_err-factor_and_solve
+shape_of-upper_starts-in_err-factor_and_solve c = c.analyze_shared.auto.upper_starts
+
+pub shape_of-upper_runs-in_err-factor_and_solve : goal.shape_of-upper_runs-in_err-factor_and_solve
+shape_of-upper_runs-in_err-factor_and_solve c = c.analyze_shared.auto.upper_runs
+
+pub shape_of-upper_index-in_err-factor_and_solve : goal.shape_of-upper_index-in_err-factor_and_solve
+shape_of-upper_index-in_err-factor_and_solve c = c.analyze_shared.auto.upper_index
+
+pub shape_of-upper_values-in_err-factor_and_solve : goal.shape_of-upper_values-in_err-factor_and_solve
+shape_of-upper_values-in_err-factor_and_solve c = c.factor_and_solve.auto.upper_values
+
+pub shape_of-d-in_err-factor_and_solve : goal.shape_of-d-in_err-factor_and_solve
+shape_of-d-in_err-factor_and_solve c = c.factor_and_solve.auto.d
+
+pub shape_of-x-in_err-factor_and_solve : goal.shape_of-x-in_err-factor_and_solve
+shape_of-x-in_err-factor_and_solve c = c.factor_and_solve.auto.x
+
+pub shape_of-work-in_err-factor_and_solve : goal.shape_of-work-in_err-factor_and_solve
+shape_of-work-in_err-factor_and_solve c = c.factor_and_solve.auto.work
+
+pub shape_of-marks-in_err-factor_and_solve : goal.shape_of-marks-in_err-factor_and_solve
+shape_of-marks-in_err-factor_and_solve c = c.factor_and_solve.auto.marks ∙ c.analyze_shared.auto.marks

@@ -1,26 +1,25 @@
-use mathlib.Core.Path.{sym, ◌∙◌}
+use mathlib.Core.Path.{◌∙◌}
 use Rattle.base.specs.declared.Form.TheVariants.{Shared}
 use Rattle.stages.specs.ShapedLaws.{due-again}
-use Rattle.stages.specs.Branches.{pass_of}
-use Rattle.stages.specs.Asking.{solve-stops}
+use Rattle.stages.specs.Asking.{solve-refuses}
 use Rattle.stages.specs.Ends.{solve-ends}
 use Rattle.shared_form.proofs.solve_shared.Goals as goal
 
-pub returns-then-stops : goal.returns-then-stops
-returns-then-stops c =
-    solve-stops Shared _ _ _ _ _ _ _ _ _ _ _ c.ask_solve-asked.ensures (sym c.stops.ensures ∙ c.if-stops.true) c.refusal.ensures
+pub returns-in_err-ask_solve : goal.returns-in_err-ask_solve
+returns-in_err-ask_solve c =
+    solve-refuses Shared _ _ _ _ _ _ _ _ _ _ _ c.ask_solve.ensures _ c.in_err-ask_solve.was c.from_residual.ensures.1
 
 pub analyze_and_solve-a-requires : goal.analyze_and_solve-a-requires
 analyze_and_solve-a-requires c =
-    let p = c.ask_solve-asked in
-    due-again Shared _ _ _ _ _ _ _ _ _ p.auto.work p.auto.marks (p.ensures.due (pass_of _ (sym c.stops.ensures ∙ c.if-stops.false)))
+    let p = c.ask_solve in
+    due-again Shared _ _ _ _ _ _ _ _ _ p.auto.work p.auto.marks (p.ensures.due c.in_ok-ask_solve.was)
 
 pub returns : goal.returns
 returns c =
     let p = c.analyze_and_solve-a in
-    let a = c.ask_solve-asked in
+    let a = c.ask_solve in
     let n = c.clear_numbers_if.ensures in
-    solve-ends Shared _ _ _ _ _ _ _ _ _ _ _ _ _ _ _ _ _ _ _ _ _ _ _ a.ensures (pass_of _ (sym c.stops.ensures ∙ c.if-stops.false)) p.ensures c.refuses-refused.ensures
+    solve-ends Shared _ _ _ _ _ _ _ _ _ _ _ _ _ _ _ _ _ _ _ _ _ _ _ a.ensures c.in_ok-ask_solve.was p.ensures c.is_err-refused.ensures.value
     a.auto.work a.auto.marks
     (record { starts = p.auto.lower_starts; runs = p.auto.lower_runs; index = p.auto.lower_index; values = p.auto.lower_values })
     (record { starts = p.auto.upper_starts; runs = p.auto.upper_runs; index = p.auto.upper_index; values = p.auto.upper_values })
@@ -29,11 +28,11 @@ returns c =
     (record { starts = c.clear_lists_if-2.ensures.0; runs = c.clear_runs_if.ensures.1; index = c.clear_lists_if-2.ensures.1; values = n.1 })
     n.2 c.clear_scratch.ensures
 
-pub shape_of-work-then-stops : goal.shape_of-work-then-stops
-shape_of-work-then-stops c = c.ask_solve-asked.auto.work
+pub shape_of-work-in_err-ask_solve : goal.shape_of-work-in_err-ask_solve
+shape_of-work-in_err-ask_solve c = c.ask_solve.auto.work
 
-pub shape_of-marks-then-stops : goal.shape_of-marks-then-stops
-shape_of-marks-then-stops c = c.ask_solve-asked.auto.marks
+pub shape_of-marks-in_err-ask_solve : goal.shape_of-marks-in_err-ask_solve
+shape_of-marks-in_err-ask_solve c = c.ask_solve.auto.marks
 
 pub shape_of-lower_starts : goal.shape_of-lower_starts
 shape_of-lower_starts c = c.clear_lists_if.auto.starts ∙ c.analyze_and_solve-a.auto.lower_starts
@@ -66,7 +65,7 @@ pub shape_of-x : goal.shape_of-x
 shape_of-x c = c.analyze_and_solve-a.auto.x
 
 pub shape_of-work : goal.shape_of-work
-shape_of-work c = c.clear_scratch.auto.work ∙ c.analyze_and_solve-a.auto.work ∙ c.ask_solve-asked.auto.work
+shape_of-work c = c.clear_scratch.auto.work ∙ c.analyze_and_solve-a.auto.work ∙ c.ask_solve.auto.work
 
 pub shape_of-marks : goal.shape_of-marks
-shape_of-marks c = c.clear_scratch.auto.marks ∙ c.analyze_and_solve-a.auto.marks ∙ c.ask_solve-asked.auto.marks
+shape_of-marks c = c.clear_scratch.auto.marks ∙ c.analyze_and_solve-a.auto.marks ∙ c.ask_solve.auto.marks

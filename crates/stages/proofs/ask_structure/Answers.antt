@@ -1,31 +1,32 @@
 use mathlib.Core.Path.{sym, ◌∙◌}
-use mathlib.Core.List.{[]}
-use Rattle.matrix.specs.Input.{Input, input_of}
-use Rattle.stages.specs.Branches.{never, pass_of}
+use Rattle.matrix.specs.Input.{Input, lent_pattern}
+use Rattle.stages.specs.Branches.{never}
 use Rattle.stages.specs.ShapedLaws.{structure-shaped, lent_of}
 use Rattle.stages.specs.Ends.{blank_of}
-use Rattle.stages.specs.Asking.{asking-stop, asking-on, structure-due}
+use Rattle.stages.specs.Asking.{asking-refused, asking-passed, structure-due}
 use Rattle.stages.proofs.ask_structure.Goals as goal
 use Rattle.stages.proofs.ask_structure.Goals.{Start}
 
 abbrev given : Start → Input
-given s = let a = s.args in input_of a.n a.starts.now a.columns.now [] a.r.now a.c.now []
+given s = lent_pattern s.args.input
 
-pub returns-then-stops : goal.returns-then-stops
-returns-then-stops c = asking-stop _ _ _ _ _ _ c.shape_structure-shape.ensures (sym c.stops.ensures ∙ c.if-stops.true)
+pub returns-in_err-shape_structure : goal.returns-in_err-shape_structure
+returns-in_err-shape_structure c = asking-refused _ _ _ _ _ _ _ _ c.shape_structure.ensures c.in_err-shape_structure.was c.from_residual.ensures.1
 
 pub ask_structure-a-requires : goal.ask_structure-a-requires
 ask_structure-a-requires c =
-    let h = structure-shaped c.args.form (given (goal.at.ask_structure-a-requires c).Start) c.args.sizes (sym c.shape_structure-shape.ensures ∙ pass_of _ (sym c.stops.ensures ∙ c.if-stops.false)) in
-    lent_of c.args.form (given (goal.at.ask_structure-a-requires c).Start) c.args.sizes h _ c.requires
+    let s = (goal.at.ask_structure-a-requires c).Start in
+    lent_of c.args.form (given s) c.args.sizes (structure-shaped c.args.form (given s) c.args.sizes (sym c.shape_structure.ensures ∙ c.in_ok-shape_structure.was)) _ c.requires
 
-pub returns-then-stops-2 : goal.returns-then-stops-2
-returns-then-stops-2 c =
+pub returns-then-is_err : goal.returns-then-is_err
+returns-then-is_err c =
+    let s = (goal.at.returns-then-is_err c).Start in
     let e = c.clear_scratch.ensures in
-    asking-on _ _ _ _ _ _ _ _ _ c.shape_structure-shape.ensures (sym c.stops.ensures ∙ c.if-stops.false) c.ask_structure-a.ensures
-    (λ h. (e.0, blank_of 0 _ _ _ c.ask_structure-a.auto.marks e.1)) (structure-due c.args.form (given (goal.at.returns-then-stops-2 c).Start) c.args.sizes)
+    asking-passed _ _ _ _ _ _ _ _ _ c.shape_structure.ensures c.in_ok-shape_structure.was c.ask_structure-a.ensures
+    (λ h. (e.0, blank_of 0 _ _ _ c.ask_structure-a.auto.marks e.1)) (structure-due c.args.form (given s) c.args.sizes)
 
-pub returns : goal.returns
-returns c =
-    asking-on _ _ _ _ _ _ _ _ _ c.shape_structure-shape.ensures (sym c.stops.ensures ∙ c.if-stops.false) c.ask_structure-a.ensures
-    (λ h. never _ (sym c.stops-2.ensures ∙ c.if-stops-2.false) h) (structure-due c.args.form (given (goal.at.returns c).Start) c.args.sizes)
+pub returns-else-is_err : goal.returns-else-is_err
+returns-else-is_err c =
+    let s = (goal.at.returns-else-is_err c).Start in
+    asking-passed _ _ _ _ _ _ _ _ _ c.shape_structure.ensures c.in_ok-shape_structure.was c.ask_structure-a.ensures
+    (λ h. never _ c.if-is_err.false (c.is_err.ensures.value ∙ h)) (structure-due c.args.form (given s) c.args.sizes)

@@ -4,4 +4,4 @@ use Rattle.stages.proofs.clear_numbers_if.Goals as goal
 pub returns-then-refused : goal.returns-then-refused
 returns-then-refused c =
     let b = c.if-refused.true in
-    (if_yes _ _ _ _ b c.clear_f64.ensures, if_yes _ _ _ _ b c.clear_f64-then-refused.ensures, if_yes _ _ _ _ b c.clear_f64-then-refused-2.ensures)
+    (if_yes _ _ _ _ b c.clear.ensures, if_yes _ _ _ _ b c.clear-then-refused.ensures, if_yes _ _ _ _ b c.clear-then-refused-2.ensures)

@@ -1,18 +1,16 @@
-use mathlib.Core.Path.{sym, ◌∙◌}
 use Rattle.stages.specs.ShapedLaws.{solution-due}
-use Rattle.stages.specs.Ends.{came-fault, came-solved}
+use Rattle.stages.specs.Ends.{came-refused, came-passed}
 use Rattle.stages.proofs.factor_and_solve.Goals as goal
 
-pub factor-factored-requires : goal.factor-factored-requires
-factor-factored-requires c = (_, c.requires.ready)
+pub factor-requires : goal.factor-requires
+factor-requires c = (_, c.requires.ready)
 
-pub returns-then-stops : goal.returns-then-stops
-returns-then-stops c =
-    came-fault _ _ _ _ _ _ _ _ _ (c.factor-factored.ensures _ c.requires.ready) c.fault_of-fault.ensures (sym c.stops.ensures ∙ c.if-stops.true)
+pub returns-in_err-factor : goal.returns-in_err-factor
+returns-in_err-factor c =
+    came-refused _ _ _ _ _ _ _ _ _ (c.factor.ensures _ c.requires.ready) _ c.in_err-factor.was c.from_residual.ensures.1
 
 pub write_x-requires : goal.write_x-requires
-write_x-requires c = solution-due _ _ _ _ _ _ c.requires c.factor-factored.auto.work
+write_x-requires c = solution-due _ _ _ _ _ _ c.requires c.factor.auto.work
 
 pub returns : goal.returns
-returns c =
-    came-solved _ _ _ _ _ _ _ _ _ _ (c.factor-factored.ensures _ c.requires.ready) c.fault_of-fault.ensures (sym c.stops.ensures ∙ c.if-stops.false) c.write_x.ensures
+returns c = came-passed _ _ _ _ _ _ _ _ _ (c.factor.ensures _ c.requires.ready) c.in_ok-factor.was c.write_x.ensures

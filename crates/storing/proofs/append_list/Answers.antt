@@ -8,17 +8,17 @@ use Rattle.storing.proofs.append_list.Goals as goal
 pub write_list-requires : goal.write_list-requires
 write_list-requires c =
     let a = c.args in
-    let w = looked OneAfterAnother a.starts.now a.starts.now a.index.now a.values a.list.now a.list.now a.k.0 a.s c.requires c.in-Fits.plan c.in-Fits.next (sym c.look_for-found.ensures ∙ c.in-Fits.is) in
+    let w = looked OneAfterAnother a.starts.now a.starts.now a.index.now a.values a.list.now a.list.now a.k.0 a.s c.requires c.in_ok-plan.plan c.in_ok-plan.next (sym c.look_for.ensures ∙ c.in_ok-plan.was) in
     let y = c.requires in
     record { have-in = w.have-in; index-room = w.index-room; start-room = y.start-room; entries-limit = omega (arith, w.values-room, y.value-limit); small = y.small }
 
-pub returns-in-Fits : goal.returns-in-Fits
-returns-in-Fits c =
+pub returns : goal.returns
+returns c =
     let a = c.args in
     let b = c.write_list in
-    plain_done a.starts.now a.index.now a.values a.list.now a.k.0 a.s c.requires c.in-Fits.plan c.in-Fits.next (looked OneAfterAnother a.starts.now a.starts.now a.index.now a.values a.list.now a.list.now a.k.0 a.s c.requires c.in-Fits.plan c.in-Fits.next (sym c.look_for-found.ensures ∙ c.in-Fits.is)) b.new.starts b.new.index b.ensures
+    plain_done a.starts.now a.index.now a.values a.list.now a.k.0 a.s c.requires c.in_ok-plan.plan c.in_ok-plan.next (looked OneAfterAnother a.starts.now a.starts.now a.index.now a.values a.list.now a.list.now a.k.0 a.s c.requires c.in_ok-plan.plan c.in_ok-plan.next (sym c.look_for.ensures ∙ c.in_ok-plan.was)) b.new.starts b.new.index b.ensures
 
-pub returns-in-Short : goal.returns-in-Short
-returns-in-Short c =
+pub returns-in_err-plan : goal.returns-in_err-plan
+returns-in_err-plan c =
     let a = c.args in
-    plain-full a.starts.now a.index.now a.values a.list.now a.k.0 a.s c.requires (not-looked OneAfterAnother a.starts.now a.starts.now a.index.now a.values a.list.now a.list.now a.k.0 a.s (sym c.look_for-found.ensures ∙ c.in-Short.is))
+    rw c.from_residual.ensures (plain-full a.starts.now a.index.now a.values a.list.now a.k.0 a.s c.requires (not-looked OneAfterAnother a.starts.now a.starts.now a.index.now a.values a.list.now a.list.now a.k.0 a.s (sym c.look_for.ensures ∙ c.in_err-plan.was)))

@@ -1,17 +1,6 @@
-use mathlib.Core.Path.{sym}
 use native.Mathlib.Omega.{arith}
-use lib.Seq.{length-take-le}
-use Rattle.storing.specs.LookLaws.{ready-planning, no_index, no-values, looked-fits}
+use Rattle.storing.specs.LookLaws.{no_index, no-values, looked-fits}
 use Rattle.storing.proofs.look_for.Goals as goal
-
-pub slice_bounds-plan_list-end : goal.slice_bounds-plan_list-end
-slice_bounds-plan_list-end c =
-    sym (length-take-le c.args.s.used c.args.index.now c.requires.used-in)
-
-pub plan_list-plan-requires : goal.plan_list-plan-requires
-plan_list-plan-requires c =
-    let a = c.args in
-    ready-planning a.way a.starts.now a.runs.now a.index.now a.values a.row.now a.list.now a.k.0 a.s c.requires
 
 pub returns-then-index-used : goal.returns-then-index-used
 returns-then-index-used c =

@@ -10,31 +10,28 @@ returns-then-list-eq0 c =
     let a = c.args in
     plan-empty a.starts.now a.runs.now a.slots.now a.last a.k.0 a.row.now a.list.now (omega arith)
 
-pub full_tail-found-requires : goal.full_tail-found-requires
-full_tail-found-requires c = record { all_tailed = c.requires.readable; count_nonzero = omega (arith, c.if-list-eq0.false) }
-
 pub offset_bounds-row-j : goal.offset_bounds-row-j
 offset_bounds-row-j c =
     let a = c.args in
-    let h = (tail-found a.starts.now a.runs.now a.slots.now a.last a.k.0 a.row.now a.list.now c.if-list-eq0.false c.requires.readable c.in-At.j (sym c.full_tail-found.ensures ∙ c.in-At.is)).0 in
+    let h = (tail-found a.starts.now a.runs.now a.slots.now a.last a.k.0 a.row.now a.list.now c.if-list-eq0.false c.requires.readable c.in-Some.j (sym c.full_tail-found.ensures ∙ c.in-Some.is)).0 in
     search rules
 
 pub bounds-row-j : goal.bounds-row-j
 bounds-row-j c =
     let a = c.args in
-    (tail-found a.starts.now a.runs.now a.slots.now a.last a.k.0 a.row.now a.list.now c.if-list-eq0.false c.requires.readable c.in-At.j (sym c.full_tail-found.ensures ∙ c.in-At.is)).0
+    (tail-found a.starts.now a.runs.now a.slots.now a.last a.k.0 a.row.now a.list.now c.if-list-eq0.false c.requires.readable c.in-Some.j (sym c.full_tail-found.ensures ∙ c.in-Some.is)).0
 
 pub tail_start-requires : goal.tail_start-requires
 tail_start-requires c =
     let a = c.args in
-    (tail-found a.starts.now a.runs.now a.slots.now a.last a.k.0 a.row.now a.list.now c.if-list-eq0.false c.requires.readable c.in-At.j (sym c.full_tail-found.ensures ∙ c.in-At.is)).1
+    (tail-found a.starts.now a.runs.now a.slots.now a.last a.k.0 a.row.now a.list.now c.if-list-eq0.false c.requires.readable c.in-Some.j (sym c.full_tail-found.ensures ∙ c.in-Some.is)).1
 
-pub returns-in-At : goal.returns-in-At
-returns-in-At c =
+pub returns-in-Some : goal.returns-in-Some
+returns-in-Some c =
     let a = c.args in
-    plan-found a.starts.now a.runs.now a.slots.now a.last a.k.0 a.row.now a.list.now c.if-list-eq0.false c.requires.readable c.in-At.j (sym c.full_tail-found.ensures ∙ c.in-At.is) c.tail_start.result c.tail_start.ensures
+    plan-found a.starts.now a.runs.now a.slots.now a.last a.k.0 a.row.now a.list.now c.if-list-eq0.false c.requires.readable c.in-Some.j (sym c.full_tail-found.ensures ∙ c.in-Some.is) c.tail_start.result c.tail_start.ensures
 
-pub returns-in-Nothing : goal.returns-in-Nothing
-returns-in-Nothing c =
+pub returns-in-None : goal.returns-in-None
+returns-in-None c =
     let a = c.args in
-    c.overlap_plan.ensures ∙ ap as_plan (sym (plan-none a.starts.now a.runs.now a.slots.now a.last a.k.0 a.row.now a.list.now c.if-list-eq0.false c.requires.readable (sym c.full_tail-found.ensures ∙ c.in-Nothing.is)))
+    c.overlap_plan.ensures ∙ ap as_plan (sym (plan-none a.starts.now a.runs.now a.slots.now a.last a.k.0 a.row.now a.list.now c.if-list-eq0.false c.requires.readable (sym c.full_tail-found.ensures ∙ c.in-None.is)))

@@ -17,7 +17,7 @@ row_right-requires c =
 pub loop-k-preserved : goal.loop-k-preserved
 loop-k-preserved c =
     let l = c.loop-k in
-    fill_more _ _ _ l.k _ (omega arith) (right_is _ _ _ c.own_row-i.ensures _ _ _ c.row_right.ensures) l.invariant
+    fill_more _ _ _ l.k _ c.loop-k-test.true (right_is _ _ _ c.own_row-i.ensures _ _ _ c.row_right.ensures) l.invariant
 
 pub returns : goal.returns
-returns c = fill_end _ _ _ c.loop-k.k (omega arith) c.loop-k.invariant
+returns c = fill_end _ _ _ c.loop-k.k c.loop-k-test.false c.loop-k.invariant

@@ -1,14 +1,9 @@
-use mathlib.Core.Path.{◌≡◌}
-use Prim.Native.Nat.{◌-◌, ◌≤◌}
-use lib.ListN.{length}
 use Rattle.arithmetic.specs.Again.{Factors}
 use Rattle.outcome.specs.Buffers.{side_buffers}
 use Rattle.substitution.specs.Sweep.{Tied, Sweep}
 use Rattle.substitution.proofs.substitute_rows.Given as goal
 
 abbrev pub invariant-loop-k : goal.invariant-loop-k
-invariant-loop-k l = (l.k ≤ l.n) × (length l.work ≡ length l.initial.work)
-    × ((F : Factors) → Tied l.form l.n F (side_buffers l.starts l.runs l.index l.values) l.d → Sweep l.form l.n F (side_buffers l.starts l.runs l.index l.values) 0 l.initial.work → Sweep l.form l.n F (side_buffers l.starts l.runs l.index l.values) l.k l.work)
-
-abbrev pub decreases-loop-k : goal.decreases-loop-k
-decreases-loop-k l = l.n - l.k
+invariant-loop-k l =
+    (F : Factors) → Tied l.form l.n F (side_buffers l.starts l.runs l.index l.values) l.d → Sweep l.form l.n F (side_buffers l.starts l.runs l.index l.values) 0 l.initial.work
+    → Sweep l.form l.n F (side_buffers l.starts l.runs l.index l.values) l.k l.work

@@ -1,6 +1,5 @@
 use Rattle.numeric.specs.StoreLaws.{ready}
 use Rattle.lent.specs.ReadingLaws.{take_rest}
-use Rattle.numeric.proofs.Turns.{rest-is}
 use Rattle.outcome.specs.Buffers.{SideBuffers, side_buffers}
 use Rattle.substitution.specs.SweepLaws.{sum-columns, sum_rows}
 use Rattle.substitution.specs.EndLaws.{below-tail}
@@ -28,4 +27,4 @@ subtract_products-requires c =
 pub returns : goal.returns
 returns c =
     sum_rows c.args.form _ c.by_columns.ensures c.args.n c.args.k (side (goal.at.returns c).Start) c.args.work.now _ c.if-by_columns.false
-    (rest-is _ _ _ _ _ _ _ _ c.list_at-row.ensures c.values_at-l.ensures (take_rest c.args.n c.args.work.now) c.subtract_products.ensures)
+    (rw (c.list_at-row.ensures, c.values_at-l.ensures, take_rest c.args.n c.args.work.now) at c.subtract_products.ensures)

@@ -1,13 +1,7 @@
-use Rattle.symbolic.proofs.Keeping.{adding-fits, adding-countable, products-next, products-small}
+use Rattle.symbolic.proofs.Keeping.{adding-countable, products-next, products-small}
 use mathlib.Core.Path.{refl}
 use native.Mathlib.Omega.{arith}
 use Rattle.symbolic.proofs.add_products.Goals as goal
-
-pub overflow_add-end : goal.overflow_add-end
-overflow_add-end c = let a = c.requires.adding in omega (arith, adding-fits a, a.few)
-
-pub slice_bounds-row_products-end : goal.slice_bounds-row_products-end
-slice_bounds-row_products-end c = let a = c.requires.adding in omega (arith, adding-fits a, a.space.long)
 
 pub row_products-requires : goal.row_products-requires
 row_products-requires c = adding-countable c.requires.adding _ refl

@@ -1,16 +1,7 @@
 use Rattle.symbolic.specs.Pass.{At}
 use Rattle.base.specs.declared.Form.TheVariants.{Shared}
-use Rattle.matrix.specs.Input.{input_of}
-use mathlib.Core.Path.{◌≡◌}
-use mathlib.Core.List.{[]}
-use Prim.Native.Nat.{◌-◌}
-use lib.ListN.{length}
+use Rattle.matrix.specs.Input.{lent_pattern}
 use Rattle.symbolic.proofs.analyze_shared.Given as goal
 
 abbrev pub invariant-loop-k : goal.invariant-loop-k
-invariant-loop-k l = At Shared (input_of l.n l.starts l.columns [] l.r l.c []) l.initial.lower_index l.lower_values l.initial.upper_index l.upper_values l.k l.lower_starts l.lower_runs l.lower_index l.upper_starts l.upper_runs l.upper_index l.marks l.g
-    × (length l.lower_starts ≡ length l.initial.lower_starts) × (length l.lower_runs ≡ length l.initial.lower_runs) × (length l.lower_index ≡ length l.initial.lower_index)
-    × (length l.upper_starts ≡ length l.initial.upper_starts) × (length l.upper_runs ≡ length l.initial.upper_runs) × (length l.upper_index ≡ length l.initial.upper_index) × (length l.marks ≡ length l.initial.marks)
-
-abbrev pub decreases-loop-k : goal.decreases-loop-k
-decreases-loop-k l = l.n - l.k
+invariant-loop-k l = At Shared (lent_pattern l.input) l.initial.lower_index l.lower_values l.initial.upper_index l.upper_values l.k l.lower_starts l.lower_runs l.lower_index l.upper_starts l.upper_runs l.upper_index l.marks l.g

@@ -1,14 +1,7 @@
-use Rattle.symbolic.proofs.Keeping.{lower-fits, lower-turn, lower-ready, lower-stepped}
+use Rattle.symbolic.proofs.Keeping.{lower-turn, lower-ready, lower-stepped}
 use Rattle.fill.specs.Fill.{lower_row, flip}
 use mathlib.Core.Path.{refl}
-use native.Mathlib.Omega.{arith}
 use Rattle.symbolic.proofs.append_lower.Goals as goal
-
-pub overflow_add-mid : goal.overflow_add-mid
-overflow_add-mid c = let h = c.requires.keep in omega (arith, lower-fits h, h.few)
-
-pub slice_bounds-append_list-end : goal.slice_bounds-append_list-end
-slice_bounds-append_list-end c = let h = c.requires.keep in omega (arith, lower-fits h, h.space.long)
 
 pub append_list-requires : goal.append_list-requires
 append_list-requires c = lower-ready c.requires.keep _ refl

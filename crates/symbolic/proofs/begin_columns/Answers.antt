@@ -1,12 +1,11 @@
 use Rattle.symbolic.proofs.Starts.{begun-of, columns-begun}
 use Rattle.columns.proofs.Stored.{given-sound}
-use Rattle.matrix.specs.Input.{Input, input_of}
-use mathlib.Core.List.{[]}
+use Rattle.matrix.specs.Input.{Input, lent_pattern}
 use Rattle.symbolic.proofs.begin_columns.Goals as goal
 use Rattle.symbolic.proofs.begin_columns.Goals.{Start}
 
 abbrev given : Start → Input
-given s = input_of s.args.n s.args.starts.now s.args.columns.now [] s.args.r.now s.args.c.now []
+given s = lent_pattern s.args.input
 
 pub start_columns-requires : goal.start_columns-requires
 start_columns-requires c =

@@ -1,7 +1,0 @@
-use Rattle.program.specs.Program.{zeros}
-use mathlib.Core.Path.{refl}
-use Rattle.program.proofs.zeros_index.Goals as goal
-
-pub returns : goal.returns
-unfolding zeros
-returns c = record { value = refl; value_2 = refl }
