@@ -193,6 +193,13 @@ fn a_full_device_has_status_2() {
     failed(2, &["solve", &example("two_by_two.lp"), "-o", &(own("no_folder") + "/x")]);
 }
 
+/// Takes links away again: the gate reads no link in a checkout, so a second run would fail.
+fn unlink(paths: &[String]) {
+    for path in paths {
+        std::fs::remove_file(path).expect("a link");
+    }
+}
+
 /// A link to the full device has an ending that convert takes.
 #[test]
 fn a_full_device_stops_convert() {
@@ -202,12 +209,14 @@ fn a_full_device_stops_convert() {
         path
     };
     let (two, text) = (example("two_by_two.lp"), example("two_by_two.mtx"));
-    failed(2, &["convert", &text, &link("full.lp")]);
-    failed(2, &["convert", &two, &link("full.mtx")]);
+    let (lp, mtx) = (link("full.lp"), link("full.mtx"));
+    failed(2, &["convert", &text, &lp]);
+    failed(2, &["convert", &two, &mtx]);
     for option in ["--right", "--order", "--rows", "--columns"] {
         let line = failed(2, &["convert", &two, &own("full_rest.mtx"), option, "/dev/full"]);
         assert!(line.contains("cannot write /dev/full"), "{line}");
     }
+    unlink(&[lp, mtx]);
 }
 
 /// Runs the command with files limited to one block, and the signal that goes with it ignored.
@@ -245,6 +254,7 @@ fn no_part_of_a_file_is_left() {
     let (status, line) = limited(&["solve", &matrix, "-o", &link]);
     assert_eq!(status, Some(2));
     assert!(line.contains("the file is incomplete") && std::path::Path::new(&target).exists(), "{line}");
+    unlink(&[link]);
 }
 
 /// Standard output plays no part where a file is named.
