@@ -72,6 +72,8 @@ def main():
             for m in re.finditer(r"(?:if let|let) [\w:]+\(?\w*\)? = \w+ (?:else )?\{\s*return [\w:]+\((?:q|[\w:]+)\);", body):
                 if re.search(r"(Stop|Err|Refused|Unshaped)\((q)\)", m.group(0)):
                     note("1 refusals passed on by hand", here)
+            for m in re.finditer(r"if (?:(?:stages::)?(?:stops|refuses)\(\w+\)|\w+\.is_err\(\)) \{\s*return ", body):
+                note("1 refusals passed on by hand", here)
             for m in re.finditer(r"(?:[\w:]+)?(?:Stop|Err|Refused|Unshaped)\(q\) => (?:return )?[\w:]+\(q\)", body):
                 note("1 refusals passed on by hand", here)
             if len(re.findall(r"\S", body)) > 30:

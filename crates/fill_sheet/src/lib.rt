@@ -44,7 +44,7 @@ pub fn fill_sheet(
     if wrong_length(input.n, sheet.len()) {
         return Err(Refusal::Lengths);
     }
-    let a = shared_form::structure_shared(
+    let counts = shared_form::structure_shared(
         input,
         lower_starts,
         lower_runs,
@@ -56,10 +56,7 @@ pub fn fill_sheet(
         upper_values,
         work,
         marks,
-    );
-    if a.is_err() {
-        return a;
-    }
+    )?;
     sheet::print(
         input.n,
         input.r,
@@ -71,5 +68,5 @@ pub fn fill_sheet(
         marks,
         sheet,
     );
-    a
+    Ok(counts)
 }

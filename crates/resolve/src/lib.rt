@@ -71,14 +71,10 @@ fn ask_right(
     requires { sizes.marks ≡ length marks.old }
     ensures { AgainAsking form (input_of n [] [] [] r.now c.now b.now) sizes work.old marks.old work.new marks.new result }
 {
-    let shape = ask_shape(form, n, r, c, b, sizes);
-    if shape.is_err() {
-        return shape;
-    }
+    ask_shape(form, n, r, c, b, sizes)?;
     let a = questions::ask_right(n, r, c, b, marks);
     if a.is_err() {
         stages::clear_scratch(work, marks);
-        return a;
     }
     a
 }
@@ -109,7 +105,7 @@ fn solve_again(
         (side_buffers lower_starts.now lower_runs.now lower_index.now lower_values.now)
         (side_buffers upper_starts.now upper_runs.now upper_index.now upper_values.now) d.now x.old result x.new }
 {
-    let good = factors::ask_factors(
+    factors::ask_factors(
         form,
         n,
         lower_starts,
@@ -121,10 +117,7 @@ fn solve_again(
         upper_index,
         upper_values,
         d,
-    );
-    if good.is_err() {
-        return good;
-    }
+    )?;
     let solved = substitution::substitute(
         form,
         n,
@@ -141,11 +134,9 @@ fn solve_again(
         d,
         work,
     );
-    if solved.is_err() {
-        return solved;
-    }
+    solved?;
     stages::write_x(n, c, work, x);
-    solved
+    Ok(())
 }
 
 // ---- the calls
@@ -181,10 +172,7 @@ pub fn resolve_plain(
         work: work.len(),
         marks: marks.len(),
     };
-    let asked = ask_right(Form::Plain, n, r, c, b, sizes, work, marks);
-    if asked.is_err() {
-        return asked;
-    }
+    ask_right(Form::Plain, n, r, c, b, sizes, work, marks)?;
     let a = solve_again(
         Form::Plain,
         n,
@@ -240,10 +228,7 @@ pub fn resolve_shared(
         work: work.len(),
         marks: marks.len(),
     };
-    let asked = ask_right(Form::Shared, n, r, c, b, sizes, work, marks);
-    if asked.is_err() {
-        return asked;
-    }
+    ask_right(Form::Shared, n, r, c, b, sizes, work, marks)?;
     let a = solve_again(
         Form::Shared,
         n,
