@@ -1,8 +1,8 @@
 #!/usr/bin/env bash
 # Runs the tests outside the proofs: solve.sh as the README calls it, another solver against the library and the
 # program, faults planted for that comparison to find, the C header, the Rust crate, the command, every block of the
-# documents, the benchmark's own solver, and the launchers. Nothing is left out: what is missing counts as failed. Ends
-# with one line 'N passed, M failed'.
+# documents, the benchmark's own solver, the launchers, and an index of 32 bits. Nothing is left out: what is missing
+# counts as failed. Ends with one line 'N passed, M failed'.
 set -u
 cd "$(dirname "$0")/.." || exit 1
 
@@ -95,6 +95,7 @@ library=$!
 checks --features standin --bin planted
 one "bench" "its solver differs from the reference" sh -c 'cd bench && cargo test --release --offline --quiet'
 counted "launchers" sh tests/launchers.sh
+counted "width" sh tests/width.sh
 
 one "capi" "the static library was not built" wait "$library"
 checks --features library

@@ -285,7 +285,7 @@ pub fn at_most(p: f64, f: f64) -> bool
     p <= f
 }
 
-// A slot's zero: 0, or +0.
+// A slot's zero: 0, or +0. The integers stand for themselves, so that an index of either width has one.
 pub trait Zero: Copy {
     ghost nil: { Self };
 
@@ -293,10 +293,10 @@ pub trait Zero: Copy {
         ensures { result ≡ nil };
 }
 
-impl Zero for Index {
+impl Zero for u16 {
     ghost nil = { 0 };
 
-    fn zero() -> Index {
+    fn zero() -> u16 {
         0
     }
 }

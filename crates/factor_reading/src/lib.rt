@@ -122,12 +122,17 @@ fn judge(
 }
 
 // Fills the first `count` slots with the values from `at` on, and the others with zero.
-fn fill<T: Field + Zero>(file: &[u8], at: usize, count: usize, store: &mut [T])
-    requires { (at + T.WIDTH * count ≤ room file.now) × (count ≤ length store.old) }
+fn fill<const WIDTH: usize, T: Field<WIDTH> + Zero>(
+    file: &[u8],
+    at: usize,
+    count: usize,
+    store: &mut [T],
+)
+    requires { (at + WIDTH * count ≤ room file.now) × (count ≤ length store.old) }
     ensures { store.new ≡ padded T.nil (length store.old) (T.values_at file.now at count) }
 {
     base::clear(store);
-    fields::read(file, at, &mut store[..count]);
+    fields::read::<WIDTH, _>(file, at, &mut store[..count]);
 }
 
 // Fills the starts, the index store and the value store of a side of `entries` entries from where they stand.
@@ -146,9 +151,9 @@ fn load_side(
         × (index.new ≡ padded 0 (length index.old) (fields_at 2 file.now index_at entries))
         × (values.new ≡ padded nought (length values.old) (floats_at file.now values_at entries)) }
 {
-    fields::read(file, starts_at, starts);
-    fill(file, index_at, entries, index);
-    fill(file, values_at, entries, values);
+    fields::read::<4, _>(file, starts_at, starts);
+    fill::<2, _>(file, index_at, entries, index);
+    fill::<8, _>(file, values_at, entries, values);
 }
 
 // Fills d and the orders from where they stand.
@@ -166,9 +171,9 @@ fn load_rest(
         × (c.new ≡ fields_at 2 file.now c_at (length c.old))
         × (d.new ≡ floats_at file.now d_at (length d.old)) }
 {
-    fields::read(file, r_at, r);
-    fields::read(file, c_at, c);
-    fields::read(file, d_at, d);
+    fields::read::<2, _>(file, r_at, r);
+    fields::read::<2, _>(file, c_at, c);
+    fields::read::<8, _>(file, d_at, d);
 }
 
 // Fills all buffers with what the file holds, and unused slots with zeros.

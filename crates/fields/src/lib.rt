@@ -89,12 +89,8 @@ pub fn bits_of(x: f64) -> u64
     }
 }
 
-// A value that a file holds as a number of so many bytes.
-pub trait Field: Copy {
-    const WIDTH: usize;
-
-    ghost WIDTH: { ℕ };
-
+// A value that a file holds as a number of so many bytes. The width is the file's: an index of 32 bits would still have 2 bytes in it.
+pub trait Field<const WIDTH: usize>: Copy {
     // The value of a number, and the number that a value is written as.
     ghost value_of: { ℕ → Self };
 
@@ -121,11 +117,7 @@ pub trait Field: Copy {
     ghost writes_each: { (xs : List Self) → numbers_of xs ≡ map number_of xs };
 }
 
-impl Field for Index {
-    const WIDTH: usize = 2;
-
-    ghost WIDTH = { 2 };
-
+impl Field<2> for Index {
     ghost value_of = { λ n. n };
 
     ghost number_of = { λ x. x };
@@ -149,11 +141,7 @@ impl Field for Index {
     }
 }
 
-impl Field for u32 {
-    const WIDTH: usize = 4;
-
-    ghost WIDTH = { 4 };
-
+impl Field<4> for u32 {
     ghost value_of = { λ n. n };
 
     ghost number_of = { λ x. x };
@@ -177,11 +165,7 @@ impl Field for u32 {
     }
 }
 
-impl Field for f64 {
-    const WIDTH: usize = 8;
-
-    ghost WIDTH = { 8 };
-
+impl Field<8> for f64 {
     ghost value_of = { of_bits binary64 };
 
     ghost number_of = { to_bits binary64 };
@@ -206,14 +190,14 @@ impl Field for f64 {
 }
 
 // Fills `out` with the values from payload byte `at` on, and answers where they end.
-pub fn read<T: Field>(file: &[u8], at: usize, out: &mut [T]) -> usize
-    requires { at + T.WIDTH * length out.old ≤ room file.now }
-    ensures { (result ≡ at + T.WIDTH * length out.old) × (out.new ≡ T.values_at file.now at (length out.old)) }
+pub fn read<const WIDTH: usize, T: Field<WIDTH>>(file: &[u8], at: usize, out: &mut [T]) -> usize
+    requires { at + WIDTH * length out.old ≤ room file.now }
+    ensures { (result ≡ at + WIDTH * length out.old) × (out.new ≡ T.values_at file.now at (length out.old)) }
 {
     let mut p = at;
     for x in out.iter_mut() {
-        *x = T::from_number(number_at(file, p, T::WIDTH));
-        p += T::WIDTH;
+        *x = T::from_number(number_at(file, p, WIDTH));
+        p += WIDTH;
     }
     p
 }
@@ -241,13 +225,13 @@ pub fn put_number(file: &mut [u8], at: usize, width: usize, v: u64) -> usize
 }
 
 // Lays the values of a list down from payload byte `at` on, and answers where they end.
-pub fn write<T: Field>(file: &mut [u8], at: usize, src: &[T]) -> usize
-    requires { at + T.WIDTH * length src.now ≤ room file.old }
-    ensures { (result ≡ at + T.WIDTH * length src.now) × (payloads file.new result ≡ payloads file.old at ++ fields T.WIDTH (T.numbers_of src.now)) }
+pub fn write<const WIDTH: usize, T: Field<WIDTH>>(file: &mut [u8], at: usize, src: &[T]) -> usize
+    requires { at + WIDTH * length src.now ≤ room file.old }
+    ensures { (result ≡ at + WIDTH * length src.now) × (payloads file.new result ≡ payloads file.old at ++ fields WIDTH (T.numbers_of src.now)) }
 {
     let mut p = at;
     for x in src {
-        p = put_number(file, p, T::WIDTH, x.to_number());
+        p = put_number(file, p, WIDTH, x.to_number());
     }
     p
 }

@@ -34,7 +34,7 @@ fn odd_values() -> [f64; 40] {
 fn columns() -> [Index; 40] {
     let mut out: [Index; 40] = [0; 40];
     for i in 0..40 {
-        out[i as usize] = (i * 5 + 3) % 8;
+        out[base::wide(i)] = (i * 5 + 3) % 8;
     }
     out
 }

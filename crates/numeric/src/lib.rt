@@ -3,7 +3,7 @@
 // Lower row k is lent, so that no step knows where it is kept.
 #![tactic(auto)]
 
-ghost use Rattle.std.specs.Prelude.{◌≡◌, true, ◌&&◌, List, ◌∷◌, map, ℕ, ◌+◌, ◌-◌, ◌*◌, ◌<◌, ◌≤◌, length, get_or, take, drop};
+ghost use Rattle.std.specs.Prelude.{◌≡◌, true, ◌&&◌, List, ◌∷◌, ℕ, ◌+◌, ◌-◌, ◌*◌, ◌<◌, ◌≤◌, length, get_or, take, drop};
 ghost use Rattle.std.proofs.lemmas.List.Edits.{sets};
 ghost use Rattle.std.specs.Float.{nan};
 ghost use Rattle.std.specs.Float.Ieee.Scale.{finite};
@@ -234,37 +234,24 @@ pub fn reduce_row(
     finish_row(&f[..n], k, floor, above, u, from, row)
 }
 
-// A place as a list stores it, in 16 or in 32 bits.
-trait Stored: Copy {
-    ghost at: { Self → ℕ };
-
-    fn slot(self) -> usize
-        ensures { result ≡ at self };
-}
-
-impl Stored for u32 {
-    ghost at = { λ i. i };
-
-    fn slot(self) -> usize {
-        base::slot(self)
-    }
-}
-
-impl Stored for Index {
-    ghost at = { λ i. i };
-
-    fn slot(self) -> usize {
-        base::wide(self)
-    }
-}
-
 // +0 at the listed places.
-fn clear_places<P: Stored>(w: &mut [f64], places: &[P])
-    requires { Below (length w.old) (map P.at places.now) }
-    ensures { w.new ≡ zeroed (map P.at places.now) w.old }
+fn clear_lower(w: &mut [f64], places: &[u32])
+    requires { Below (length w.old) places.now }
+    ensures { w.new ≡ zeroed places.now w.old }
 {
     for &i in places {
-        w[i.slot()] = 0.0;
+        w[base::slot(i)] = 0.0;
+    }
+}
+
+// The same of a list in its store. One function for both would cast an index outside of base, or by a trait for two types that are one
+// where an index has 32 bits.
+fn clear_upper(w: &mut [f64], places: &[Index])
+    requires { Below (length w.old) places.now }
+    ensures { w.new ≡ zeroed places.now w.old }
+{
+    for &i in places {
+        w[base::wide(i)] = 0.0;
     }
 }
 
@@ -286,8 +273,8 @@ pub fn close_row(
 {
     let above = lent::list_at(starts, runs, upper, k);
     f[k] = 0.0;
-    clear_places(f, lower);
-    clear_places(f, above);
+    clear_lower(f, lower);
+    clear_upper(f, above);
     f[n + k] = row.y;
     d[k] = row.reciprocal;
 }

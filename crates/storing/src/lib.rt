@@ -72,14 +72,14 @@ fn full_tail(
 fn first_at(s: &[Index], x: u32) -> Option<usize>
     ensures { result ≡ position (λ y. y == x) s.now }
 {
-    s.iter().position(|&y| u32::from(y) == x)
+    s.iter().position(|&y| base::number(y) == x)
 }
 
 // Do the two lists agree as far as both go?
 fn agrees(s: &[Index], t: &[u32]) -> bool
     ensures { result ≡ list_all (λ p. p.0 == p.1) (zip s.now t.now) }
 {
-    s.iter().zip(t).all(|(&x, &y)| u32::from(x) == y)
+    s.iter().zip(t).all(|(&x, &y)| base::number(x) == y)
 }
 
 // Where a list's run starts, and how many of its entries stand there already; the others are appended.
