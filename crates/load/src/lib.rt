@@ -1,7 +1,8 @@
 // The test load that every office can make: a matrix, orders and a right side from n and a 16-bit seed.
 #![tactic(auto)]
 
-ghost use Rattle.std.specs.Prelude.{◌≡◌, ℕ, ◌<◌, ◌≤◌, length};
+ghost use Rattle.std.specs.Prelude.{◌≡◌, ◌==◌, ℕ, ◌<◌, ◌≤◌, length};
+ghost use Rattle.std.specs.List.{list_any};
 ghost use Rattle.base.specs.Lists.{table};
 ghost use Rattle.load.specs.Load.{drawn, column_of, one, load_outcome};
 ghost use Rattle.matrix.specs.Lists.{matrix_lists};
@@ -28,6 +29,13 @@ fn column_of(n: u32, seed: u32) -> u32
     seed / 16 % n
 }
 
+// Tells whether a column stands in the row, which has four entries at most.
+fn stands(row: &[Index], column: Index) -> bool
+    ensures { result ≡ list_any (λ x. x == column) row.now }
+{
+    row.iter().any(|&x| x == column)
+}
+
 // The value of entry (k, k).
 const DIAGONAL: f64 = 4.0;
 
@@ -50,7 +58,7 @@ impl Drawn {
         let end = self.end;
         let seed = next(self.seed);
         let column = base::narrow(column_of(n, seed));
-        if columns[from..end].contains(&column) {
+        if stands(&columns[from..end], column) {
             return Drawn { end, seed };
         }
         columns[end] = column;
