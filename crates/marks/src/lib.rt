@@ -34,6 +34,15 @@ fn merge_list(marks: &mut [u32], n: usize, stamp: u32, list: &[Index])
     }
 }
 
+// Where the block of j ends, or `end` if that is before.
+fn block_end(j: usize, end: usize) -> usize
+    requires { (j < end) × (end ≤ max_rows) }
+    ensures { (j < result) × (result ≤ end) × (result ≤ (j / 64 + 1) * 64) }
+{
+    let stop = (j / 64 + 1) * 64;
+    end.min(stop)
+}
+
 // Where the next stamped block behind that of j begins, or `end` if that is before. The block of j is not stamped.
 fn next_block(marks: &[u32], n: usize, stamp: u32, j: usize, end: usize) -> usize
     requires room { (j < end) × (end ≤ n) × Room n marks.now }
@@ -82,7 +91,7 @@ fn gather(marks: &mut [u32], n: usize, stamp: u32, from: usize, end: usize, at: 
     let mut j = from;
     while j < end {
         if marks[scratch::BLOCKS * n + j / 64] == stamp {
-            let stop = end.min((j / 64 + 1) * 64);
+            let stop = block_end(j, end);
             count = gather_block(marks, stamp, j, stop, at, count);
             j = stop;
         } else {
