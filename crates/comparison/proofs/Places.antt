@@ -1,5 +1,5 @@
 -- One place of both sides: from what it finds to what place k + 1 finds, or that it differs.
-use Rattle.std.specs.Prelude.{Some}
+use Rattle.std.specs.Prelude.{Option, Some, None}
 use mathlib.Core.Path.{◌≡◌, refl, sym, ap, ◌∙◌}
 use mathlib.Core.Bool.{Bool, true, false, not, ◌&&◌}
 use mathlib.Core.List.{List}
@@ -18,7 +18,7 @@ use Rattle.symbolic.specs.Places.{Begun, KeepLower, SideAt}
 use Rattle.symbolic.specs.declared.SidePlace.{SidePlace}
 use Rattle.symbolic.proofs.Opening.{begun-apart}
 use Rattle.symbolic.proofs.Sharing.{upper-cuts, shared-lower}
-use Rattle.comparison.specs.Comparing.{presented_lower, presented_side, LowerEnds, SideSame, other_at, Met}
+use Rattle.comparison.specs.Comparing.{presented_lower, presented_side, LowerEnds, SideSame, other_at, Met, PlaceEnds}
 use Rattle.comparison.specs.declared.Reached.{Reached}
 
 -- one fault is enough
@@ -84,6 +84,16 @@ module _ {way : Way} (w : way ≡ OneAfterAnother) {i : Input} {lv uv k : ℕ} {
 
     pub plain-next : (e : Extent) → LowerEnds (stored i) lv k ls li (Some e) → Met way i lv uv (k + 1) ls lr li us ur ui s₁ (record { lower = e; upper = p.extent; window = 0 })
     plain-next e low = rw w (next-plain e low)
+
+-- no run starts of a lower side are read
+met-plain : {i : Input} {lv uv k : ℕ} {ls lr li us ur ui s : List ℕ} {g : Reached} → Met OneAfterAnother i lv uv k ls lr li us ur ui s g → (lr' : List ℕ) → Met OneAfterAnother i lv uv k ls lr' li us ur ui s g
+unfolding other_at
+met-plain h lr' = record { same = h.same; most = h.most; begun = h.begun; fresh = h.fresh; lower = h.lower; upper = h.upper }
+
+pub plain_back : (i : Input) (lv uv k : ℕ) (ls lr li us ur ui s : List ℕ) (o : Option Reached) → PlaceEnds OneAfterAnother i lv uv k ls ls li us ur ui s o → PlaceEnds OneAfterAnother i lv uv k ls lr li us ur ui s o
+unfolding other_at
+plain_back i lv uv k ls lr li us ur ui s None h = h
+plain_back i lv uv k ls lr li us ur ui s (Some g) h = met-plain h lr
 
 -- ---- the shared form: the lower side goes first
 

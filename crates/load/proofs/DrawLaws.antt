@@ -4,7 +4,7 @@ use mathlib.Core.Path.{◌≡◌, refl, sym, ap, ◌∙◌}
 use mathlib.Core.Bool.{Bool, true, false, ◌||◌}
 use mathlib.Core.List.{List, [], ◌∷◌, ◌++◌, append_assoc, map-append}
 use native.Mathlib.Omega.{arith}
-use lib.ListN.{length, take, drop, set, replicate, length-set, length-append, length-map}
+use lib.ListN.{length, take, drop, drop_of_length-le, set, replicate, length-set, length-append, length-map}
 use lib.Ieee.{Float}
 use lib.Seq.{set_at, take_at, drop_at}
 use lib.Dec.{eqb}
@@ -21,6 +21,10 @@ pub any-has : (row : List ℕ) (j : ℕ) → list_any (λ x. eqb x j) row ≡ ha
 unfolding has
 any-has [] j = refl
 any-has (x ∷ xs) j = ap (λ b. eqb x j || b) (any-has xs j)
+
+pub has_end : (row : List ℕ) (j p : ℕ) → length row ≤ p → has (drop p row) j ≡ false
+unfolding has
+has_end row j p h = rw (drop_of_length-le row h)
 
 -- what `fill` leaves
 pub table-same : {A : Type 0} (v : A) (n : ℕ) → replicate n v ≡ table (λ (k : ℕ). v) n

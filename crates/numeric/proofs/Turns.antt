@@ -114,6 +114,18 @@ zero_turn js w p j e h = rw (e, add-one, drop-cons js p 0)
 pub zero-end : (js : List ℕ) (w : List Float) (p : ℕ) → length js ≤ p → zeroed (drop p js) w ≡ w
 zero-end js w p h = rw (drop_of_length-le js h)
 
+-- ---- step 3
+
+module _ (js : List ℕ) (w : List Float) (p : ℕ) where
+  pub finite_on-pass : p < length js → finite (get_or w (get_or js p 0) nan) ≡ true → finite_on (drop (p + 1) js) w ≡ finite_on (drop p js) w
+  finite_on-pass h f = rw (add-one, drop-cons js p 0, f)
+
+  pub finite_on-fail : p < length js → finite (get_or w (get_or js p 0) nan) ≡ false → finite_on (drop p js) w ≡ false
+  finite_on-fail h f = rw (drop-cons js p 0, f)
+
+  pub finite_on-end : length js ≤ p → finite_on (drop p js) w ≡ true
+  finite_on-end h = rw (drop_of_length-le js h)
+
 -- the loop over a row's columns before turn p; the cursors of the columns that are left are as they were
 pub record Keeping (starts : List ℕ) (w : List Float) (lower cursors₀ : List ℕ) (l₀ : List Float) (cursors : List ℕ) (l : List Float) (p : ℕ) : Type 0 where
   pub upto : p ≤ length lower

@@ -54,6 +54,15 @@ width_in-suc : (f x : ℕ) → width_in (suc f) x ≡ cond (ltb x 10) 1 (suc (wi
 unfolding width_in
 width_in-suc f x = refl
 
+pub more_left : (rest f : ℕ) → 10 ≤ rest → rest < 10 ^ f → (g : ℕ) × (f ≡ suc g) × (0 < g) × (rest / 10 < 10 ^ g)
+more_left rest zero h l = absurd (omega arith)
+more_left rest (suc zero) h l = absurd (omega arith)
+more_left rest (suc (suc g)) h l = (suc g, refl, omega arith, omega (arith, rw (pow-succ' 10 (suc g)) at l))
+
+pub one_left : (rest f : ℕ) → rest < 10 → 0 < f → width_in f rest ≡ 1
+one_left rest zero h l = absurd (omega arith)
+one_left rest (suc f) h l = rw (width_in-suc f rest, lt-ltb rest 10 h)
+
 -- a number from 10^k on, below ten times that, has k + 1 digits; 0 counts as 1
 pub width-between : (f k x : ℕ) → k < f → 10 ^ k ≤ max x 1 → x < 10 * 10 ^ k → width_in f x ≡ k + 1
 width-between zero k x l g h = absurd (omega arith)

@@ -8,8 +8,8 @@ use Prim.Native.Nat.{ℕ, zero, suc, ◌+◌, ◌*◌, ◌≤◌, ◌<◌}
 use native.Mathlib.Numerals.{add-one}
 use native.Mathlib.Omega.{arith}
 use native.Mathlib.Nat.{not-suc-le-zero}
-use lib.ListN.{length, get_or, take, drop, replicate}
-use lib.Seq.{take-suc, length-take-le}
+use lib.ListN.{length, get_or, take, drop, drop_of_length-le, replicate}
+use lib.Seq.{take-suc, drop-cons, length-take-le}
 use Rattle.std.proofs.Common.{add-zero, zero-add, take_all, append-nil, append_assoc}
 use lib.Dec.{leb, eqb}
 use borrow.Author.Tests.{le-leb, lt-leb, leb-true, eq-eqb}
@@ -29,6 +29,14 @@ use Rattle.matrix_file.specs.MatrixFile.{n_of, e_of, shape_in, matrix_at, ask_fi
 use Rattle.outcome.specs.Buffers.{Buffers, Outcome, ended, plain_buffers}
 use Rattle.outcome.specs.Solve.{solve}
 use Rattle.program.specs.Program.{value_lines, answer_lines, outcome_lines, zeros, noughts, lent, solved_lines, Fitting, printed}
+
+pub lines_next : (x : List Float) (j : ℕ) → j < length x → value_lines j (drop j x) ≡ value_line j (to_bits binary64 (get_or x j nan)) ++ value_lines (j + 1) (drop (j + 1) x)
+unfolding value_lines
+lines_next x j l = rw (add-one j, drop-cons x j nan l)
+
+pub none_left : (x : List Float) (j : ℕ) → length x ≤ j → value_lines j (drop j x) ≡ []
+unfolding value_lines
+none_left x j l = rw (drop_of_length-le x l)
 
 -- the lines of the first j values
 pub record First (x : List Float) (j : ℕ) (p q : Printer) : Type 0 where

@@ -40,6 +40,9 @@ slots-turn out values i h = rw (add-one (i + 1), drop-cons values i 0 h, add-one
 pub slots-end : (out : List ℕ) (values : List ℕ) (i : ℕ) → length values ≤ i → out ≡ sets out (i + 1) (drop i values)
 slots-end out values i h = rw (drop_of_length-le values h)
 
+pub slots_end : (out : List ℕ) (values : List ℕ) (i : ℕ) → length values ≤ i → out ≡ sets out i (drop i values)
+slots_end out values i h = rw (drop_of_length-le values h)
+
 pub reported : {R A : Type 0} {number_in : R → ℕ} {slots_in : R → List ℕ} (o : Left R A) (a : R) (h : A) (report₀ report : List ℕ) (number : ℕ) → left a h ≡ o
     → number ≡ number_in a → report ≡ sets report₀ 0 (slots_in a) → Reported number_in slots_in o report₀ report h number
 reported o a h report₀ report number e n r = rw (← e) (record { number_is = n; held-is = refl; report-is = r })
@@ -62,6 +65,11 @@ pub kept-put : (a : Kept) (sizes : FactorSizes) (report₀ report : List ℕ) �
     → report ≡ sets report₀ 0 (place_of_answer a ∷ sizes.n ∷ sizes.lower ∷ sizes.upper ∷ []) → report ≡ sets report₀ 0 (kept_slots a)
 unfolding kept_slots
 kept-put a sizes report₀ report e h = h ∙ rw e
+
+pub kept_put : (a : Kept) (place : ℕ) (sizes : FactorSizes) (report₀ report : List ℕ) → place ≡ place_of_answer a → sizes ≡ sizes_of_kept a
+    → report ≡ sets report₀ 0 (place ∷ sizes.n ∷ sizes.lower ∷ sizes.upper ∷ []) → report ≡ sets report₀ 0 (kept_slots a)
+unfolding kept_slots
+kept_put a place sizes report₀ report e f h = h ∙ rw (e, f)
 
 -- ---- a row that was checked
 

@@ -95,6 +95,9 @@ module _ (n : ℕ) (line : ℕ → List ℕ) where
   pub lines_more : (first j : ℕ) {o p q : Printer} → LinesWritten n line first j o p → LineWritten (line_or n line (first + j)) p q → LinesWritten n line first (j + 1) o q
   lines_more first j L W = record { prints = rw (joined-more (λ i. line_or n line (first + i)) j) (then-prints L.prints W.prints); next = omega (arith, L.next, W.next) }
 
+  pub lines_end : (first j : ℕ) {o p : Printer} → 49 ≤ j → j ≤ 49 → LinesWritten n line first j o p → LinesWritten n line first 49 o p
+  lines_end first j l h L = let e : j ≡ 49 = omega arith in rw e at L
+
   pub page-whole : (k : ℕ) {o p q : Printer} → LineWritten (head_line k) o p → LinesWritten n line (49 * k) 49 p q → PageWritten n line k o q
   unfolding page
   page-whole k H L = record { prints = then-prints H.prints L.prints; next = omega (arith, H.next, L.next) }
