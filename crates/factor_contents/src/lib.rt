@@ -273,8 +273,8 @@ fn ask_copies(
     requires { (n ≤ max_rows) × (r + 2 * n ≤ room file.now) × (c + 2 * n ≤ room file.now) × (length rows.old ≡ n) × (length columns.old ≡ n) × (n ≤ length marks.old) }
     ensures { result ≡ ask5 n (fields_at 2 file.now r n) (fields_at 2 file.now c n) }
 {
-    fields::read::<2, _>(file, r, rows);
-    fields::read::<2, _>(file, c, columns);
+    fields::read_as::<2, _>(file, r, rows);
+    fields::read_as::<2, _>(file, c, columns);
     questions::ask_orders(n, rows, columns, marks)
 }
 

@@ -11,7 +11,7 @@ ghost use Rattle.factor_contents.specs.FactorFile.{size_of, factor_lists, held, 
 ghost use Rattle.factor_contents.specs.Judging.{Stands, Enough, Lent};
 
 use base::{Counts, FactorSizes, Index, Refusal, Zero};
-use fields::Field;
+use fields::FieldAs;
 use matrix::Matrix;
 
 // ---- the shape
@@ -122,7 +122,7 @@ fn judge(
 }
 
 // Fills the first `count` slots with the values from `at` on, and the others with zero.
-fn fill<const WIDTH: usize, T: Field<WIDTH> + Zero>(
+fn fill<const WIDTH: usize, T: FieldAs<WIDTH> + Zero>(
     file: &[u8],
     at: usize,
     count: usize,
@@ -132,7 +132,7 @@ fn fill<const WIDTH: usize, T: Field<WIDTH> + Zero>(
     ensures { store.new ≡ padded T.nil (length store.old) (T.values_at file.now at count) }
 {
     base::clear(store);
-    fields::read::<WIDTH, _>(file, at, &mut store[..count]);
+    fields::read_as::<WIDTH, _>(file, at, &mut store[..count]);
 }
 
 // Fills the starts, the index store and the value store of a side of `entries` entries from where they stand.
@@ -151,7 +151,7 @@ fn load_side(
         × (index.new ≡ padded 0 (length index.old) (fields_at 2 file.now index_at entries))
         × (values.new ≡ padded nought (length values.old) (floats_at file.now values_at entries)) }
 {
-    fields::read::<4, _>(file, starts_at, starts);
+    fields::read_as::<4, _>(file, starts_at, starts);
     fill::<2, _>(file, index_at, entries, index);
     fill::<8, _>(file, values_at, entries, values);
 }
@@ -171,9 +171,9 @@ fn load_rest(
         × (c.new ≡ fields_at 2 file.now c_at (length c.old))
         × (d.new ≡ floats_at file.now d_at (length d.old)) }
 {
-    fields::read::<2, _>(file, r_at, r);
-    fields::read::<2, _>(file, c_at, c);
-    fields::read::<8, _>(file, d_at, d);
+    fields::read_as::<2, _>(file, r_at, r);
+    fields::read_as::<2, _>(file, c_at, c);
+    fields::read_as::<8, _>(file, d_at, d);
 }
 
 // Fills all buffers with what the file holds, and unused slots with zeros.

@@ -39,10 +39,10 @@ fn lay_lists(
     ensures { (result ≡ at + 4 * length lower_starts.now + 4 * length upper_starts.now + 2 * length lower_index.now + 2 * length upper_index.now)
         × (payloads file.new result ≡ payloads file.old at ++ stream (list_parts lower_starts.now upper_starts.now lower_index.now upper_index.now)) }
 {
-    let at = fields::write::<4, _>(file, at, lower_starts);
-    let at = fields::write::<4, _>(file, at, upper_starts);
-    let at = fields::write::<2, _>(file, at, lower_index);
-    fields::write::<2, _>(file, at, upper_index)
+    let at = fields::write_as::<4, _>(file, at, lower_starts);
+    let at = fields::write_as::<4, _>(file, at, upper_starts);
+    let at = fields::write_as::<2, _>(file, at, lower_index);
+    fields::write_as::<2, _>(file, at, upper_index)
 }
 
 // Lays L, d, u and the orders down from payload byte `at` on, and answers where they end.
@@ -59,11 +59,11 @@ fn lay_values(
     ensures { (result ≡ at + 8 * length lower_values.now + 8 * length d.now + 8 * length upper_values.now + 2 * length r.now + 2 * length c.now)
         × (payloads file.new result ≡ payloads file.old at ++ stream (value_parts lower_values.now d.now upper_values.now r.now c.now)) }
 {
-    let at = fields::write::<8, _>(file, at, lower_values);
-    let at = fields::write::<8, _>(file, at, d);
-    let at = fields::write::<8, _>(file, at, upper_values);
-    let at = fields::write::<2, _>(file, at, r);
-    fields::write::<2, _>(file, at, c)
+    let at = fields::write_as::<8, _>(file, at, lower_values);
+    let at = fields::write_as::<8, _>(file, at, d);
+    let at = fields::write_as::<8, _>(file, at, upper_values);
+    let at = fields::write_as::<2, _>(file, at, r);
+    fields::write_as::<2, _>(file, at, c)
 }
 
 // Writes the file of lists without unused slots over a buffer of its length.

@@ -89,8 +89,12 @@ pub fn bits_of(x: f64) -> u64
     }
 }
 
-// A value that a file holds as a number of so many bytes. The width is the file's: an index of 32 bits would still have 2 bytes in it.
-pub trait Field<const WIDTH: usize>: Copy {
+// A value that a file holds as a number of so many bytes, a width that its type has.
+pub trait Field: Copy {
+    const WIDTH: usize;
+
+    ghost WIDTH: { ℕ };
+
     // The value of a number, and the number that a value is written as.
     ghost value_of: { ℕ → Self };
 
@@ -117,7 +121,11 @@ pub trait Field<const WIDTH: usize>: Copy {
     ghost writes_each: { (xs : List Self) → numbers_of xs ≡ map number_of xs };
 }
 
-impl Field<2> for Index {
+impl Field for u16 {
+    const WIDTH: usize = 2;
+
+    ghost WIDTH = { 2 };
+
     ghost value_of = { λ n. n };
 
     ghost number_of = { λ x. x };
@@ -132,8 +140,8 @@ impl Field<2> for Index {
 
     ghost writes_each = { numbers-each };
 
-    fn from_number(n: u64) -> Index {
-        n as Index
+    fn from_number(n: u64) -> u16 {
+        n as u16
     }
 
     fn to_number(self) -> u64 {
@@ -141,7 +149,11 @@ impl Field<2> for Index {
     }
 }
 
-impl Field<4> for u32 {
+impl Field for u32 {
+    const WIDTH: usize = 4;
+
+    ghost WIDTH = { 4 };
+
     ghost value_of = { λ n. n };
 
     ghost number_of = { λ x. x };
@@ -165,7 +177,111 @@ impl Field<4> for u32 {
     }
 }
 
-impl Field<8> for f64 {
+impl Field for f64 {
+    const WIDTH: usize = 8;
+
+    ghost WIDTH = { 8 };
+
+    ghost value_of = { of_bits binary64 };
+
+    ghost number_of = { to_bits binary64 };
+
+    ghost values_at = { floats_at };
+
+    ghost numbers_of = { bits_of };
+
+    ghost narrow = { lit≤ tt };
+
+    ghost reads_each = { floats-each };
+
+    ghost writes_each = { λ _. refl };
+
+    fn from_number(n: u64) -> f64 {
+        float_of(n)
+    }
+
+    fn to_number(self) -> u64 {
+        bits_of(self)
+    }
+}
+
+// A value that a file holds as a number of WIDTH bytes. The width is the file's: an index of 32 bits would still have 2 bytes in it.
+pub trait FieldAs<const WIDTH: usize>: Copy {
+    // The value of a number, and the number that a value is written as.
+    ghost value_of: { ℕ → Self };
+
+    ghost number_of: { Self → ℕ };
+
+    // The values that stand in a file from a place on, and the numbers that a list is written as.
+    ghost values_at: { List ℕ → ℕ → ℕ → List Self };
+
+    ghost numbers_of: { List Self → List ℕ };
+
+    // Gives the value of a number.
+    fn from_number(n: u64) -> Self
+        requires { n < 256 ^ WIDTH }
+        ensures { result ≡ value_of n };
+
+    // Gives the number that the value is written as.
+    fn to_number(self) -> u64
+        ensures { result ≡ number_of self };
+
+    ghost narrow: { WIDTH ≤ 8 };
+
+    ghost reads_each: { (file : List ℕ) (at n : ℕ) → values_at file at n ≡ table (λ k. value_of (field_at WIDTH file at k)) n };
+
+    ghost writes_each: { (xs : List Self) → numbers_of xs ≡ map number_of xs };
+}
+
+impl FieldAs<2> for Index {
+    ghost value_of = { λ n. n };
+
+    ghost number_of = { λ x. x };
+
+    ghost values_at = { fields_at 2 };
+
+    ghost numbers_of = { λ xs. xs };
+
+    ghost narrow = { lit≤ tt };
+
+    ghost reads_each = { fields-each 2 };
+
+    ghost writes_each = { numbers-each };
+
+    fn from_number(n: u64) -> Index {
+        n as Index
+    }
+
+    fn to_number(self) -> u64 {
+        self as u64
+    }
+}
+
+impl FieldAs<4> for u32 {
+    ghost value_of = { λ n. n };
+
+    ghost number_of = { λ x. x };
+
+    ghost values_at = { fields_at 4 };
+
+    ghost numbers_of = { λ xs. xs };
+
+    ghost narrow = { lit≤ tt };
+
+    ghost reads_each = { fields-each 4 };
+
+    ghost writes_each = { numbers-each };
+
+    fn from_number(n: u64) -> u32 {
+        n as u32
+    }
+
+    fn to_number(self) -> u64 {
+        self as u64
+    }
+}
+
+impl FieldAs<8> for f64 {
     ghost value_of = { of_bits binary64 };
 
     ghost number_of = { to_bits binary64 };
@@ -190,7 +306,24 @@ impl Field<8> for f64 {
 }
 
 // Fills `out` with the values from payload byte `at` on, and answers where they end.
-pub fn read<const WIDTH: usize, T: Field<WIDTH>>(file: &[u8], at: usize, out: &mut [T]) -> usize
+pub fn read<T: Field>(file: &[u8], at: usize, out: &mut [T]) -> usize
+    requires { at + T.WIDTH * length out.old ≤ room file.now }
+    ensures { (result ≡ at + T.WIDTH * length out.old) × (out.new ≡ T.values_at file.now at (length out.old)) }
+{
+    let mut p = at;
+    for x in out.iter_mut() {
+        *x = T::from_number(number_at(file, p, T::WIDTH));
+        p += T::WIDTH;
+    }
+    p
+}
+
+// The same, each value in WIDTH bytes.
+pub fn read_as<const WIDTH: usize, T: FieldAs<WIDTH>>(
+    file: &[u8],
+    at: usize,
+    out: &mut [T],
+) -> usize
     requires { at + WIDTH * length out.old ≤ room file.now }
     ensures { (result ≡ at + WIDTH * length out.old) × (out.new ≡ T.values_at file.now at (length out.old)) }
 {
@@ -225,7 +358,23 @@ pub fn put_number(file: &mut [u8], at: usize, width: usize, v: u64) -> usize
 }
 
 // Lays the values of a list down from payload byte `at` on, and answers where they end.
-pub fn write<const WIDTH: usize, T: Field<WIDTH>>(file: &mut [u8], at: usize, src: &[T]) -> usize
+pub fn write<T: Field>(file: &mut [u8], at: usize, src: &[T]) -> usize
+    requires { at + T.WIDTH * length src.now ≤ room file.old }
+    ensures { (result ≡ at + T.WIDTH * length src.now) × (payloads file.new result ≡ payloads file.old at ++ fields T.WIDTH (T.numbers_of src.now)) }
+{
+    let mut p = at;
+    for x in src {
+        p = put_number(file, p, T::WIDTH, x.to_number());
+    }
+    p
+}
+
+// The same, each value in WIDTH bytes.
+pub fn write_as<const WIDTH: usize, T: FieldAs<WIDTH>>(
+    file: &mut [u8],
+    at: usize,
+    src: &[T],
+) -> usize
     requires { at + WIDTH * length src.now ≤ room file.old }
     ensures { (result ≡ at + WIDTH * length src.now) × (payloads file.new result ≡ payloads file.old at ++ fields WIDTH (T.numbers_of src.now)) }
 {
@@ -246,3 +395,6 @@ pub fn put_zeros(file: &mut [u8], from: usize)
         put_number(file, p, 1, 0);
     }
 }
+
+#[cfg(test)]
+mod tests;

@@ -93,12 +93,12 @@ fn load(
     requires { 8 + 4 * length starts.old + 2 * length columns.old + 8 * length values.old + 2 * length r.old + 2 * length c.old + 8 * length b.old ≤ room file.now }
     ensures { matrix_lists starts.new columns.new values.new r.new c.new b.new ≡ lists_at file.now (length starts.old) (length columns.old) (length values.old) (length r.old) (length c.old) (length b.old) }
 {
-    let at = fields::read::<4, _>(file, 8, starts);
-    let at = fields::read::<2, _>(file, at, columns);
-    let at = fields::read::<8, _>(file, at, values);
-    let at = fields::read::<2, _>(file, at, r);
-    let at = fields::read::<2, _>(file, at, c);
-    fields::read::<8, _>(file, at, b);
+    let at = fields::read_as::<4, _>(file, 8, starts);
+    let at = fields::read_as::<2, _>(file, at, columns);
+    let at = fields::read_as::<8, _>(file, at, values);
+    let at = fields::read_as::<2, _>(file, at, r);
+    let at = fields::read_as::<2, _>(file, at, c);
+    fields::read_as::<8, _>(file, at, b);
 }
 
 // Reads the matrix of a file into the lent buffers: questions 16, 17, 1, 18 and 2. A refusal leaves them as they were.
@@ -137,9 +137,9 @@ fn lay_matrix(n: usize, starts: &[u32], columns: &[Index], values: &[f64], file:
 {
     let at = fields::put_number(file, 0, 4, n as u64);
     let at = fields::put_number(file, at, 4, columns.len() as u64);
-    let at = fields::write::<4, _>(file, at, starts);
-    let at = fields::write::<2, _>(file, at, columns);
-    fields::write::<8, _>(file, at, values)
+    let at = fields::write_as::<4, _>(file, at, starts);
+    let at = fields::write_as::<2, _>(file, at, columns);
+    fields::write_as::<8, _>(file, at, values)
 }
 
 // Lays r, c and b down from payload byte `at` on, and answers where they end.
@@ -147,9 +147,9 @@ fn lay_orders(at: usize, r: &[Index], c: &[Index], b: &[f64], file: &mut [u8]) -
     requires { at + 2 * length r.now + 2 * length c.now + 8 * length b.now ≤ room file.old }
     ensures { (result ≡ at + 2 * length r.now + 2 * length c.now + 8 * length b.now) × (payloads file.new result ≡ payloads file.old at ++ stream (order_parts r.now c.now b.now)) }
 {
-    let at = fields::write::<2, _>(file, at, r);
-    let at = fields::write::<2, _>(file, at, c);
-    fields::write::<8, _>(file, at, b)
+    let at = fields::write_as::<2, _>(file, at, r);
+    let at = fields::write_as::<2, _>(file, at, c);
+    fields::write_as::<8, _>(file, at, b)
 }
 
 // Writes the file of a matrix over a buffer of its length.

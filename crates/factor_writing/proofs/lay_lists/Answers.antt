@@ -6,4 +6,4 @@ use Rattle.factor_writing.proofs.lay_lists.Goals as goal
 pub returns : goal.returns
 returns c =
     let a = c.args in
-    (omega arith, laid-lists a.lower_starts.now _ _ _ (payloads a.file.now a.at) _ _ _ _ c.write-at.ensures.1 c.write-at-2.ensures.1 c.write-at-3.ensures.1 c.write.ensures.1)
+    (omega arith, laid-lists a.lower_starts.now _ _ _ (payloads a.file.now a.at) _ _ _ _ c.write_as-at.ensures.1 c.write_as-at-2.ensures.1 c.write_as-at-3.ensures.1 c.write_as.ensures.1)

@@ -1,0 +1,6 @@
+use Rattle.std.proofs.Common.{map}
+use Rattle.fields.proofs.PutLaws.{Writing}
+use Rattle.fields.proofs.write_as.Given as goal
+
+abbrev pub invariant-loop-x : goal.invariant-loop-x
+invariant-loop-x g l = Writing g.row.WIDTH l.initial.file l.at (map g.T.FieldAs.number_of l.src) l.file l.p l.x-index
