@@ -47,6 +47,7 @@ impl<T: Field> Field for Half<T> {
     }
 }
 
+// Makes a half of any type.
 fn half_of<T>(number: u64) -> Half<T>
     ensures { result.number ≡ number }
 {
@@ -68,6 +69,7 @@ fn read_halves<T: Field>(file: &[u8], at: usize, out: &mut [Half<T>]) -> usize
 #[derive(Debug, Drop)]
 struct Wrong(&'static str);
 
+// Passes what is right, and names what is not.
 fn ask(right: bool, what: &'static str) -> Result<(), Wrong> {
     if right { Ok(()) } else { Err(Wrong(what)) }
 }
